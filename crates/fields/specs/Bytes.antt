@@ -1,0 +1,41 @@
+-- Bytes in a list: little-endian numbers of any width, and a run of elements stored at a place. Definitions only.
+use Prim.Native.Nat.{ℕ, zero, suc, _+_, _*_, _/_, _%_}
+use mathlib.Core.List.{List, [], _∷_, _++_}
+use lib.ListN.{getD, replicate}
+
+-- the little-endian value of the n bytes of s from off on; a byte past the end counts as 0
+unfoldable pub le : ℕ → List ℕ → ℕ → ℕ
+le zero s off = 0
+le (suc n) s off = getD s off 0 + 256 * le n s (off + 1)
+
+-- the n low bytes of v, the lowest first
+unfoldable pub leBytes : ℕ → ℕ → List ℕ
+leBytes zero v = []
+leBytes (suc n) v = v % 256 ∷ leBytes n (v / 256)
+
+-- the n low bytes of each of ws, in order
+unfoldable pub les : ℕ → List ℕ → List ℕ
+les n [] = []
+les n (w ∷ ws) = leBytes n w ++ les n ws
+
+-- n zero bytes
+abbrev pub zeros : ℕ → List ℕ
+zeros n = replicate n 0
+
+-- the lists one after the other
+unfoldable pub cat {ℓ} : {A : Type ℓ} → List (List A) → List A
+cat [] = []
+cat (xs ∷ xss) = xs ++ cat xss
+
+-- xs with its first elements replaced by bs, and as long as it was
+unfoldable pub over : List ℕ → List ℕ → List ℕ
+over [] xs = xs
+over (b ∷ bs) [] = []
+over (b ∷ bs) (x ∷ xs) = b ∷ over bs xs
+
+-- xs with the elements bs stored from index at on, and as long as it was: one that would lie past the end is left out
+unfoldable pub put : ℕ → List ℕ → List ℕ → List ℕ
+unfolding over
+put zero bs xs = over bs xs
+put (suc at) bs [] = []
+put (suc at) bs (x ∷ xs) = x ∷ put at bs xs

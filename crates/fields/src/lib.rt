@@ -1,0 +1,2 @@
+// Little-endian fields.
+pub fn nothing() -> u8 { 0 }
