@@ -1,0 +1,69 @@
+-- That a list stands in another at a place: of a block in the pages, a record in a block, a field in a record.
+use mathlib.Core.Path.{_≡_, refl, sym, ap, _∙_}
+use mathlib.Core.List.{List, [], _∷_, _++_, append-assoc, append-nil}
+use Prim.Native.Nat.{ℕ, _+_, _%_, _^_, _≤_, _<_}
+use native.Mathlib.Nat.{zero-add}
+use native.Mathlib.Omega.{arith}
+use lib.ListN.{length, take, drop, getD, length-append, List·getD-append}
+use lib.Seq.{take-at, drop-at, getD-append-add}
+use Rattle.fields.specs.Bytes.{le, leBytes}
+use Rattle.fields.proofs.Bytes.{same, le-bytes, length-bytes}
+
+-- s has b at `at`
+pub record Holds {A : Type 0} (s : List A) (at : ℕ) (b : List A) : Type 0 where
+  pub before : List A
+  pub behind : List A
+  pub whole : s ≡ before ++ (b ++ behind)
+  pub place : length before ≡ at
+
+pub all-held : {A : Type 0} (b : List A) → Holds b 0 b
+all-held b = record { before = []; behind = []; whole = sym (append-nil b); place = refl }
+
+pub held-end : {A : Type 0} {s : List A} {at : ℕ} {b : List A} → Holds s at b → at + length b ≤ length s
+held-end {A} {s} {at} {b} h =
+    let e = ap length (h .whole) ∙ length-append (h .before) (b ++ h .behind) in
+    omega (arith, e, length-append b (h .behind), h .place)
+
+-- what follows a list doesn't matter
+pub held-more : {A : Type 0} {s : List A} {at : ℕ} {b : List A} (t : List A) → Holds s at b → Holds (s ++ t) at b
+held-more {A} {s} {at} {b} t h = record {
+  before = h .before;
+  behind = h .behind ++ t;
+  whole = rw (h .whole) (simp append-assoc);
+  place = h .place;
+}
+
+-- what stands in b stands in s
+pub held-in : {A : Type 0} {s : List A} {at : ℕ} {b : List A} {off : ℕ} {c : List A} → Holds s at b → Holds b off c → Holds s (at + off) c
+held-in {A} {s} {at} {b} {off} {c} h k = record {
+  before = h .before ++ k .before;
+  behind = k .behind ++ h .behind;
+  whole = h .whole ∙ ap (λ (l : List A). h .before ++ (l ++ h .behind)) (k .whole) ∙ simp append-assoc;
+  place = rw (length-append, h .place, k .place);
+}
+
+-- the first, and the second of two
+pub held-first : {A : Type 0} {s : List A} {at : ℕ} (b c : List A) → Holds s at (b ++ c) → Holds s at b
+held-first {A} {s} {at} b c h = record { before = h .before; behind = c ++ h .behind; whole = h .whole ∙ simp append-assoc; place = h .place }
+
+pub held-second : {A : Type 0} {s : List A} {at : ℕ} (b c : List A) → Holds s at (b ++ c) → Holds s (at + length b) c
+held-second {A} {s} {at} b c h = record {
+  before = h .before ++ b;
+  behind = h .behind;
+  whole = h .whole ∙ simp append-assoc;
+  place = rw (length-append, h .place);
+}
+
+-- it is what is taken there
+pub held-taken : {A : Type 0} {s : List A} {at : ℕ} {b : List A} → Holds s at b → take (length b) (drop at s) ≡ b
+held-taken {A} {s} {at} {b} h = rw (h .whole, drop-at (h .before) (b ++ h .behind) at (h .place), take-at b (h .behind) (length b) refl)
+
+-- a number of as many bytes reads as in b
+pub held-field : {s : List ℕ} {at : ℕ} {b : List ℕ} (n : ℕ) → Holds s at b → length b ≡ n → le n s at ≡ le n b 0
+held-field {s} {at} {b} n h e = same n s at b 0 (λ k l. byte k (omega arith))
+  where
+    byte : (k : ℕ) → k < length b → getD s (at + k) 0 ≡ getD b (0 + k) 0
+    byte k l = rw (h .whole, ← (h .place), getD-append-add (h .before) (b ++ h .behind) k 0, zero-add k) (List·getD-append b (h .behind) 0 k l)
+
+pub held-value : {s : List ℕ} {at : ℕ} (n v : ℕ) → Holds s at (leBytes n v) → le n s at ≡ v % 256 ^ n
+held-value n v h = held-field n h (length-bytes n v) ∙ le-bytes n v

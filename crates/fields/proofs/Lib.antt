@@ -1,0 +1,5 @@
+pub mod Bytes
+pub mod Puts
+pub mod Holds
+pub mod Rows
+pub mod Examples

@@ -1,0 +1,17 @@
+-- `fields::pair` meets its contract, by the law of two shorts in a word.
+use borrow.Author.Needs.{needs}
+use Rattle.fields.proofs.Bytes.{le-pair}
+use Rattle.fields.proofs.pair.Statement.{statement}
+use Rattle.fields.proofs.pair.Tie as tie
+
+mul-result : tie.Need-mul-result
+mul-result c = search needs
+
+add-result : tie.Need-add-result
+add-result c = search needs
+
+returns : tie.Need-returns
+returns c = le-pair (c .args .lo) (c .args .hi) (search needs)
+
+pub pair-spec : {M : Type 1} → statement M
+pair-spec = tie.close (tie.spec mul-result add-result returns)

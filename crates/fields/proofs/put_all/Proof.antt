@@ -1,0 +1,101 @@
+-- `fields::put_all` meets its contract. The loop's invariant: storing what is left of the numbers from here on gives what is promised.
+-- The measure is how many numbers are left.
+use mathlib.Core.Path.{_≡_, refl, sym, ap, _∙_}
+use mathlib.Core.List.{[]}
+use Prim.Native.Nat.{_+_, _≤_, _<_, _-_}
+use native.Mathlib.Omega.{arith}
+use borrow.Author.Needs.{needs}
+use denote.Ref.{now}
+use lib.ListN.{length, drop, drop-of-length-le}
+use Rattle.fields.specs.Bytes.{les, put}
+use Rattle.fields.proofs.Puts.{past-end, put-les, put-les-last, put-nil}
+use Rattle.fields.proofs.put_all.Statement.{statement}
+use Rattle.fields.proofs.put_all.Tie as tie
+
+abbrev Inv-loop : tie.InvT-loop
+Inv-loop b₀ off n ws at₀ i₀ b at i = (at < length b) × (i ≤ length ws) × (length b ≡ length b₀) × (put at (les n (drop i ws)) b ≡ put off (les n ws) b₀)
+
+abbrev μ-loop : tie.MeasureT-loop
+μ-loop b₀ off n ws at₀ i₀ b at i = length ws - i
+
+returns : tie.Need-returns Inv-loop μ-loop
+returns c = sym (past-end _ _ _ (c .if1 .taken))
+
+loop-holds : tie.Need-loop-holds Inv-loop μ-loop
+loop-holds c = (omega arith, omega arith, refl, refl)
+
+mul-put-le : tie.Need-mul-put-le Inv-loop μ-loop
+mul-put-le c = omega arith
+
+shared-slice-read-put-le : tie.Need-shared-slice-read-put-le Inv-loop μ-loop
+shared-slice-read-put-le c = omega arith
+
+cast-put-le : tie.Need-cast-put-le Inv-loop μ-loop
+cast-put-le c = omega (arith, c .shared-slice-known2 .given (c .before .before .before .loop .i))
+
+put-le-requires : tie.Need-put-le-requires Inv-loop μ-loop
+put-le-requires c κs = search needs
+
+sub-if2 : tie.Need-sub-if2 Inv-loop μ-loop
+sub-if2 c = omega arith
+
+same-length : tie.Need-same-length Inv-loop μ-loop
+same-length c = omega arith
+
+returns-2 : tie.Need-returns-2 Inv-loop μ-loop
+returns-2 c =
+    let l = c .before .before .before .before .before .before .before .loop in
+    let a = c .before .before .before .before .before .before .before .before .before .before .before .args in
+    c .before .before .before .put-le .ensures ∙ put-les-last (a .n) (l .at) (now (a .ws)) (l .i) (l .b) (omega arith) (omega arith) ∙ l .inv .3
+
+add-at : tie.Need-add-at Inv-loop μ-loop
+add-at c = omega arith
+
+add-i : tie.Need-add-i Inv-loop μ-loop
+add-i c = omega arith
+
+loop-less : tie.Need-loop-less Inv-loop μ-loop
+loop-less c = omega arith
+
+loop-again : tie.Need-loop-again Inv-loop μ-loop
+loop-again c =
+    let l = c .before .before .before .before .before .before .before .loop in
+    let a = c .before .before .before .before .before .before .before .before .before .before .before .args in
+    let rest = les (a .n) (drop (l .i + 1) (now (a .ws))) in (
+      omega arith,
+      omega arith,
+      omega arith,
+      ap (put (l .at + a .n) rest) (c .before .before .before .put-le .ensures) ∙ put-les (a .n) (l .at) (now (a .ws)) (l .i) (l .b) (omega arith) ∙ l .inv .3,
+    )
+
+same-length-2 : tie.Need-same-length-2 Inv-loop μ-loop
+same-length-2 c = omega arith
+
+returns-3 : tie.Need-returns-3 Inv-loop μ-loop
+unfolding les
+returns-3 c =
+    let l = c .before .loop in
+    let e : drop (l .i) (now (c .before .before .before .before .before .args .ws)) ≡ [] = drop-of-length-le (now (c .before .before .before .before .before .args .ws)) (c .loop-test .left) in
+    rw (e, les, put-nil) at (l .inv .3)
+
+pub put-all-spec : {M : Type 1} → statement M
+put-all-spec =
+    tie.close
+    (tie.spec
+    Inv-loop
+    μ-loop
+    returns
+    loop-holds
+    mul-put-le
+    shared-slice-read-put-le
+    cast-put-le
+    put-le-requires
+    sub-if2
+    same-length
+    returns-2
+    add-at
+    add-i
+    loop-less
+    loop-again
+    same-length-2
+    returns-3)

@@ -1,0 +1,43 @@
+-- `fields::put_u32` meets its contract: two fields of 2 bytes side by side, by the law over the width.
+use mathlib.Core.Path.{sym}
+use Rattle.fields.proofs.Puts.{past-end, put-join}
+use borrow.Author.Needs.{needs}
+use Rattle.fields.proofs.put_u32.Statement.{statement}
+use Rattle.fields.proofs.put_u32.Tie as tie
+
+returns : tie.Need-returns
+returns c = sym (past-end _ _ _ (c .if1 .taken))
+
+cast-put-u16 : tie.Need-cast-put-u16
+cast-put-u16 c = search needs
+
+put-u16-requires : tie.Need-put-u16-requires
+put-u16-requires c κs = search needs
+
+add-put-u16 : tie.Need-add-put-u16
+add-put-u16 c = search needs
+
+cast-put-u16-2 : tie.Need-cast-put-u16-2
+cast-put-u16-2 c = search needs
+
+put-u16-requires-2 : tie.Need-put-u16-requires-2
+put-u16-requires-2 c κs = search needs
+
+same-length : tie.Need-same-length
+same-length c = search needs
+
+returns-2 : tie.Need-returns-2
+returns-2 c = rw (← put-join 2) cc
+
+pub put-u32-spec : {M : Type 1} → statement M
+put-u32-spec =
+    tie.close
+    (tie.spec
+    returns
+    cast-put-u16
+    put-u16-requires
+    add-put-u16
+    cast-put-u16-2
+    put-u16-requires-2
+    same-length
+    returns-2)

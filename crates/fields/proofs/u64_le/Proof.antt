@@ -1,0 +1,48 @@
+-- `fields::u64_le` meets its contract: two fields of 4 bytes side by side, by the law over the width.
+use mathlib.Core.Path.{sym}
+use native.Mathlib.Omega.{arith}
+use Rattle.fields.proofs.Bytes.{join, past}
+use borrow.Author.Needs.{needs}
+use Rattle.fields.proofs.u64_le.Statement.{statement}
+use Rattle.fields.proofs.u64_le.Tie as tie
+
+returns : tie.Need-returns
+returns c = sym (past 8 _ _ (c .if1 .taken))
+
+u32-le-requires : tie.Need-u32-le-requires
+u32-le-requires c κs = search needs
+
+cast-result : tie.Need-cast-result
+cast-result c = search needs
+
+add-u32-le : tie.Need-add-u32-le
+add-u32-le c = search needs
+
+u32-le-requires-2 : tie.Need-u32-le-requires-2
+u32-le-requires-2 c κs = search needs
+
+cast-result-2 : tie.Need-cast-result-2
+cast-result-2 c = search needs
+
+mul-result : tie.Need-mul-result
+mul-result c = search needs
+
+add-result : tie.Need-add-result
+add-result c = search needs
+
+returns-2 : tie.Need-returns-2
+returns-2 c = rw (join 4 4) (omega arith)
+
+pub u64-le-spec : {M : Type 1} → statement M
+u64-le-spec =
+    tie.close
+    (tie.spec
+    returns
+    u32-le-requires
+    cast-result
+    add-u32-le
+    u32-le-requires-2
+    cast-result-2
+    mul-result
+    add-result
+    returns-2)
