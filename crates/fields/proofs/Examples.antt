@@ -1,6 +1,6 @@
 -- What `bits-back` is for: each packed number of document 01 reads back by one line a field.
 use mathlib.Core.Path.{_≡_, refl}
-use mathlib.Core.List.{List, [], _∷_}
+use mathlib.Core.List.{[], _∷_}
 use Prim.Native.Nat.{ℕ, _%_, _^_}
 use Rattle.fields.specs.Rows.{pack, field}
 use Rattle.fields.proofs.Rows.{bits-back}

@@ -1,13 +1,14 @@
 -- That a list stands in another at a place: of a block in the pages, a record in a block, a field in a record.
 use mathlib.Core.Path.{_≡_, refl, sym, ap, _∙_}
-use mathlib.Core.List.{List, [], _∷_, _++_, append-assoc, append-nil}
+use mathlib.Core.List.{List, [], _++_, append-assoc, append-nil}
 use Prim.Native.Nat.{ℕ, _+_, _%_, _^_, _≤_, _<_}
 use native.Mathlib.Nat.{zero-add}
 use native.Mathlib.Omega.{arith}
 use lib.ListN.{length, take, drop, getD, length-append, List·getD-append}
-use lib.Seq.{take-at, drop-at, getD-append-add}
-use Rattle.fields.specs.Bytes.{le, leBytes}
+use lib.Seq.{length-take-le, take-at, drop-at, getD-append-add}
+use Rattle.fields.specs.Bytes.{le, leBytes, put}
 use Rattle.fields.proofs.Bytes.{same, le-bytes, length-bytes}
+use Rattle.fields.proofs.Puts.{put-eq}
 
 -- s has b at `at`
 pub record Holds {A : Type 0} (s : List A) (at : ℕ) (b : List A) : Type 0 where
@@ -57,6 +58,15 @@ held-second {A} {s} {at} b c h = record {
 -- it is what is taken there
 pub held-taken : {A : Type 0} {s : List A} {at : ℕ} {b : List A} → Holds s at b → take (length b) (drop at s) ≡ b
 held-taken {A} {s} {at} {b} h = rw (h .whole, drop-at (h .before) (b ++ h .behind) at (h .place), take-at b (h .behind) (length b) refl)
+
+-- what is stored inside a list stands there
+pub put-held : (at : ℕ) (bs xs : List ℕ) → at + length bs ≤ length xs → Holds (put at bs xs) at bs
+put-held at bs xs h = record {
+  before = take at xs;
+  behind = drop (at + length bs) xs;
+  whole = put-eq at bs xs h ∙ append-assoc (take at xs) bs (drop (at + length bs) xs);
+  place = length-take-le at xs (omega arith);
+}
 
 -- a number of as many bytes reads as in b
 pub held-field : {s : List ℕ} {at : ℕ} {b : List ℕ} (n : ℕ) → Holds s at b → length b ≡ n → le n s at ≡ le n b 0

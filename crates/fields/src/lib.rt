@@ -1,12 +1,47 @@
 // Little-endian fields of lent bytes, read and stored. Every call is total: a byte past the end reads as 0, and one that would be stored there is left out.
 ghost use mathlib.Core.Path.{_≡_};
 ghost use mathlib.Core.List.{_++_};
+ghost use Prim.Native.Nat.{_+_, _≤_};
+ghost use lib.ListN.{length};
 ghost use Rattle.fields.specs.Bytes.{le, leBytes, les, put};
 
+// Where all the bytes of a number are there, it is one load: its caller tests the room once.
+fn whole_u8(b: &[u8], off: usize) -> u8
+    requires { ⌜ off + 1 ≤ length (now b) ⌝ }
+    ensures { λ r. ⌜ r ≡ le 1 (now (b .entry)) off ⌝ }
+{
+    b[off]
+}
+
+fn whole_u16(b: &[u8], off: usize) -> u16
+    requires { ⌜ off + 2 ≤ length (now b) ⌝ }
+    ensures { λ r. ⌜ r ≡ le 2 (now (b .entry)) off ⌝ }
+{
+    (whole_u8(b, off) as u16) + 0x100 * (whole_u8(b, off + 1) as u16)
+}
+
+fn whole_u32(b: &[u8], off: usize) -> u32
+    requires { ⌜ off + 4 ≤ length (now b) ⌝ }
+    ensures { λ r. ⌜ r ≡ le 4 (now (b .entry)) off ⌝ }
+{
+    (whole_u16(b, off) as u32) + 0x1_0000 * (whole_u16(b, off + 2) as u32)
+}
+
+fn whole_u64(b: &[u8], off: usize) -> u64
+    requires { ⌜ off + 8 ≤ length (now b) ⌝ }
+    ensures { λ r. ⌜ r ≡ le 8 (now (b .entry)) off ⌝ }
+{
+    (whole_u32(b, off) as u64) + 0x1_0000_0000 * (whole_u32(b, off + 4) as u64)
+}
+
+// The number at off, wherever that is; near the end it is read by halves.
 pub fn u8_le(b: &[u8], off: usize) -> u8
     ensures { λ r. ⌜ r ≡ le 1 (now (b .entry)) off ⌝ }
 {
-    if off < b.len() { b[off] } else { 0 }
+    if b.len() <= off {
+        return 0;
+    }
+    whole_u8(b, off)
 }
 
 pub fn u16_le(b: &[u8], off: usize) -> u16
@@ -14,6 +49,9 @@ pub fn u16_le(b: &[u8], off: usize) -> u16
 {
     if b.len() <= off {
         return 0;
+    }
+    if 2 <= b.len() - off {
+        return whole_u16(b, off);
     }
     (u8_le(b, off) as u16) + 0x100 * (u8_le(b, off + 1) as u16)
 }
@@ -24,6 +62,9 @@ pub fn u32_le(b: &[u8], off: usize) -> u32
     if b.len() <= off {
         return 0;
     }
+    if 4 <= b.len() - off {
+        return whole_u32(b, off);
+    }
     (u16_le(b, off) as u32) + 0x1_0000 * (u16_le(b, off + 2) as u32)
 }
 
@@ -33,21 +74,61 @@ pub fn u64_le(b: &[u8], off: usize) -> u64
     if b.len() <= off {
         return 0;
     }
+    if 8 <= b.len() - off {
+        return whole_u64(b, off);
+    }
     (u32_le(b, off) as u64) + 0x1_0000_0000 * (u32_le(b, off + 4) as u64)
+}
+
+// The same, stored: one store where there is room for all the bytes, and by halves near the end.
+fn store_u8(b: &mut [u8], off: usize, v: u8)
+    requires { ⌜ off + 1 ≤ length (now b) ⌝ }
+    ensures { λ _. ⌜ now (b .exit) ≡ put off (leBytes 1 v) (now (b .entry)) ⌝ }
+{
+    b[off] = v;
+}
+
+fn store_u16(b: &mut [u8], off: usize, v: u16)
+    requires { ⌜ off + 2 ≤ length (now b) ⌝ }
+    ensures { λ _. ⌜ now (b .exit) ≡ put off (leBytes 2 v) (now (b .entry)) ⌝ }
+{
+    store_u8(b, off, (v % 0x100) as u8);
+    store_u8(b, off + 1, (v / 0x100) as u8);
+}
+
+fn store_u32(b: &mut [u8], off: usize, v: u32)
+    requires { ⌜ off + 4 ≤ length (now b) ⌝ }
+    ensures { λ _. ⌜ now (b .exit) ≡ put off (leBytes 4 v) (now (b .entry)) ⌝ }
+{
+    store_u16(b, off, (v % 0x1_0000) as u16);
+    store_u16(b, off + 2, (v / 0x1_0000) as u16);
+}
+
+fn store_u64(b: &mut [u8], off: usize, v: u64)
+    requires { ⌜ off + 8 ≤ length (now b) ⌝ }
+    ensures { λ _. ⌜ now (b .exit) ≡ put off (leBytes 8 v) (now (b .entry)) ⌝ }
+{
+    store_u32(b, off, (v % 0x1_0000_0000) as u32);
+    store_u32(b, off + 4, (v / 0x1_0000_0000) as u32);
 }
 
 pub fn put_u8(b: &mut [u8], off: usize, v: u8)
     ensures { λ _. ⌜ now (b .exit) ≡ put off (leBytes 1 v) (now (b .entry)) ⌝ }
 {
-    if off < b.len() {
-        b[off] = v;
+    if b.len() <= off {
+        return;
     }
+    store_u8(b, off, v);
 }
 
 pub fn put_u16(b: &mut [u8], off: usize, v: u16)
     ensures { λ _. ⌜ now (b .exit) ≡ put off (leBytes 2 v) (now (b .entry)) ⌝ }
 {
     if b.len() <= off {
+        return;
+    }
+    if 2 <= b.len() - off {
+        store_u16(b, off, v);
         return;
     }
     put_u8(b, off, (v % 0x100) as u8);
@@ -60,6 +141,10 @@ pub fn put_u32(b: &mut [u8], off: usize, v: u32)
     if b.len() <= off {
         return;
     }
+    if 4 <= b.len() - off {
+        store_u32(b, off, v);
+        return;
+    }
     put_u16(b, off, (v % 0x1_0000) as u16);
     put_u16(b, off + 2, (v / 0x1_0000) as u16);
 }
@@ -68,6 +153,10 @@ pub fn put_u64(b: &mut [u8], off: usize, v: u64)
     ensures { λ _. ⌜ now (b .exit) ≡ put off (leBytes 8 v) (now (b .entry)) ⌝ }
 {
     if b.len() <= off {
+        return;
+    }
+    if 8 <= b.len() - off {
+        store_u64(b, off, v);
         return;
     }
     put_u32(b, off, (v % 0x1_0000_0000) as u32);
@@ -92,6 +181,21 @@ pub fn put_le(b: &mut [u8], off: usize, n: usize, v: u64)
     }
 }
 
+// The n low bytes of w, by the widths that records are made of where n is one.
+fn put_word(b: &mut [u8], off: usize, n: usize, w: u32)
+    ensures { λ _. ⌜ now (b .exit) ≡ put off (leBytes n w) (now (b .entry)) ⌝ }
+{
+    if n == 4 {
+        put_u32(b, off, w);
+        return;
+    }
+    if n == 2 {
+        put_u16(b, off, (w % 0x1_0000) as u16);
+        return;
+    }
+    put_le(b, off, n, w as u64);
+}
+
 // The n low bytes of each of ws, one after the other.
 pub fn put_all(b: &mut [u8], off: usize, n: usize, ws: &[u32])
     ensures { λ _. ⌜ now (b .exit) ≡ put off (les n (now (ws .entry))) (now (b .entry)) ⌝ }
@@ -102,7 +206,7 @@ pub fn put_all(b: &mut [u8], off: usize, n: usize, ws: &[u32])
     let mut at = off;
     let mut i = 0;
     while i < ws.len() {
-        put_le(b, at, n, ws[i] as u64);
+        put_word(b, at, n, ws[i]);
         if b.len() - at <= n {
             return;
         }

@@ -24,17 +24,14 @@ returns c = sym (past-end _ _ _ (c .if1 .taken))
 loop-holds : tie.Need-loop-holds Inv-loop μ-loop
 loop-holds c = (omega arith, omega arith, refl, refl)
 
-mul-put-le : tie.Need-mul-put-le Inv-loop μ-loop
-mul-put-le c = omega arith
+mul-put-word : tie.Need-mul-put-word Inv-loop μ-loop
+mul-put-word c = omega arith
 
-shared-slice-read-put-le : tie.Need-shared-slice-read-put-le Inv-loop μ-loop
-shared-slice-read-put-le c = omega arith
+shared-slice-read-put-word : tie.Need-shared-slice-read-put-word Inv-loop μ-loop
+shared-slice-read-put-word c = omega arith
 
-cast-put-le : tie.Need-cast-put-le Inv-loop μ-loop
-cast-put-le c = omega (arith, c .shared-slice-known2 .given (c .before .before .before .loop .i))
-
-put-le-requires : tie.Need-put-le-requires Inv-loop μ-loop
-put-le-requires c κs = search needs
+put-word-requires : tie.Need-put-word-requires Inv-loop μ-loop
+put-word-requires c κs = search needs
 
 sub-if2 : tie.Need-sub-if2 Inv-loop μ-loop
 sub-if2 c = omega arith
@@ -46,7 +43,7 @@ returns-2 : tie.Need-returns-2 Inv-loop μ-loop
 returns-2 c =
     let l = c .before .before .before .before .before .before .before .loop in
     let a = c .before .before .before .before .before .before .before .before .before .before .before .args in
-    c .before .before .before .put-le .ensures ∙ put-les-last (a .n) (l .at) (now (a .ws)) (l .i) (l .b) (omega arith) (omega arith) ∙ l .inv .3
+    c .before .before .before .put-word .ensures ∙ put-les-last (a .n) (l .at) (now (a .ws)) (l .i) (l .b) (omega arith) (omega arith) ∙ l .inv .3
 
 add-at : tie.Need-add-at Inv-loop μ-loop
 add-at c = omega arith
@@ -65,7 +62,7 @@ loop-again c =
       omega arith,
       omega arith,
       omega arith,
-      ap (put (l .at + a .n) rest) (c .before .before .before .put-le .ensures) ∙ put-les (a .n) (l .at) (now (a .ws)) (l .i) (l .b) (omega arith) ∙ l .inv .3,
+      ap (put (l .at + a .n) rest) (c .before .before .before .put-word .ensures) ∙ put-les (a .n) (l .at) (now (a .ws)) (l .i) (l .b) (omega arith) ∙ l .inv .3,
     )
 
 same-length-2 : tie.Need-same-length-2 Inv-loop μ-loop
@@ -86,10 +83,9 @@ put-all-spec =
     μ-loop
     returns
     loop-holds
-    mul-put-le
-    shared-slice-read-put-le
-    cast-put-le
-    put-le-requires
+    mul-put-word
+    shared-slice-read-put-word
+    put-word-requires
     sub-if2
     same-length
     returns-2

@@ -3,7 +3,6 @@
 use mathlib.Core.Path.{_≡_, refl, sym, _∙_}
 use Prim.Native.Nat.{_-_}
 use native.Mathlib.Omega.{arith}
-use borrow.Author.Needs.{needs}
 use lib.ListN.{length, length-set}
 use Rattle.fields.specs.Bytes.{leBytes, put}
 use Rattle.fields.proofs.Puts.{past-end, put-nil, put-lowest}

@@ -1,12 +1,24 @@
--- `fields::put_u32` meets its contract: two fields of 2 bytes side by side, by the law over the width.
+-- `fields::put_u32` meets its contract: near the end it is two halves of 2 bytes side by side, by the law over the width.
 use mathlib.Core.Path.{sym}
-use Rattle.fields.proofs.Puts.{past-end, put-join}
 use borrow.Author.Needs.{needs}
+use Rattle.fields.proofs.Puts.{past-end, put-join}
 use Rattle.fields.proofs.put_u32.Statement.{statement}
 use Rattle.fields.proofs.put_u32.Tie as tie
 
 returns : tie.Need-returns
 returns c = sym (past-end _ _ _ (c .if1 .taken))
+
+sub-if2 : tie.Need-sub-if2
+sub-if2 c = search needs
+
+store-u32-requires : tie.Need-store-u32-requires
+store-u32-requires c κs = search needs
+
+same-length : tie.Need-same-length
+same-length c = search needs
+
+returns-2 : tie.Need-returns-2
+returns-2 c = search needs
 
 cast-put-u16 : tie.Need-cast-put-u16
 cast-put-u16 c = search needs
@@ -23,21 +35,25 @@ cast-put-u16-2 c = search needs
 put-u16-requires-2 : tie.Need-put-u16-requires-2
 put-u16-requires-2 c κs = search needs
 
-same-length : tie.Need-same-length
-same-length c = search needs
+same-length-2 : tie.Need-same-length-2
+same-length-2 c = search needs
 
-returns-2 : tie.Need-returns-2
-returns-2 c = rw (← put-join 2) cc
+returns-3 : tie.Need-returns-3
+returns-3 c = rw (← put-join 2) cc
 
 pub put-u32-spec : {M : Type 1} → statement M
 put-u32-spec =
     tie.close
     (tie.spec
     returns
+    sub-if2
+    store-u32-requires
+    same-length
+    returns-2
     cast-put-u16
     put-u16-requires
     add-put-u16
     cast-put-u16-2
     put-u16-requires-2
-    same-length
-    returns-2)
+    same-length-2
+    returns-3)

@@ -1,0 +1,84 @@
+-- The answers of `ensure_id` and the words that it leaves, and what they say of the list.
+use Prim.Native.Nat.{ℕ, _+_, _≤_, _<_, min}
+use native.Mathlib.Omega.{arith}
+use native.Mathlib.Nat.{min-le-right}
+use mathlib.Core.Path.{_≡_, refl}
+use mathlib.Core.Bool.{Bool, true, false, cond}
+use mathlib.Core.List.{List, [], _∷_}
+use lib.ListN.{length, set, take, length-take, length-append}
+use lib.Dec.{leb}
+use borrow.Author.Tests.{leb-true, lt-ltb, le-ltb}
+use Rattle.fields.specs.Bytes.{over}
+use Rattle.areas.proofs.Over.{over-own, over-one, take-over}
+use Rattle.distinct.specs.Distinct.{indexOf, isIn, withNew, upTo}
+use Rattle.distinct.proofs.Laws.{index-most, up-old, up-new, up-full, up-most}
+use Rattle.distinct.proofs.Final.{with-in}
+use Rattle.areas.specs.Areas.{areaAt, entryOf}
+use Rattle.areas.specs.declared.AreaAnswer.the-variants.{At, Full}
+
+module _ (ids : List ℕ) (long : length ids ≡ 32) (len x count at : ℕ) (held : count ≡ min len 32) (here : at ≡ indexOf (take len ids) x) where
+  size : length (take len ids) ≡ count
+  size = rw (length-take len ids, long, held)
+
+  -- x is in the table
+  module _ (h : at < count) where
+    old : isIn (take len ids) x ≡ true
+    old = lt-ltb (indexOf (take len ids) x) (length (take len ids)) (omega (arith, size))
+
+    few : length (take len ids) ≤ 32
+    few = omega (arith, size)
+
+    pub answer-old : (record { at = At at; len = count } ≡ entryOf (take len ids) x) × (ids ≡ over (upTo 32 (take len ids) x) ids)
+    answer-old =
+        let up = up-old 32 (take len ids) x old few in
+        (rw (up .1, up .0, size, here), rw (up .1, over-own len ids))
+
+  module _ (h : count ≤ at) where
+    out : isIn (take len ids) x ≡ false
+    out = le-ltb (indexOf (take len ids) x) (length (take len ids)) (omega (arith, size))
+
+    place : indexOf (take len ids) x ≡ count
+    place = omega (arith, size, index-most (take len ids) x)
+
+    -- x is new, and there is room
+    module _ (room : count < 32) where
+      less : length (take len ids) < 32
+      less = omega (arith, size)
+
+      pub answer-new : (record { at = At count; len = count + 1 } ≡ entryOf (take len ids) x) × (set ids count x ≡ over (upTo 32 (take len ids) x) ids)
+      answer-new =
+          let up = up-new 32 (take len ids) x out less in
+          (rw (up .1, up .0, length-append (take len ids) (x ∷ []), size, place), rw (up .1, over-one len ids x, size))
+
+    -- x would be a 33rd
+    module _ (full : 32 ≤ count) where
+      many : 32 ≤ length (take len ids)
+      many = omega (arith, size)
+
+      pub answer-full : (record { at = Full; len = 32 } ≡ entryOf (take len ids) x) × (ids ≡ over (upTo 32 (take len ids) x) ids)
+      answer-full =
+          let up = up-full 32 (take len ids) x out many in
+          let all : count ≡ 32 = omega (arith, min-le-right len 32) in
+          (rw (up .1, up .0, size, all), rw (up .1, over-own len ids))
+
+-- the table after it
+pub ids-after : (ids : List ℕ) → length ids ≡ 32 → (len x : ℕ) → let l = upTo 32 (take len ids) x in take (length l) (over l ids) ≡ l
+ids-after ids long len x =
+    let few : length (take len ids) ≤ 32 = omega (arith, length-take len ids, min-le-right len (length ids)) in
+    take-over (upTo 32 (take len ids) x) ids (omega (arith, up-most 32 (take len ids) x few))
+
+-- what an answer says of the test that it goes by
+pub at-in : (s : Bool) (i j : ℕ) → At i ≡ cond s (At j) Full → (s ≡ true) × (i ≡ j)
+at-in true i j e = (refl, cc)
+at-in false i j e = let z : _≡_ {A = ℕ} 0 1 = cc in absurd (omega arith)
+
+pub full-in : (s : Bool) (j : ℕ) → Full ≡ cond s (At j) Full → s ≡ false
+full-in true j e = let z : _≡_ {A = ℕ} 0 1 = cc in absurd (omega arith)
+full-in false j e = refl
+
+-- an index fits its five bits
+pub at-below : (ids : List ℕ) (x k : ℕ) → At k ≡ areaAt ids x → (k ≡ indexOf ids x) × (k < 32)
+at-below ids x k e =
+    let here = at-in (leb (length (withNew ids x)) 32) k (indexOf ids x) e in
+    let m = with-in ids x in
+    (here .1, omega (arith, here .1, m .within, m .index, leb-true (length (withNew ids x)) 32 (here .0)))

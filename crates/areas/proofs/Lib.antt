@@ -1,0 +1,5 @@
+pub mod Over
+pub mod Ids
+pub mod Seeds
+pub mod EdgeHalf
+pub mod Examples

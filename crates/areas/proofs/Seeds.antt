@@ -1,0 +1,74 @@
+-- The seeds: own id and none are always among them, and a turn of `seed_areas`, where what is left of them, added from here, makes the whole.
+use Prim.Native.Nat.{ℕ, _+_, _-_, _^_, _%_, _≤_, _<_}
+use native.Mathlib.Omega.{arith}
+use native.Mathlib.Numerals.{add-one}
+use mathlib.Core.Path.{_≡_, refl, ap, sym, _∙_}
+use mathlib.Core.List.{List, [], _∷_}
+use lib.ListN.{length, getD, take, drop, length-append}
+use lib.Seq.{drop-cons, drop-length, length-take-le}
+use Rattle.fields.specs.Bytes.{over, zeros}
+use Rattle.distinct.specs.Distinct.{withNew, upTo, distinctFrom}
+use Rattle.distinct.proofs.Laws.{length-with, up-room}
+use Rattle.distinct.proofs.Final.{In, with-grows, each-in, length-distinct}
+use Rattle.areas.specs.Areas.{wrap, seeds, seeded, entryOf, stored}
+use Rattle.areas.specs.declared.Entry.{Entry}
+use Rattle.areas.proofs.Over.{length-over, take-over, over-longer}
+
+pub own-seeded : (a : ℕ) → In (seeded a) a
+own-seeded a = each-in [] (seeds a) 0 (omega arith)
+
+pub none-seeded : (a : ℕ) → In (seeded a) 16383
+none-seeded a = each-in [] (seeds a) 1 (omega arith)
+
+pub length-seeded : (a : ℕ) → length (seeded a) ≤ 6
+length-seeded a = length-distinct [] (seeds a)
+
+-- before the seed at i of xs, the first `len` words of `ids` being the table so far
+pub record Seeding (xs ids : List ℕ) (len i : ℕ) : Type 0 where
+  pub few : len ≤ i
+  pub long : length ids ≡ 32
+  pub words : ids ≡ over (take len ids) (zeros 32)
+  pub left : distinctFrom (take len ids) (drop i xs) ≡ distinctFrom [] xs
+
+pub seeding-start : (xs : List ℕ) → Seeding xs (zeros 32) 0 0
+unfolding over
+seeding-start xs = record { few = omega arith; long = refl; words = refl; left = refl }
+
+module _ (xs ids : List ℕ) (len i x : ℕ) (g : Seeding xs ids len i) (lt : i < length xs) (small : i < 32) (ex : x ≡ getD xs i 0) where
+  size : length (take len ids) ≡ len
+  size = length-take-le len ids (omega (arith, g .few, g .long))
+
+  grown : upTo 32 (take len ids) x ≡ withNew (take len ids) x
+  grown = up-room 32 (take len ids) x (omega (arith, size, g .few))
+
+  more : drop i xs ≡ x ∷ drop (i + 1) xs
+  more = rw (add-one, ex) (drop-cons xs i 0 lt)
+
+  longer : length (take len ids) ≤ length (withNew (take len ids) x)
+  longer = let w = with-grows (take len ids) x in omega (arith, ap length (w .1) ∙ length-append (take len ids) (w .0))
+
+  pub seeding-turn : (e : Entry) (ids' : List ℕ) → e ≡ entryOf (take len ids) x → ids' ≡ over (upTo 32 (take len ids) x) ids → Seeding xs ids' (e .len) (i + 1)
+  unfolding distinctFrom
+  seeding-turn e ids' ee ei =
+      let l = withNew (take len ids) x in
+      let el : e .len ≡ length l = ap (λ (r : Entry). r .len) ee ∙ ap length grown in
+      let front : take (e .len) ids' ≡ l = rw (el, ei, grown) (take-over l ids (omega (arith, length-with (take len ids) x, size, g .few, g .long))) in
+      record {
+        few = omega (arith, el, length-with (take len ids) x, size, g .few);
+        long = rw (ei, length-over) (g .long);
+        words = rw front (ei ∙ ap (λ (z : List ℕ). over z ids) grown ∙ ap (over l) (g .words) ∙ over-longer (take len ids) l (zeros 32) longer);
+        left = rw front (sym (rw more) ∙ g .left);
+      }
+
+pub seeding-done : (xs ids : List ℕ) (len i : ℕ) → Seeding xs ids len i → i ≡ length xs → i ≤ 32 → record { ids = ids; len = len } ≡ stored (distinctFrom [] xs) (zeros 32)
+unfolding distinctFrom
+seeding-done xs ids len i g e few =
+    let none : drop i xs ≡ [] = rw e (drop-length xs) in
+    let all : take len ids ≡ distinctFrom [] xs = sym (rw none) ∙ g .left in
+    let size : len ≡ length (distinctFrom [] xs) = sym (length-take-le len ids (omega (arith, g .few, g .long))) ∙ ap length all in
+    let words : ids ≡ over (distinctFrom [] xs) (zeros 32) = g .words ∙ ap (λ (l : List ℕ). over l (zeros 32)) all in
+    cc
+
+-- a - k in 32 bits
+pub wrap-sub : (k a r : ℕ) → k ≤ 100 → 0 < k → r < 2 ^ 32 → (r + k) % 2 ^ 32 ≡ a → r ≡ wrap (a + (2 ^ 32 - k))
+wrap-sub k a r h z l e = omega arith

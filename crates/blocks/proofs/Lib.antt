@@ -1,0 +1,4 @@
+pub mod Layouts
+pub mod Standing
+pub mod Placed
+pub mod Lists

@@ -1,0 +1,38 @@
+-- `fields::store_u64` meets its contract: two halves of 4 bytes side by side, by the law over the width.
+use borrow.Author.Needs.{needs}
+use Rattle.fields.proofs.Puts.{put-join}
+use Rattle.fields.proofs.store_u64.Statement.{statement}
+use Rattle.fields.proofs.store_u64.Tie as tie
+
+cast-store-u32 : tie.Need-cast-store-u32
+cast-store-u32 c = search needs
+
+store-u32-requires : tie.Need-store-u32-requires
+store-u32-requires c κs = search needs
+
+add-store-u32 : tie.Need-add-store-u32
+add-store-u32 c = search needs
+
+cast-store-u32-2 : tie.Need-cast-store-u32-2
+cast-store-u32-2 c = search needs
+
+store-u32-requires-2 : tie.Need-store-u32-requires-2
+store-u32-requires-2 c κs = search needs
+
+same-length : tie.Need-same-length
+same-length c = search needs
+
+returns : tie.Need-returns
+returns c = rw (← put-join 4) cc
+
+pub store-u64-spec : {M : Type 1} → statement M
+store-u64-spec =
+    tie.close
+    (tie.spec
+    cast-store-u32
+    store-u32-requires
+    add-store-u32
+    cast-store-u32-2
+    store-u32-requires-2
+    same-length
+    returns)

@@ -1,0 +1,4 @@
+pub mod Whole
+pub mod Finite
+pub mod Order
+pub mod MinMax

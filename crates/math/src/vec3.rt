@@ -1,0 +1,41 @@
+// A vector of three floats, by value.
+ghost use mathlib.Core.Path.{_≡_};
+ghost use Rattle.math.specs.MinMax.{IsMin, IsMax};
+use super::num::f32_max;
+use super::num::f32_min;
+
+pub struct Vec3 {
+    pub x: f32,
+    pub y: f32,
+    pub z: f32,
+}
+
+impl Vec3 {
+    pub fn new(x: f32, y: f32, z: f32) -> Self
+        ensures { λ r. ⌜ (r .x ≡ x) × (r .y ≡ y) × (r .z ≡ z) ⌝ }
+    {
+        Self { x, y, z }
+    }
+
+    // The lesser by coordinate.
+    pub fn min(self, rhs: Vec3) -> Self
+        ensures { λ r. ⌜ IsMin (self .x) (rhs .x) (r .x) × IsMin (self .y) (rhs .y) (r .y) × IsMin (self .z) (rhs .z) (r .z) ⌝ }
+    {
+        Self {
+            x: f32_min(self.x, rhs.x),
+            y: f32_min(self.y, rhs.y),
+            z: f32_min(self.z, rhs.z),
+        }
+    }
+
+    // The greater by coordinate.
+    pub fn max(self, rhs: Vec3) -> Self
+        ensures { λ r. ⌜ IsMax (self .x) (rhs .x) (r .x) × IsMax (self .y) (rhs .y) (r .y) × IsMax (self .z) (rhs .z) (r .z) ⌝ }
+    {
+        Self {
+            x: f32_max(self.x, rhs.x),
+            y: f32_max(self.y, rhs.y),
+            z: f32_max(self.z, rhs.z),
+        }
+    }
+}

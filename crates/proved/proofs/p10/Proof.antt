@@ -1,0 +1,17 @@
+-- `proved::p10` meets its contract: its callee's equation, and the table.
+use mathlib.Core.Path.{_∙_}
+use lib.Ieee.{ofBits, neg, div}
+use borrow.Author.Needs.{needs}
+use Rattle.proved.proofs.Table.{table}
+use Rattle.proved.proofs.p10.Statement.{statement}
+use Rattle.proved.proofs.p10.Tie as tie
+
+half-word-requires : tie.Need-half-word-requires
+half-word-requires c κs = search needs
+
+returns : tie.Need-returns
+unfolding ofBits neg div
+returns c = c .half-word .ensures ∙ table .p10
+
+pub p10-spec : {M : Type 1} → statement M
+p10-spec = tie.close (tie.spec half-word-requires returns)

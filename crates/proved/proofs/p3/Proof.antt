@@ -1,0 +1,17 @@
+-- `proved::p3` meets its contract: its callee's equation, and the table.
+use mathlib.Core.Path.{_∙_}
+use lib.Ieee.{ofBits, neg, div}
+use borrow.Author.Needs.{needs}
+use Rattle.proved.proofs.Table.{table}
+use Rattle.proved.proofs.p3.Statement.{statement}
+use Rattle.proved.proofs.p3.Tie as tie
+
+quantise-axis-requires : tie.Need-quantise-axis-requires
+quantise-axis-requires c κs = search needs
+
+returns : tie.Need-returns
+unfolding ofBits neg div
+returns c = c .quantise-axis .ensures ∙ table .p3
+
+pub p3-spec : {M : Type 1} → statement M
+p3-spec = tie.close (tie.spec quantise-axis-requires returns)

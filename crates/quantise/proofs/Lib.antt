@@ -1,0 +1,13 @@
+pub mod Scaled
+pub mod Extent
+pub mod Quarters
+pub mod Near
+pub mod Numbers
+pub mod Ops
+pub mod Chain
+pub mod Units
+pub mod Capped
+pub mod Return
+pub mod Examples
+pub mod Sweep
+pub mod Fixed

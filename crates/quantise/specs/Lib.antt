@@ -1,0 +1,4 @@
+pub mod Short
+pub mod Quarter
+pub mod Steps
+pub mod Bounds

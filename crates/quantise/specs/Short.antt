@@ -1,0 +1,61 @@
+-- Document 01, module 2: short numbers, over the logic's account of IEEE 754. Definitions only.
+-- An axis is given by its lo and its extent; what is turned stands before them: `short a lo extent`, `coordinate q lo extent`.
+use Prim.Native.Nat.{ℕ, _+_, _*_, _/_}
+use mathlib.Core.Bool.{false, cond}
+use lib.IntN.{pos, negsuc}
+use lib.Ieee.{Float, nan, inf, fin, binary32, up, down, add, sub, mul, div, lt, ofInt}
+use Rattle.math.specs.declared.vec3.Vec3.{Vec3}
+use Rattle.quantise.specs.declared.short.Shorts.{Shorts}
+
+-- 0, 1, 65535 and 2 ^ -23
+abbrev pub nought : Float
+nought = fin false 0 (pos 0)
+
+abbrev pub unit : Float
+unit = fin false 1 (pos 0)
+
+abbrev pub most : Float
+most = fin false 65535 (pos 0)
+
+abbrev pub least : Float
+least = fin false 1 (negsuc 22)
+
+-- x without its sign
+abbrev pub magnitude : Float → Float
+magnitude nan = nan
+magnitude (inf s) = inf false
+magnitude (fin s m e) = fin false m e
+
+-- how far along its axis a stands: (a - lo) / extent
+unfoldable pub fraction : Float → Float → Float → Float
+fraction a lo extent = div binary32 (sub binary32 a lo) extent
+
+-- t brought to 0..1. A NaN stays one.
+unfoldable pub clamped : Float → Float
+clamped t = cond (lt t nought) nought (cond (lt unit t) unit t)
+
+-- n / d to the nearest whole number, halves up, which is away from zero. It is the exact fraction that is rounded.
+abbrev pub nearestWhole : ℕ → ℕ → ℕ
+nearestWhole n d = (2 * n + d) / (2 * d)
+
+-- x, which is not negative, to the nearest whole number, halves away from zero. NaN gives 0. (An infinity does not come here, since a fraction is clamped first.)
+unfoldable pub nearest : Float → ℕ
+nearest nan = 0
+nearest (inf s) = 0
+nearest (fin s m e) = nearestWhole (m * up e) (down e)
+
+-- The short of a on an axis: an extent below 2 ^ -23 in magnitude gives 0; otherwise the fraction, clamped to 0..1, times 65535, to the nearest.
+unfoldable pub short : Float → Float → Float → ℕ
+unfolding fraction clamped nearest
+short a lo extent = cond (lt (magnitude extent) least) 0 (nearest (mul binary32 (clamped (fraction a lo extent)) most))
+
+-- and back: lo + q / 65535 * extent
+unfoldable pub coordinate : ℕ → Float → Float → Float
+coordinate q lo extent = add binary32 lo (mul binary32 (div binary32 (ofInt binary32 (pos q)) most) extent)
+
+-- by axis, lo from bb_min and extent from bb_size
+abbrev pub shorts : Vec3 → Vec3 → Vec3 → Shorts
+shorts v lo size = record { x = short (v .x) (lo .x) (size .x); y = short (v .y) (lo .y) (size .y); z = short (v .z) (lo .z) (size .z) }
+
+abbrev pub coordinates : Shorts → Vec3 → Vec3 → Vec3
+coordinates q lo size = record { x = coordinate (q .x) (lo .x) (size .x); y = coordinate (q .y) (lo .y) (size .y); z = coordinate (q .z) (lo .z) (size .z) }

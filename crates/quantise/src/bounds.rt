@@ -1,0 +1,82 @@
+// A polygon's bounds, from the words of its vertices: three to a vertex, floats as their bits.
+ghost use mathlib.Core.Path.{_≡_};
+ghost use Prim.Native.Nat.{_+_, _-_, _*_, _/_, _≤_, min};
+ghost use lib.ListN.{length, getD};
+ghost use lib.Ieee.{binary32, ofBits};
+ghost use Rattle.quantise.specs.Bounds.{held, Bounding, quarterBounds};
+use super::quarter::QuarterBox;
+use math::num::float_of_bits;
+use math::vec3::Vec3;
+
+// Rust's `f32::MAX` and `f32::MIN`, the greatest finite value and the least.
+const MAX: f32 = 340282350000000000000000000000000000000.0;
+
+const MIN: f32 = -340282350000000000000000000000000000000.0;
+
+// A box with its sides along the axes.
+pub struct Aabb {
+    pub min: Vec3,
+    pub max: Vec3,
+}
+
+fn vertex_at(strip: &[u32], at: usize) -> Vec3
+    requires { ⌜ at + 3 ≤ length (now strip) ⌝ }
+    ensures { λ r. ⌜ (r .x ≡ ofBits binary32 (getD (now (strip .entry)) at 0))
+        × (r .y ≡ ofBits binary32 (getD (now (strip .entry)) (at + 1) 0))
+        × (r .z ≡ ofBits binary32 (getD (now (strip .entry)) (at + 2) 0)) ⌝ }
+{
+    let x = float_of_bits(strip[at]);
+    let y = float_of_bits(strip[at + 1]);
+    let z = float_of_bits(strip[at + 2]);
+    Vec3 { x, y, z }
+}
+
+// Min and max of n vertices that are there.
+fn bounds_of(strip: &[u32], at: usize, n: usize) -> Aabb
+    requires { ⌜ 3 * n ≤ length (now strip) - at ⌝ }
+    ensures { λ r. ⌜ Bounding (now (strip .entry)) at n r ⌝ }
+{
+    let mut min = Vec3::new(MAX, MAX, MAX);
+    let mut max = Vec3::new(MIN, MIN, MIN);
+    let mut place = at;
+    let mut i: usize = 0;
+    while i < n {
+        let v = vertex_at(strip, place);
+        min = min.min(v);
+        max = max.max(v);
+        place += 3;
+        i += 1;
+    }
+    Aabb { min, max }
+}
+
+// How many of `count` vertices from word `at` on stand whole in `len` words.
+fn held_count(len: usize, at: usize, count: usize) -> usize
+    ensures { λ r. ⌜ r ≡ min count ((len - at) / 3) ⌝ }
+{
+    if len < at {
+        return 0;
+    }
+    let whole = (len - at) / 3;
+    if whole < count { whole } else { count }
+}
+
+// The bounds of `count` vertices from word `at` on. Those that the strip does not hold whole are
+// left out. With none it is the start values, where the Rust has a box of zeros; a polygon with
+// none is refused before its box is asked for.
+pub fn bounds(strip: &[u32], at: usize, count: usize) -> Aabb
+    ensures { λ r. ⌜ Bounding (now (strip .entry)) at (held (now (strip .entry)) at count) r ⌝ }
+{
+    let n = held_count(strip.len(), at, count);
+    bounds_of(strip, at, n)
+}
+
+// The quarter box of those bounds, in which no zero's sign shows.
+pub fn quarter_bounds(strip: &[u32], at: usize, count: usize) -> QuarterBox
+    ensures { λ r. ⌜ r ≡ quarterBounds (now (strip .entry)) at (held (now (strip .entry)) at count) ⌝ }
+{
+    let b = bounds(strip, at, count);
+    let min = b.min;
+    let max = b.max;
+    super::quarter::quarter_box(min, max)
+}

@@ -1,0 +1,9 @@
+pub mod Steps
+pub mod Judged
+pub mod Laid
+pub mod Bits
+pub mod Encode
+pub mod Readback
+pub mod Exact
+pub mod Faults
+pub mod Examples

@@ -1,0 +1,61 @@
+-- `strip::poly_at` meets its contract: `wide` keeps each count.
+-- Assumes nothing.
+use borrow.Author.Needs.{needs}
+use native.Mathlib.Nat.{div-one}
+use Rattle.strip.specs.Reading.{polyAt}
+use Rattle.strip.proofs.poly_at.Statement.{statement}
+use Rattle.strip.proofs.poly_at.Tie as tie
+
+mul-w : tie.Need-mul-w
+mul-w c = search needs
+
+shared-slice-read-w : tie.Need-shared-slice-read-w
+shared-slice-read-w c = search needs
+
+wide-requires : tie.Need-wide-requires
+wide-requires c κs = search needs
+
+wide-requires-2 : tie.Need-wide-requires-2
+wide-requires-2 c κs = search needs
+
+wide-requires-3 : tie.Need-wide-requires-3
+wide-requires-3 c κs = search needs
+
+add-vertex-at : tie.Need-add-vertex-at
+add-vertex-at c = search needs
+
+add-vertex-at-2 : tie.Need-add-vertex-at-2
+add-vertex-at-2 c = search needs
+
+mul-edge-at : tie.Need-mul-edge-at
+mul-edge-at c = search needs
+
+add-edge-at : tie.Need-add-edge-at
+add-edge-at c = search needs
+
+mul-next : tie.Need-mul-next
+mul-next c = search needs
+
+add-next : tie.Need-add-next
+add-next c = search needs
+
+returns : tie.Need-returns
+unfolding polyAt
+returns c = rw (div-one, c .wide3 .ensures, c .before .wide2 .ensures, c .before .before .wide .ensures)
+
+pub poly-at-spec : {M : Type 1} → statement M
+poly-at-spec =
+    tie.close
+    (tie.spec
+    mul-w
+    shared-slice-read-w
+    wide-requires
+    wide-requires-2
+    wide-requires-3
+    add-vertex-at
+    add-vertex-at-2
+    mul-edge-at
+    add-edge-at
+    mul-next
+    add-next
+    returns)

@@ -1,0 +1,167 @@
+-- The cell, and the strip of 32-bit words that stands for it. Floats stand as their bits. Definitions only.
+use Prim.Native.Nat.{ℕ, _+_, _*_, _^_, _<_}
+use mathlib.Core.List.{List, [], _∷_, _++_}
+use lib.ListN.{length}
+use Rattle.fields.specs.Rows.{pack}
+
+pub record Vec3 : Type 0 where
+  pub x : ℕ
+  pub y : ℕ
+  pub z : ℕ
+
+-- one half of an edge
+pub record Half : Type 0 where
+  pub area : ℕ
+  pub poly : ℕ
+  pub unk3 : ℕ
+  pub unk2 : ℕ
+
+pub record Edge : Type 0 where
+  pub a : Half
+  pub b : Half
+
+pub record Polygon : Type 0 where
+  pub flags0 : ℕ
+  pub flags1 : ℕ
+  pub flags2 : ℕ
+  pub links : List ℕ
+  pub vertices : List Vec3
+  pub edges : List Edge
+
+pub record Portal : Type 0 where
+  pub kind : ℕ
+  pub angle : ℕ
+  pub flags-unk : ℕ
+  pub from : Vec3
+  pub to : Vec3
+  pub poly-from : ℕ
+  pub poly-to : ℕ
+  pub area-from : ℕ
+  pub area-to : ℕ
+  pub area-unk : ℕ
+
+pub record Point : Type 0 where
+  pub angle : ℕ
+  pub kind : ℕ
+  pub position : Vec3
+
+-- what the cell's own record holds
+pub record Head : Type 0 where
+  pub content : ℕ
+  pub area : ℕ
+  pub version : ℕ
+  pub vft : ℕ
+  pub bb-min : Vec3
+  pub bb-max : Vec3
+  pub bb-size : Vec3
+
+pub record Cell : Type 0 where
+  pub head : Head
+  pub polys : List Polygon
+  pub portals : List Portal
+  pub points : List Point
+
+-- The words of each record. A first word is a row of bits, the lowest first, with the kind in the top four.
+
+unfoldable pub vecWords : Vec3 → List ℕ
+vecWords v = v .x ∷ v .y ∷ v .z ∷ []
+
+-- two numbers in one word, the first in its low 16 bits
+abbrev pub joined : ℕ → ℕ → ℕ
+joined low high = low + 65536 * high
+
+-- one after the other
+unfoldable pub each {ℓ} : {A : Type ℓ} → (A → List ℕ) → List A → List ℕ
+each f [] = []
+each f (a ∷ rest) = f a ++ each f rest
+
+-- kind 1
+unfoldable pub headWords : Head → List ℕ
+headWords h =
+    pack ((28, 0) ∷ (4, 1) ∷ []) ∷ h .content ∷ h .area ∷ h .version ∷ h .vft ∷ vecWords (h .bb-min) ++ vecWords (h .bb-max) ++ vecWords (h .bb-size)
+
+-- kind 2, the only kind of polygon; a strip's polygons are all of one kind, which is a parameter of its words
+unfoldable pub halfWords : Half → List ℕ
+halfWords h = h .area ∷ h .poly ∷ joined (h .unk3) (h .unk2) ∷ []
+
+unfoldable pub edgeWords : Edge → List ℕ
+edgeWords e = halfWords (e .a) ++ halfWords (e .b)
+
+unfoldable pub polygonHeadAs : ℕ → Polygon → ℕ
+polygonHeadAs kind p = pack ((12, length (p .vertices)) ∷ (12, length (p .edges)) ∷ (4, length (p .links)) ∷ (4, kind) ∷ [])
+
+unfoldable pub polygonWordsAs : ℕ → Polygon → List ℕ
+polygonWordsAs kind p =
+    polygonHeadAs kind p ∷ p .flags0 ∷ p .flags1 ∷ p .flags2 ∷ p .links ++ each vecWords (p .vertices) ++ each edgeWords (p .edges)
+
+abbrev pub polygonWords : Polygon → List ℕ
+polygonWords = polygonWordsAs 2
+
+-- kind 3
+unfoldable pub portalWords : Portal → List ℕ
+portalWords p =
+    pack ((8, p .kind) ∷ (8, p .angle) ∷ (12, 0) ∷ (4, 3) ∷ []) ∷ p .flags-unk ∷ vecWords (p .from) ++ vecWords (p .to) ++
+    (joined (p .poly-from) (p .poly-to) ∷ joined (p .area-from) (p .area-to) ∷ p .area-unk ∷ [])
+
+-- kind 4
+unfoldable pub pointWords : Point → List ℕ
+pointWords p = pack ((8, p .angle) ∷ (8, p .kind) ∷ (12, 0) ∷ (4, 4) ∷ []) ∷ vecWords (p .position)
+
+-- kind 5
+abbrev pub endWords : List ℕ
+endWords = pack ((28, 0) ∷ (4, 5) ∷ []) ∷ []
+
+-- the strip of a cell, with polygons of a kind
+unfoldable pub encodeAs : ℕ → Cell → List ℕ
+encodeAs kind c =
+    headWords (c .head) ++ each (polygonWordsAs kind) (c .polys) ++ each portalWords (c .portals) ++ each pointWords (c .points) ++ endWords
+
+abbrev pub encode : Cell → List ℕ
+encode = encodeAs 2
+
+-- The cells that a strip can hold: counts and parts of a word keep to their bits, and every word to 32.
+
+abbrev pub All : {A : Type 0} → (A → Type 0) → List A → Type 0
+All P [] = Unit
+All P (a ∷ rest) = P a × All P rest
+
+pub record HalfFits (h : Half) : Type 0 where
+  pub unk3 : h .unk3 < 2 ^ 16
+  pub unk2 : h .unk2 < 2 ^ 8
+
+pub record EdgeFits (e : Edge) : Type 0 where
+  pub a : HalfFits (e .a)
+  pub b : HalfFits (e .b)
+
+pub record PolygonFits (p : Polygon) : Type 0 where
+  pub vertex-count : length (p .vertices) < 2 ^ 12
+  pub edge-count : length (p .edges) < 2 ^ 12
+  pub link-count : length (p .links) < 2 ^ 4
+  pub flags0 : p .flags0 < 2 ^ 16
+  pub links : All (λ w. w < 2 ^ 16) (p .links)
+  pub edges : All EdgeFits (p .edges)
+
+pub record PortalFits (p : Portal) : Type 0 where
+  pub kind : p .kind < 2 ^ 8
+  pub angle : p .angle < 2 ^ 8
+  pub flags-unk : p .flags-unk < 2 ^ 16
+  pub poly-from : p .poly-from < 2 ^ 16
+  pub area-from : p .area-from < 2 ^ 16
+  pub area-unk : p .area-unk < 2 ^ 8
+
+pub record PointFits (p : Point) : Type 0 where
+  pub angle : p .angle < 2 ^ 8
+  pub kind : p .kind < 2 ^ 8
+
+pub record Fits (c : Cell) : Type 0 where
+  pub polys : All PolygonFits (c .polys)
+  pub portals : All PortalFits (c .portals)
+  pub points : All PointFits (c .points)
+
+-- the words of a `&[u32]`
+abbrev pub Words : List ℕ → Type 0
+Words = All (λ w. w < 2 ^ 32)
+
+pub record InRange (c : Cell) : Type 0 where
+  pub fits : Fits c
+  pub words : Words (encode c)

@@ -1,0 +1,5 @@
+pub mod Cell
+pub mod Reading
+pub mod Scan
+pub mod Outcome
+pub mod Check

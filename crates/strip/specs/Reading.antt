@@ -1,0 +1,131 @@
+-- What stands at a position of a strip: one item, or n items one after the other. Every list of a cell is read so, by a count and a
+-- position that moves on, which is how a loop goes through it. Definitions only.
+use Prim.Native.Nat.{ℕ, zero, suc, _+_, _*_, _/_, _%_}
+use mathlib.Core.List.{List, [], _∷_}
+use lib.ListN.{getD}
+use Rattle.fields.specs.Rows.{field}
+use Rattle.strip.specs.Cell.{Vec3, Half, Edge, Polygon, Portal, Point, Head}
+use Rattle.strip.specs.declared.Poly.{Poly}
+
+-- the word at a position
+abbrev pub word : List ℕ → ℕ → ℕ
+word s at = getD s at 0
+
+-- n items from a position on, where each says how to read it and where the next one is; and where n items end
+unfoldable pub itemsAt : {A : Type 0} → (ℕ → A) → (ℕ → ℕ) → ℕ → ℕ → List A
+itemsAt item next at zero = []
+itemsAt item next at (suc n) = item at ∷ itemsAt item next (next at) n
+
+unfoldable pub after : (ℕ → ℕ) → ℕ → ℕ → ℕ
+after next at zero = at
+after next at (suc n) = after next (next at) n
+
+-- n words
+abbrev pub wordsAt : List ℕ → ℕ → ℕ → List ℕ
+wordsAt s = itemsAt (word s) (λ at. at + 1)
+
+abbrev pub vecAt : List ℕ → ℕ → Vec3
+vecAt s at = record { x = word s at; y = word s (at + 1); z = word s (at + 2) }
+
+abbrev pub vecsAt : List ℕ → ℕ → ℕ → List Vec3
+vecsAt s = itemsAt (vecAt s) (λ at. at + 3)
+
+-- the two numbers of a word
+abbrev pub low16 : ℕ → ℕ
+low16 w = w % 65536
+
+abbrev pub high16 : ℕ → ℕ
+high16 w = w / 65536
+
+abbrev pub halfAt : List ℕ → ℕ → Half
+halfAt s at =
+    record { area = word s at; poly = word s (at + 1); unk3 = low16 (word s (at + 2)); unk2 = high16 (word s (at + 2)) }
+
+abbrev pub edgeAt : List ℕ → ℕ → Edge
+edgeAt s at = record { a = halfAt s at; b = halfAt s (at + 3) }
+
+abbrev pub edgesAt : List ℕ → ℕ → ℕ → List Edge
+edgesAt s = itemsAt (edgeAt s) (λ at. at + 6)
+
+-- word k of item i, for items of several words; 0 where there is none
+unfoldable pub wordOf : {A : Type 0} → (A → List ℕ) → List A → ℕ → ℕ → ℕ
+wordOf f [] i k = 0
+wordOf f (a ∷ rest) zero k = getD (f a) k 0
+wordOf f (a ∷ rest) (suc i) k = wordOf f rest i k
+
+-- where the parts of the polygon at a position are, by its counts
+unfoldable pub layout : ℕ → ℕ → ℕ → ℕ → Poly
+layout at links vertices edges =
+    record {
+      at = at;
+      links = links;
+      vertices = vertices;
+      edges = edges;
+      «vertex_at» = at + 4 + links;
+      «edge_at» = at + 4 + links + 3 * vertices;
+      next = at + 4 + links + 3 * vertices + 6 * edges;
+    }
+
+-- the counts stand in its first word: bits 0-11 vertices, 12-23 edges, 24-27 links
+unfoldable pub polyAt : List ℕ → ℕ → Poly
+unfolding layout
+polyAt s at = layout at (field 24 4 (word s at)) (field 0 12 (word s at)) (field 12 12 (word s at))
+
+-- the polygon that a cursor stands at
+unfoldable pub polygonOf : List ℕ → Poly → Polygon
+polygonOf s p =
+    record {
+      flags0 = word s (p .at + 1);
+      flags1 = word s (p .at + 2);
+      flags2 = word s (p .at + 3);
+      links = wordsAt s (p .at + 4) (p .links);
+      vertices = vecsAt s (p .«vertex_at») (p .vertices);
+      edges = edgesAt s (p .«edge_at») (p .edges);
+    }
+
+abbrev pub polygonAt : List ℕ → ℕ → Polygon
+polygonAt s at = polygonOf s (polyAt s at)
+
+abbrev pub polygonsAt : List ℕ → ℕ → ℕ → List Polygon
+polygonsAt s = itemsAt (polygonAt s) (λ at. polyAt s at .next)
+
+-- where n polygons from a position on end
+abbrev pub afterPolygons : List ℕ → ℕ → ℕ → ℕ
+afterPolygons s = after (λ at. polyAt s at .next)
+
+unfoldable pub portalAt : List ℕ → ℕ → Portal
+portalAt s at =
+    record {
+      kind = field 0 8 (word s at);
+      angle = field 8 8 (word s at);
+      flags-unk = word s (at + 1);
+      from = vecAt s (at + 2);
+      to = vecAt s (at + 5);
+      poly-from = low16 (word s (at + 8));
+      poly-to = high16 (word s (at + 8));
+      area-from = low16 (word s (at + 9));
+      area-to = high16 (word s (at + 9));
+      area-unk = word s (at + 10);
+    }
+
+abbrev pub portalsAt : List ℕ → ℕ → ℕ → List Portal
+portalsAt s = itemsAt (portalAt s) (λ at. at + 11)
+
+unfoldable pub pointAt : List ℕ → ℕ → Point
+pointAt s at =
+    record { angle = field 0 8 (word s at); kind = field 8 8 (word s at); position = vecAt s (at + 1) }
+
+abbrev pub pointsAt : List ℕ → ℕ → ℕ → List Point
+pointsAt s = itemsAt (pointAt s) (λ at. at + 4)
+
+unfoldable pub headAt : List ℕ → ℕ → Head
+headAt s at =
+    record {
+      content = word s (at + 1);
+      area = word s (at + 2);
+      version = word s (at + 3);
+      vft = word s (at + 4);
+      bb-min = vecAt s (at + 5);
+      bb-max = vecAt s (at + 8);
+      bb-size = vecAt s (at + 11);
+    }

@@ -1,0 +1,295 @@
+// The strip: whether it is well formed, and the cursors by which later passes go through it.
+ghost use mathlib.Core.Path.{_≡_};
+ghost use Prim.Native.Nat.{_+_, _*_, _≤_, _<_};
+ghost use lib.ListN.{length};
+ghost use Rattle.strip.specs.Cell.{vecWords, edgeWords};
+ghost use Rattle.strip.specs.Reading.{wordOf, polyAt, polygonOf};
+ghost use Rattle.strip.specs.Scan.{firstGood, allBelow, edgesFit, polyFits, cellRecord, polygonRecord, portalRecord, pointRecord, endRecord, recordAt};
+ghost use Rattle.strip.specs.Outcome.{shown};
+ghost use Rattle.strip.specs.Check.{paper, stripOutcome};
+
+// Why a call was refused: the one form for all calls.
+pub struct Refusal {
+    pub number: u32,
+    pub place: usize,
+}
+
+// How many of each a strip has.
+pub struct Counts {
+    pub polys: usize,
+    pub portals: usize,
+    pub points: usize,
+}
+
+pub enum StripAnswer {
+    WellFormed(Counts),
+    Refused(Refusal),
+}
+
+// Where the parts of a polygon's record are.
+pub struct Poly {
+    pub at: usize,
+    pub links: usize,
+    pub vertices: usize,
+    pub edges: usize,
+    pub vertex_at: usize,
+    pub edge_at: usize,
+    pub next: usize,
+}
+
+// The record at a position: its kind if it is good, and otherwise the place where the strip is bad.
+pub enum Record {
+    Cell,
+    Polygon(Poly),
+    Portal,
+    Point,
+    End,
+    Bad(usize),
+}
+
+fn wide(x: u32) -> usize
+    ensures { λ r. ⌜ r ≡ x ⌝ }
+{
+    x as usize
+}
+
+// The polygon whose first word stands at `at`.
+pub fn poly_at(strip: &[u32], at: usize) -> Poly
+    requires { ⌜ at < length (now strip) ⌝ }
+    ensures { λ r. ⌜ r ≡ polyAt (now (strip .entry)) at ⌝ }
+{
+    let w = strip[at];
+    let links = wide(w / 16777216 % 16);
+    let vertices = wide(w % 4096);
+    let edges = wide(w / 4096 % 4096);
+    let vertex_at = at + 4 + links;
+    let edge_at = vertex_at + 3 * vertices;
+    let next = edge_at + 6 * edges;
+    Poly {
+        at,
+        links,
+        vertices,
+        edges,
+        vertex_at,
+        edge_at,
+        next,
+    }
+}
+
+// Word `axis` of a polygon's vertex `i`.
+pub fn vertex_word(strip: &[u32], p: Poly, i: usize, axis: usize) -> u32
+    requires { ⌜ (p .«vertex_at» + 3 * p .vertices ≤ length (now strip)) × (i < p .vertices) × (axis < 3) ⌝ }
+    ensures { λ r. ⌜ r ≡ wordOf vecWords (polygonOf (now (strip .entry)) p .vertices) i axis ⌝ }
+{
+    let vertex_at = p.vertex_at;
+    strip[vertex_at + 3 * i + axis]
+}
+
+// Word `k` of a polygon's edge `i`.
+pub fn edge_word(strip: &[u32], p: Poly, i: usize, k: usize) -> u32
+    requires { ⌜ (p .«edge_at» + 6 * p .edges ≤ length (now strip)) × (i < p .edges) × (k < 6) ⌝ }
+    ensures { λ r. ⌜ r ≡ wordOf edgeWords (polygonOf (now (strip .entry)) p .edges) i k ⌝ }
+{
+    let edge_at = p.edge_at;
+    strip[edge_at + 6 * i + k]
+}
+
+// Whether `n` words from `at` on are below `limit`.
+fn all_below(strip: &[u32], at: usize, n: usize, limit: u32) -> bool
+    requires { ⌜ at + n ≤ length (now strip) ⌝ }
+    ensures { λ r. ⌜ r ≡ allBelow (now (strip .entry)) at n limit ⌝ }
+{
+    let mut place = at;
+    for i in 0..n {
+        if limit <= strip[place] {
+            return false;
+        }
+        place += 1;
+    }
+    true
+}
+
+// Whether `n` edges from `at` on have no unnamed bit.
+fn edges_fit(strip: &[u32], at: usize, n: usize) -> bool
+    requires { ⌜ at + 6 * n ≤ length (now strip) ⌝ }
+    ensures { λ r. ⌜ r ≡ edgesFit (now (strip .entry)) at n ⌝ }
+{
+    let mut place = at;
+    for i in 0..n {
+        if 16777216 <= strip[place + 2] {
+            return false;
+        }
+        if 16777216 <= strip[place + 5] {
+            return false;
+        }
+        place += 6;
+    }
+    true
+}
+
+// Whether a polygon's words have no unnamed bit.
+fn poly_fits(strip: &[u32], p: Poly) -> bool
+    requires { ⌜ (p .at + 4 + p .links ≤ length (now strip)) × (p .«edge_at» + 6 * p .edges ≤ length (now strip)) ⌝ }
+    ensures { λ r. ⌜ r ≡ polyFits (now (strip .entry)) p ⌝ }
+{
+    let at = p.at;
+    let links = p.links;
+    let edge_at = p.edge_at;
+    let edges = p.edges;
+    if 65536 <= strip[at + 1] {
+        return false;
+    }
+    if all_below(strip, at + 4, links, 65536) {
+        return edges_fit(strip, edge_at, edges);
+    }
+    false
+}
+
+// Whether the first word `w` is good after a record of rank `rank`: that is from `low` to `high`, and the bits below the kind stay under
+// `limit`.
+fn first_good(w: u32, rank: u32, low: u32, high: u32, limit: u32) -> bool
+    ensures { λ r. ⌜ r ≡ firstGood low high limit rank w ⌝ }
+{
+    if rank < low {
+        return false;
+    }
+    if high < rank {
+        return false;
+    }
+    w % 268435456 < limit
+}
+
+// The record at `at`, for each kind. `rank` is that of the record before it.
+fn cell_record(strip: &[u32], at: usize, rank: u32) -> Record
+    requires { ⌜ at < length (now strip) ⌝ }
+    ensures { λ r. ⌜ r ≡ cellRecord (now (strip .entry)) at rank ⌝ }
+{
+    if first_good(strip[at], rank, 0, 0, 1) {
+        if strip.len() < at + 14 {
+            return Record::Bad(strip.len());
+        }
+        return Record::Cell;
+    }
+    Record::Bad(at)
+}
+
+fn polygon_record(strip: &[u32], at: usize, rank: u32) -> Record
+    requires { ⌜ at < length (now strip) ⌝ }
+    ensures { λ r. ⌜ r ≡ polygonRecord (now (strip .entry)) at rank ⌝ }
+{
+    if first_good(strip[at], rank, 1, 2, 268435456) {
+        let p = poly_at(strip, at);
+        let next = p.next;
+        if strip.len() < next {
+            return Record::Bad(strip.len());
+        }
+        if poly_fits(strip, p) {
+            return Record::Polygon(p);
+        }
+        return Record::Bad(at);
+    }
+    Record::Bad(at)
+}
+
+fn portal_record(strip: &[u32], at: usize, rank: u32) -> Record
+    requires { ⌜ at < length (now strip) ⌝ }
+    ensures { λ r. ⌜ r ≡ portalRecord (now (strip .entry)) at rank ⌝ }
+{
+    if first_good(strip[at], rank, 1, 3, 65536) {
+        if strip.len() < at + 11 {
+            return Record::Bad(strip.len());
+        }
+        if 65536 <= strip[at + 1] {
+            return Record::Bad(at);
+        }
+        if 256 <= strip[at + 10] {
+            return Record::Bad(at);
+        }
+        return Record::Portal;
+    }
+    Record::Bad(at)
+}
+
+fn point_record(strip: &[u32], at: usize, rank: u32) -> Record
+    requires { ⌜ at < length (now strip) ⌝ }
+    ensures { λ r. ⌜ r ≡ pointRecord (now (strip .entry)) at rank ⌝ }
+{
+    if first_good(strip[at], rank, 1, 4, 65536) {
+        if strip.len() < at + 4 {
+            return Record::Bad(strip.len());
+        }
+        return Record::Point;
+    }
+    Record::Bad(at)
+}
+
+fn end_record(strip: &[u32], at: usize, rank: u32) -> Record
+    requires { ⌜ at < length (now strip) ⌝ }
+    ensures { λ r. ⌜ r ≡ endRecord (now (strip .entry)) at rank ⌝ }
+{
+    if first_good(strip[at], rank, 1, 4, 1) {
+        if at + 1 < strip.len() {
+            return Record::Bad(at + 1);
+        }
+        return Record::End;
+    }
+    Record::Bad(at)
+}
+
+// The record at `at`, after one of rank `rank` (cell 1, polygon 2, portal 3, point 4, end 5; 0 at the strip's start).
+pub fn record_at(strip: &[u32], at: usize, rank: u32) -> Record
+    ensures { λ r. ⌜ r ≡ recordAt (now (strip .entry)) at rank ⌝ }
+{
+    if strip.len() <= at {
+        return Record::Bad(strip.len());
+    }
+    let kind = strip[at] >> 28;
+    match kind {
+        1 => cell_record(strip, at, rank),
+        2 => polygon_record(strip, at, rank),
+        3 => portal_record(strip, at, rank),
+        4 => point_record(strip, at, rank),
+        5 => end_record(strip, at, rank),
+        0 | 6..=4294967295 => Record::Bad(at),
+    }
+}
+
+// Whether a strip is well formed: its counts, or refusal 3 with its place.
+pub fn check_strip(strip: &[u32]) -> StripAnswer
+    ensures { λ r. ⌜ paper r ≡ shown (stripOutcome (now (strip .entry))) ⌝ }
+{
+    let mut polys: usize = 0;
+    let mut portals: usize = 0;
+    let mut points: usize = 0;
+    let mut at: usize = 0;
+    let mut rank: u32 = 0;
+    loop {
+        match record_at(strip, at, rank) {
+            Record::Cell => {
+                at += 14;
+                rank = 1;
+            }
+            Record::Polygon(p) => {
+                polys += 1;
+                at = p.next;
+                rank = 2;
+            }
+            Record::Portal => {
+                portals += 1;
+                at += 11;
+                rank = 3;
+            }
+            Record::Point => {
+                points += 1;
+                at += 4;
+                rank = 4;
+            }
+            Record::End => return StripAnswer::WellFormed(Counts {
+                polys,
+                portals,
+                points,
+            }),
+            Record::Bad(place) => return StripAnswer::Refused(Refusal { number: 3, place }),
+        }
+    }
+}

@@ -1,0 +1,10 @@
+pub mod Triples
+pub mod Buckets
+pub mod Chain
+pub mod Adding
+pub mod Lookup
+pub mod Clearing
+pub mod Numbering
+pub mod Parts
+pub mod OneSlice
+pub mod Enough

@@ -1,0 +1,2 @@
+pub mod Vertices
+pub mod Table

@@ -1,0 +1,10 @@
+//! Seeded generators: cells, strips and pages. The same seed gives the same case.
+
+pub mod cells;
+pub mod damage;
+pub mod floats;
+pub mod limits;
+pub mod pages;
+mod rng;
+
+pub use rng::Rng;

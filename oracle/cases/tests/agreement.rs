@@ -1,0 +1,208 @@
+//! The judge and the Rust on random cells, strips and pages: they accept the same but
+//! for the added refusals, and where both refuse, the Rust's message names the same
+//! fault at the same place.
+
+use std::collections::BTreeMap;
+
+use cases::{cells, damage, pages, Rng};
+use rage::ynv::{NavEdge, NavEdgeEnd, NavPoint, Ynv};
+use strips::{back, counts, derive, encode, judge_write, laid_out, leaf_boxes, rust_read, rust_write, scan, short};
+use strips::{Refusal, RustRead, RustWrite};
+
+const CASES: u64 = 30_000;
+
+fn tally(name: &str, seen: &BTreeMap<u32, u32>) {
+    println!("{name}: number of cases by refusal (0: accepted, 1000: not run) {seen:?}");
+}
+
+/// The start of the Rust's message for a refusal of the writer.
+fn write_message(r: Refusal) -> String {
+    match r.number {
+        12 => format!("polygon {} has ", r.place),
+        13 => "more than 65535 polygon vertices".into(),
+        14 => "more than 65536 distinct vertices".into(),
+        15 => "more than 32 distinct adjacent areas".into(),
+        16 => format!("polygon {} has more than 7 portal links", r.place),
+        number => panic!("{number} is none of the Rust's errors"),
+    }
+}
+
+#[test]
+fn writing() {
+    let mut rng = Rng::new(1);
+    let mut seen = BTreeMap::new();
+    for n in 0..CASES {
+        let cell = if n % 3 == 0 { cells::valid(&mut rng) } else { cells::wild(&mut rng) };
+        let judged = judge_write(&cell);
+        *seen.entry(judged.err().map_or(0, |r| r.number)).or_insert(0) += 1;
+        match (judged, rust_write(&cell)) {
+            (Ok(()), RustWrite::Bytes(bytes)) => {
+                assert!(bytes == laid_out(&cell), "case {n}: document 01's pages are not the Rust's");
+                read_back(&cell, &bytes);
+            }
+            (Err(Refusal { number: 10, .. }), _) => {}
+            (Err(Refusal { number: 17..=20, .. }), RustWrite::Panic(_)) => {}
+            (Err(r), RustWrite::Error(text)) if text.starts_with(&write_message(r)) => {}
+            (judged, done) => panic!("case {n}: judged {judged:?}, the Rust {done:?}"),
+        }
+    }
+    tally("writing", &seen);
+}
+
+/// What reading gives of a written cell, from document 01.
+fn saved(cell: &Ynv) -> Ynv {
+    let (lo, size) = (cell.bb_min, cell.bb_size);
+    let moved = |v: rage::math::Vec3| rage::math::Vec3 {
+        x: back(short(v.x, lo.x, size.x), lo.x, size.x),
+        y: back(short(v.y, lo.y, size.y), lo.y, size.y),
+        z: back(short(v.z, lo.z, size.z), lo.z, size.z),
+    };
+    let cut =
+        |e: NavEdgeEnd| NavEdgeEnd { area_id: e.area_id, poly: e.poly % 16384, unk2: e.unk2 % 4, unk3: e.unk3 % 2048 };
+    let mut out = cell.clone();
+    for p in &mut out.polys {
+        p.vertices.iter_mut().for_each(|v| *v = moved(*v));
+        p.edges.resize(p.vertices.len(), NavEdge::NONE);
+        p.edges.iter_mut().for_each(|e| *e = NavEdge { a: cut(e.a), b: cut(e.b) });
+    }
+    for p in &mut out.portals {
+        (p.from, p.to) = (moved(p.from), moved(p.to));
+        (p.area_from, p.area_to, p.area_unk) = (p.area_from % 16384, p.area_to % 16384, p.area_unk % 16);
+    }
+    // A point stands in the first leaf that holds it; reading takes the leaves backwards.
+    let mut left: Vec<NavPoint> = cell.points.clone();
+    let mut leaves = Vec::new();
+    for (min, max) in leaf_boxes(cell) {
+        let inside = |p: &NavPoint| {
+            let v = p.position;
+            v.x >= min.x && v.x <= max.x && v.y >= min.y && v.y <= max.y
+        };
+        let (stored, rest): (Vec<_>, Vec<_>) = left.into_iter().partition(inside);
+        leaves.push(stored);
+        left = rest;
+    }
+    out.points = leaves.into_iter().rev().flatten().map(|p| NavPoint { position: moved(p.position), ..p }).collect();
+    out
+}
+
+fn read_back(cell: &Ynv, bytes: &[u8]) {
+    let RustRead::Cell(read) = rust_read(bytes, &[]) else { panic!("the Rust doesn't read what it wrote") };
+    let derived = derive(bytes, &[]).expect("written pages derive a strip");
+    let words = encode(&read);
+    assert_eq!(words, encode(&derived.cell));
+    assert_eq!(words, encode(&saved(cell)));
+    assert_eq!(derived.sectors, if cell.content_flags & 4 != 0 { 1 } else { 21 });
+    assert_eq!(derive(&[bytes, &[0; 100]].concat(), &[0; 8]).unwrap(), derived);
+}
+
+/// Parts of the Rust's message for a refusal of the reader.
+fn read_messages(r: Refusal) -> Vec<String> {
+    let list = ["", "vertices", "indices", "edges", "polys"];
+    let exact: &[&str] = match r.number {
+        30 => &["NavMesh header"],
+        31 => &["navmesh has no sector tree"],
+        32 => &["sector root", "sector"],
+        33 => &["sector tree too large or cyclic"],
+        34 => &["sector data", "sector points"],
+        39 => &["portals"],
+        _ => &[],
+    };
+    match r.number {
+        35 => ["header", "parts", "part items"].map(|what| format!("{}: list {what}", list[r.place])).into(),
+        36 => vec![format!("{}: list holds ", list[r.place])],
+        37 => vec![format!("polygon {} indexes past", r.place)],
+        38 => vec![format!("polygon {}: vertex", r.place)],
+        _ => exact.iter().map(|text| text.to_string()).collect(),
+    }
+}
+
+#[test]
+fn reading() {
+    let mut rng = Rng::new(2);
+    let mut seen = BTreeMap::new();
+    for n in 0..CASES {
+        let p = pages::any(&mut rng);
+        let derived = derive(&p.system, &p.graphics);
+        *seen.entry(derived.as_ref().err().map_or(0, |r| r.number)).or_insert(0) += 1;
+        match (derived, rust_read(&p.system, &p.graphics)) {
+            (Ok(derived), RustRead::Cell(cell)) => assert_eq!(encode(&derived.cell), encode(&cell), "case {n}"),
+            (Err(Refusal { number: 40, .. }), _) => {}
+            (Err(Refusal { number: 30..=39, .. }), RustRead::NotRun) => *seen.entry(1000).or_insert(0) += 1,
+            (Err(r), RustRead::Error(text)) => {
+                let end = [37, 38, 36].contains(&r.number);
+                let same = |m: &String| if end { text.starts_with(m) } else { text == *m };
+                assert!(read_messages(r).iter().any(same), "case {n}: judged {r:?}, the Rust says {text}");
+            }
+            (derived, done) => panic!("case {n}: judged {derived:?}, the Rust {done:?}"),
+        }
+    }
+    tally("reading", &seen);
+    assert!(seen[&1000] < CASES as u32 / 10 && seen[&0] > CASES as u32 / 4);
+}
+
+/// Extent from 128 to 4096, lo and lo + extent within -16384 to 16384, on each axis:
+/// shorts survive being turned back and again.
+fn keeps_shorts(cell: &Ynv) -> bool {
+    let axis = |lo: f32, extent: f32| {
+        let near = |x: f32| (-16384.0..=16384.0).contains(&x);
+        (128.0..=4096.0).contains(&extent) && near(lo) && near(lo + extent)
+    };
+    let (lo, size) = (cell.bb_min, cell.bb_size);
+    axis(lo.x, size.x) && axis(lo.y, size.y) && axis(lo.z, size.z)
+}
+
+/// What was read is saved, read and saved again: the same bytes for such boxes.
+#[test]
+fn saved_again() {
+    let mut rng = Rng::new(3);
+    let mut rounds = 0;
+    for n in 0..CASES {
+        let p = pages::any(&mut rng);
+        let Ok(derived) = derive(&p.system, &p.graphics) else { continue };
+        if judge_write(&derived.cell).is_err() || !keeps_shorts(&derived.cell) {
+            continue;
+        }
+        let RustWrite::Bytes(first) = rust_write(&derived.cell) else { panic!("case {n}: not written") };
+        let RustRead::Cell(again) = rust_read(&first, &[]) else { panic!("case {n}: not read again") };
+        assert_eq!(rust_write(&again), RustWrite::Bytes(first), "case {n}");
+        rounds += 1;
+    }
+    println!("saved again: {rounds} pages");
+    assert!(rounds > CASES / 5);
+}
+
+#[test]
+fn strips_and_cells() {
+    let mut rng = Rng::new(4);
+    let mut seen = BTreeMap::new();
+    for _ in 0..CASES {
+        let cell = cells::wild(&mut rng);
+        let words = encode(&cell);
+        let again = scan(&words).expect("an encoded cell");
+        assert_eq!(encode(&again), words);
+        assert_eq!(counts(&again), counts(&cell));
+
+        let strip = damage::strip(&mut rng);
+        match scan(&strip) {
+            Ok(cell) => assert_eq!(encode(&cell), strip),
+            Err(place) => assert!(place <= strip.len()),
+        }
+        *seen.entry(scan(&strip).map_or(3, |_| 0)).or_insert(0) += 1;
+    }
+    tally("strips", &seen);
+
+    // Each unnamed bit by itself is refused at its record.
+    for _ in 0..200 {
+        let cell = damage::small(&mut rng);
+        let words = encode(&cell);
+        let starts = damage::records(&cell);
+        for (at, low, high) in damage::unnamed(&cell) {
+            for bit in low..high {
+                let mut bad = words.clone();
+                bad[at] |= 1 << bit;
+                let record = starts.iter().rev().find(|&&s| s <= at);
+                assert_eq!(scan(&bad).err().as_ref(), record);
+            }
+        }
+    }
+}

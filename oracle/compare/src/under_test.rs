@@ -1,0 +1,46 @@
+//! The leaf functions that are compared: the library's with the feature `lib`, else
+//! the judge's own. Floats and numbers as the C entries have them.
+
+#[cfg(feature = "lib")]
+pub use crate::ffi::{areas, back, check_strip, place, quarter, short};
+
+pub const NAME: &str = if cfg!(feature = "lib") {
+    "the library (libleaves.a)"
+} else {
+    "the judge's own functions (the library with --features lib)"
+};
+
+#[cfg(not(feature = "lib"))]
+mod own {
+    use crate::reference::one_nan;
+    use strips::{counts, scan, AreaTable, Counts, Refusal};
+
+    pub fn short(a: u32, lo: u32, extent: u32) -> u32 {
+        strips::short(f32::from_bits(a), f32::from_bits(lo), f32::from_bits(extent)) as u32
+    }
+
+    pub fn back(q: u32, lo: u32, extent: u32) -> u32 {
+        one_nan(strips::back(q as u16, f32::from_bits(lo), f32::from_bits(extent)))
+    }
+
+    pub fn quarter(x: u32, ceil: bool) -> u32 {
+        let x = f32::from_bits(x);
+        let side = if ceil { strips::quarter_ceil(x) } else { strips::quarter_floor(x) };
+        side as u16 as u32
+    }
+
+    pub fn areas(own: u32, ids: &[u32]) -> (usize, AreaTable) {
+        strips::areas(own, ids)
+    }
+
+    pub fn place(end: u32, size: u32) -> u64 {
+        strips::place(end as u64, size as u64)
+    }
+
+    pub fn check_strip(strip: &[u32]) -> Result<Counts, Refusal> {
+        scan(strip).map(|cell| counts(&cell)).map_err(|place| Refusal::new(3, place))
+    }
+}
+
+#[cfg(not(feature = "lib"))]
+pub use own::*;

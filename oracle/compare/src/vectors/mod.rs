@@ -1,0 +1,47 @@
+//! The list of vectors that a program without Rust replays: 32-bit little-endian words,
+//! records `[tag, n_in, n_out, in.., out..]`, the last one `[0, 0, 0]`. One module per
+//! group of tags; `all` names them in the list's order.
+
+mod areas;
+mod places;
+mod quarters;
+mod shorts;
+mod strip;
+
+/// No list is longer.
+pub const MOST_BYTES: usize = 100_000;
+
+#[derive(Default)]
+pub struct Vectors {
+    words: Vec<u32>,
+    /// Records of each tag, in the list's order.
+    pub counts: Vec<(u32, usize)>,
+}
+
+impl Vectors {
+    fn add(&mut self, tag: u32, input: &[u32], output: &[u32]) {
+        self.words.extend([tag, input.len() as u32, output.len() as u32]);
+        self.words.extend_from_slice(input);
+        self.words.extend_from_slice(output);
+        match self.counts.iter_mut().find(|(t, _)| *t == tag) {
+            Some((_, count)) => *count += 1,
+            None => self.counts.push((tag, 1)),
+        }
+    }
+
+    /// The list as bytes, its last record added.
+    pub fn bytes(&self) -> Vec<u8> {
+        self.words.iter().chain(&[0, 0, 0]).flat_map(|w| w.to_le_bytes()).collect()
+    }
+}
+
+pub fn all() -> Vectors {
+    let mut out = Vectors::default();
+    shorts::shorts(&mut out);
+    shorts::backs(&mut out);
+    quarters::quarters(&mut out);
+    areas::areas(&mut out);
+    places::places(&mut out);
+    strip::strips(&mut out);
+    out
+}
