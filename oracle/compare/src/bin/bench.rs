@@ -1,6 +1,8 @@
 //! Times the library against the Rust on the same inputs and by the same driver:
-//! quantising 10^6 vertices, numbering 65,536 distinct ones. Median of the runs, the
-//! two sides in turn. Prints a markdown table.
+//! quantising 10^6 vertices, numbering 65,536 distinct ones. Median and least of the
+//! runs, the two sides in turn. Prints a markdown table. No buffer is cleared between
+//! runs; the library's work holds what its last run left, and clearing its table is part
+//! of the call, as making the map is on the other side.
 
 use std::collections::HashMap;
 use std::hint::black_box;
@@ -15,7 +17,7 @@ const VERTICES: usize = 1_000_000;
 const DISTINCT: usize = 65_536;
 
 /// `serialize_ynv`'s closure, word for word, over strip words.
-fn rust_quantise(strip: &[u32], bounds: &[u32; 6], out: &mut [u32]) -> u64 {
+fn rust_quantise(strip: &[u32], bounds: &[u32; 6], out: &mut [u32]) -> usize {
     let bb_min = Vec3::new(f32::from_bits(bounds[0]), f32::from_bits(bounds[1]), f32::from_bits(bounds[2]));
     let size = Vec3::new(f32::from_bits(bounds[3]), f32::from_bits(bounds[4]), f32::from_bits(bounds[5]));
     let quantise = |v: Vec3| -> [u16; 3] {
@@ -38,7 +40,7 @@ fn rust_quantise(strip: &[u32], bounds: &[u32; 6], out: &mut [u32]) -> u64 {
 }
 
 /// `serialize_ynv`'s vertex table.
-fn rust_number(triples: &[u32], out: &mut [u32]) -> u64 {
+fn rust_number(triples: &[u32], out: &mut [u32]) -> usize {
     let mut vertex_index: HashMap<[u16; 3], u16> = HashMap::new();
     let mut vertices: Vec<[u16; 3]> = Vec::new();
     for (t, to) in triples.chunks_exact(2).zip(out) {
@@ -55,22 +57,35 @@ fn rust_number(triples: &[u32], out: &mut [u32]) -> u64 {
         };
         *to = index as u32;
     }
-    vertices.len() as u64
+    vertices.len()
 }
 
-/// Nanoseconds per item of both sides: medians of runs that take turns. The results
-/// must be equal.
+/// Nanoseconds per item: median and least.
+struct Times {
+    median: f64,
+    least: f64,
+}
+
+impl Times {
+    fn of(mut runs: Vec<f64>) -> Times {
+        runs.sort_by(f64::total_cmp);
+        Times { median: runs[runs.len() / 2], least: runs[0] }
+    }
+}
+
+/// Both sides on buffers of these lengths, in turn. What they count and the first words
+/// of the buffers must be equal.
 fn race(
     items: usize,
-    out_len: usize,
-    mut rust: impl FnMut(&mut [u32]) -> u64,
-    mut ours: impl FnMut(&mut [u32]) -> u64,
-) -> (f64, f64) {
-    let (mut a, mut b) = (vec![0; out_len], vec![0; out_len]);
+    lengths: (usize, usize),
+    mut rust: impl FnMut(&mut [u32]) -> usize,
+    mut ours: impl FnMut(&mut [u32]) -> usize,
+) -> (Times, Times) {
+    let (mut a, mut b) = (vec![0; lengths.0], vec![0; lengths.1]);
     assert_eq!(rust(&mut a), ours(&mut b), "counts differ");
-    assert!(a == b, "results differ");
+    assert!(a[..] == b[..lengths.0], "results differ");
     let (mut rust_times, mut our_times) = (Vec::new(), Vec::new());
-    let time = |run: &mut dyn FnMut(&mut [u32]) -> u64, out: &mut [u32]| {
+    let time = |run: &mut dyn FnMut(&mut [u32]) -> usize, out: &mut [u32]| {
         let start = Instant::now();
         black_box(run(black_box(out)));
         start.elapsed().as_nanos() as f64 / items as f64
@@ -79,16 +94,19 @@ fn race(
         rust_times.push(time(&mut rust, &mut a));
         our_times.push(time(&mut ours, &mut b));
     }
-    (median(rust_times), median(our_times))
+    (Times::of(rust_times), Times::of(our_times))
 }
 
-fn median(mut times: Vec<f64>) -> f64 {
-    times.sort_by(f64::total_cmp);
-    times[times.len() / 2]
-}
-
-fn row(name: &str, items: usize, (rust, ours): (f64, f64)) {
-    println!("| {name} | {items} | {rust:.2} | {ours:.2} | {:.2} |", ours / rust);
+fn row(name: &str, items: usize, (rust, ours): (Times, Times)) {
+    println!(
+        "| {name} | {items} | {:.2} | {:.2} | {:.2} | {:.2} | {:.2} | {:.2} |",
+        ours.median,
+        rust.median,
+        ours.median / rust.median,
+        ours.least,
+        rust.least,
+        ours.least / rust.least
+    );
 }
 
 fn quantise() {
@@ -102,7 +120,7 @@ fn quantise() {
         .collect();
     let times = race(
         VERTICES,
-        strip.len(),
+        (strip.len(), strip.len()),
         |out| rust_quantise(&strip, &bounds, out),
         |out| ffi::quantise_all(&strip, &bounds, out),
     );
@@ -124,16 +142,17 @@ fn number() {
     let line: Vec<[u16; 3]> = (0..DISTINCT).map(|n| [n as u16, 7, 7]).collect();
     for (name, triples) in [("number, random", random), ("number, 256 × 256 grid", grid), ("number, a line", line)] {
         let words: Vec<u32> = triples.iter().flat_map(|t| [t[0] as u32 | (t[1] as u32) << 16, t[2] as u32]).collect();
-        let mut work = vec![0; ffi::number_work(DISTINCT)];
-        let times =
-            race(DISTINCT, DISTINCT, |out| rust_number(&words, out), |out| ffi::number_all(&words, &mut work, out));
+        let lengths = (DISTINCT, ffi::number_work(DISTINCT));
+        let times = race(DISTINCT, lengths, |out| rust_number(&words, out), |work| ffi::number_all(&words, work));
         row(name, DISTINCT, times);
     }
 }
 
 fn main() {
-    println!("| call | items | Rust, ns per item | ours, ns per item | ours / Rust |");
-    println!("|---|---|---|---|---|");
+    println!("Nanoseconds per item, of {RUNS} runs.");
+    println!();
+    println!("| call | items | ours, median | Rust, median | ours / Rust | ours, least | Rust, least | ours / Rust |");
+    println!("|---|---|---|---|---|---|---|---|");
     quantise();
     number();
 }

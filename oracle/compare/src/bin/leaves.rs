@@ -263,7 +263,7 @@ fn whole_lists() -> u64 {
         let mut out = vec![0; words.len()];
         let done = ffi::quantise_all(&words, &bounds, &mut out);
         let rust: Vec<u32> = reference::shorts(lo, extent, &vertices).into_iter().flatten().map(|q| q as u32).collect();
-        quantise.compare((&words, bounds), (done, out), (vertices.len() as u64, rust));
+        quantise.compare((&words, bounds), (done, out), (vertices.len(), rust));
     }
     let mut number = Tally::new("number_all");
     for n in 0..2_000 {
@@ -280,9 +280,8 @@ fn whole_lists() -> u64 {
             .collect();
         let words: Vec<u32> = triples.iter().flat_map(|t| [t[0] as u32 + 65536 * t[1] as u32, t[2] as u32]).collect();
         let mut work = vec![0xDEAD_BEEF; ffi::number_work(count)];
-        let mut out = vec![0; count];
-        let distinct = ffi::number_all(&words, &mut work, &mut out);
-        number.compare(count, (distinct, out), (seen.len() as u64, rust));
+        let distinct = ffi::number_all(&words, &mut work);
+        number.compare(count, (distinct, &work[..count]), (seen.len(), &rust[..]));
     }
     quantise.done() + number.done()
 }

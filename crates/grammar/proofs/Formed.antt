@@ -1,0 +1,307 @@
+-- A derived strip is well formed: the cell that two sections of bytes make is in range, no coordinate in it is a NaN, and its polygons have
+-- as many edges as vertices and at most 7 links. Assumes nothing.
+use mathlib.Core.Path.{_≡_, refl, sym, ap, _∙_}
+use mathlib.Core.Bool.{Bool, true, false, not, cond}
+use mathlib.Core.List.{List, [], _∷_, _++_, map}
+use Prim.Native.Nat.{ℕ, _+_, _*_, _/_, _%_, _^_, _≤_, _<_}
+use native.Mathlib.Nat.{min-le-left}
+use native.Mathlib.Omega.{arith}
+use lib.Dec.{T, leb, ltb}
+use lib.ListN.{length, take, drop, getD, length-take, length-drop, length-map}
+use lib.Seq.{length-take-le}
+use lib.Ieee.{Float, binary32, ofBits, isNan, fits}
+use lib.Ieee.Scale.{finite}
+use lib.Ieee.Fits.{add-fits}
+use lib.Ieee.Bits.{ofBits-toBits, toBits-lt}
+use borrow.Author.Tests.{lt-ltb}
+use Rattle.fields.specs.Bytes.{le}
+use Rattle.fields.specs.Rows.{field}
+use Rattle.fields.proofs.Bytes.{le-lt}
+use Rattle.fields.proofs.Rows.{pack-lt}
+use Rattle.math.proofs.Finite.{finite-bits}
+use Rattle.quantise.specs.Short.{coordinate}
+use Rattle.quantise.proofs.Numbers.{coordinate-number}
+use Rattle.areas.specs.EdgeHalf as EdgeHalf
+use Rattle.resource.specs.Section.{resolved}
+use Rattle.strip.specs.Cell.{Vec3, Polygon, Portal, Point, Head, Cell, All, HalfFits, EdgeFits, PolygonFits, PortalFits, PointFits, Fits, Words, InRange, each, vecWords, halfWords, edgeWords, polygonHeadAs, polygonWordsAs, polygonWords, portalWords, pointWords, headWords, endWords, encodeAs, encode}
+use Rattle.strip.specs.Scan.{Scanned, scan}
+use Rattle.strip.proofs.Exact.{scan-fits}
+use Rattle.grammar.specs.Parts.{cut}
+use Rattle.grammar.specs.Polygons.{halfOf, edgeOf, vertexOf, linksAt, linkRun, countOf, startOf, runOf, PolygonOf}
+use Rattle.grammar.specs.Derives.{areaOf, vecOf, Finite, AllFinite, headOf, axis, backOf, portalOf, pointOf, Makes, Derives}
+use Rattle.grammar.specs.Formed.{Bytes, AllNumbers, Ends, Positions, Shaped}
+use Rattle.grammar.proofs.Runs.{all-take, all-drop, all-append, all-at, all-map, all-imply, all-images, all-each, each-all}
+use Rattle.grammar.proofs.Bytes.{bytes-none, bytes-cut, bytes-resolved, bytes-good, bytes-array, bytes-items, bytes-trees}
+
+abbrev Word : ℕ → Type 0
+Word w = w < 2 ^ 32
+
+abbrev Short : ℕ → Type 0
+Short w = w < 2 ^ 16
+
+-- ---- a short turned back
+
+coordinate-fits : (q : ℕ) (lo extent : Float) → T (fits binary32 (coordinate q lo extent))
+unfolding coordinate
+coordinate-fits q lo extent = add-fits binary32 lo _
+
+axis-word : (q lo extent : ℕ) → Word (axis q lo extent)
+unfolding axis
+axis-word q lo extent = toBits-lt binary32 _ (coordinate-fits q (ofBits binary32 lo) (ofBits binary32 extent))
+
+of-finite : (b : ℕ) → Finite b → T (finite (ofBits binary32 b))
+of-finite b h = rw (finite-bits b, lt-ltb (b % 2 ^ 31) 0x7F80_0000 h) tt
+
+is-number : (b : Bool) → T (not b) → b ≡ false
+is-number true t = absurd t
+is-number false t = refl
+
+-- on a finite axis it is the bits of a number
+pub axis-number : (q lo extent : ℕ) → q < 65536 → Finite lo → Finite extent → isNan (ofBits binary32 (axis q lo extent)) ≡ false
+unfolding axis
+axis-number q lo extent h l e =
+    let x : Float = coordinate q (ofBits binary32 lo) (ofBits binary32 extent) in
+    ap isNan (ofBits-toBits binary32 x (coordinate-fits q (ofBits binary32 lo) (ofBits binary32 extent)))
+    ∙ is-number (isNan x) (coordinate-number q (ofBits binary32 lo) (ofBits binary32 extent) (omega arith) (of-finite lo l) (of-finite extent e))
+
+back-words : (h : Head) (x y z : ℕ) → Words (vecWords (backOf h x y z))
+unfolding vecWords backOf
+back-words h x y z =
+    (axis-word x (h .bb-min .x) (h .bb-size .x), (axis-word y (h .bb-min .y) (h .bb-size .y), (axis-word z (h .bb-min .z) (h .bb-size .z), tt)))
+
+back-numbers : (h : Head) → AllFinite (h .bb-min) → AllFinite (h .bb-size) → (x y z : ℕ) → Short x → Short y → Short z → AllNumbers (backOf h x y z)
+unfolding backOf
+back-numbers h l e x y z hx hy hz =
+    record { x = axis-number x _ _ hx (l .x) (e .x); y = axis-number y _ _ hy (l .y) (e .y); z = axis-number z _ _ hz (l .z) (e .z) }
+
+-- ---- every position, where P holds of what shorts are turned back to
+
+module _ (P : Vec3 → Type 0) (back : ℕ → ℕ → ℕ → Vec3) (good : (x y z : ℕ) → Short x → Short y → Short z → P (back x y z)) where
+  at-bytes : (b : List ℕ) (i j k : ℕ) → Bytes b → P (back (le 2 b i) (le 2 b j) (le 2 b k))
+  at-bytes b i j k h = good _ _ _ (le-lt 2 b i h) (le-lt 2 b j h) (le-lt 2 b k h)
+
+  vertices-have : {vs is es : List (List ℕ)} {ls : List ℕ} {area : ℕ → ℕ} → All Bytes vs → {b : List ℕ} {p : Polygon}
+      → PolygonOf vs is es ls area back b p → All P (p .vertices)
+  unfolding vertexOf
+  vertices-have {vs} {is} h {b} f = rw (f .vertices-are) (each-item (runOf b is))
+    where
+      each-item : (l : List (List ℕ)) → All P (map (λ i. back (le 2 (getD vs (le 2 i 0) []) 0) (le 2 (getD vs (le 2 i 0) []) 2) (le 2 (getD vs (le 2 i 0) []) 4)) l)
+      each-item [] = tt
+      each-item (i ∷ l) = (at-bytes (getD vs (le 2 i 0) []) 0 2 4 (all-at Bytes vs (le 2 i 0) [] h bytes-none), each-item l)
+
+  ends-have : (b : List ℕ) → Bytes b → Ends P (portalOf back b)
+  unfolding portalOf
+  ends-have b h = record { from = at-bytes b 4 6 8 h; to = at-bytes b 10 12 14 h }
+
+  point-has : (b : List ℕ) → Bytes b → P (pointOf back b .position)
+  unfolding pointOf
+  point-has b h = at-bytes b 0 2 4 h
+
+-- ---- a polygon
+
+run-most : (table : List ℕ) (start n : ℕ) → length (linkRun table start n) ≤ n
+unfolding linkRun
+run-most table start n = by (leb (start + n) (length table))
+  where
+    by : (b : Bool) → length (cond b (take n (drop start table)) []) ≤ n
+    by true = omega (arith, length-take n (drop start table), min-le-left n (length (drop start table)))
+    by false = omega arith
+
+run-shorts : (table : List ℕ) (start n : ℕ) → All Short table → All Short (linkRun table start n)
+unfolding linkRun
+run-shorts table start n h = by (leb (start + n) (length table))
+  where
+    by : (b : Bool) → All Short (cond b (take n (drop start table)) [])
+    by true = all-take Short n (drop start table) (all-drop Short start table h)
+    by false = tt
+
+half-fits : (area : ℕ → ℕ) (w : ℕ) → HalfFits (halfOf area w)
+unfolding halfOf
+half-fits area w = record { unk3 = omega arith; unk2 = omega arith }
+
+edge-fits : (area : ℕ → ℕ) (b : List ℕ) → EdgeFits (edgeOf area b)
+unfolding edgeOf
+edge-fits area b = record { a = half-fits area (le 4 b 0); b = half-fits area (le 4 b 4) }
+
+half-words : (area : ℕ → ℕ) → ((i : ℕ) → Word (area i)) → (w : ℕ) → Words (halfWords (halfOf area w))
+unfolding halfOf halfWords
+half-words area h w = (h _, (omega arith, (omega arith, tt)))
+
+edge-words : (area : ℕ → ℕ) → ((i : ℕ) → Word (area i)) → (b : List ℕ) → Words (edgeWords (edgeOf area b))
+unfolding edgeOf edgeWords
+edge-words area h b = all-append Word (halfWords (halfOf area (le 4 b 0))) (halfWords (halfOf area (le 4 b 4))) (half-words area h (le 4 b 0)) (half-words area h (le 4 b 4))
+
+abbrev WordVec : Vec3 → Type 0
+WordVec v = Words (vecWords v)
+
+module _ {vs is es : List (List ℕ)} {ls : List ℕ} {area : ℕ → ℕ} {back : ℕ → ℕ → ℕ → Vec3} {b : List ℕ} {p : Polygon} (h : Bytes b) (f : PolygonOf vs is es ls area back b p) where
+  run-length : (items : List (List ℕ)) → startOf b + countOf b ≤ length items → length (runOf b items) ≡ countOf b
+  run-length items room = length-take-le (countOf b) (drop (startOf b) items) (rw length-drop (omega arith))
+
+  vertex-count : length (p .vertices) ≡ countOf b
+  vertex-count = ap length (f .vertices-are) ∙ length-map (runOf b is) (λ i. vertexOf back (getD vs (le 2 i 0) [])) ∙ run-length is (f .in-indices)
+
+  edge-count : length (p .edges) ≡ countOf b
+  edge-count = ap length (f .edges-are) ∙ length-map (runOf b es) (edgeOf area) ∙ run-length es (f .in-edges)
+
+  link-count : length (p .links) ≤ 7
+  link-count = rw (f .links-are) (omega (arith, run-most ls (field 15 17 (le 4 b 0x2C)) (field 12 3 (le 4 b 0x2C))))
+
+  polygon-shaped : Shaped p
+  polygon-shaped = record { edges = edge-count ∙ sym vertex-count; few-vertices = omega (arith, vertex-count); few-links = link-count }
+
+  polygon-fits : All Short ls → PolygonFits p
+  polygon-fits shorts =
+      record {
+        vertex-count = omega (arith, vertex-count);
+        edge-count = omega (arith, edge-count);
+        link-count = omega (arith, link-count);
+        flags0 = rw (f .flags0) (le-lt 2 b 0 h);
+        links = rw (f .links-are) (run-shorts ls (field 15 17 (le 4 b 0x2C)) (field 12 3 (le 4 b 0x2C)) shorts);
+        edges = rw (f .edges-are) (all-images EdgeFits (edgeOf area) (edge-fits area) (runOf b es));
+      }
+
+  polygon-words : All Short ls → ((i : ℕ) → Word (area i)) → All WordVec (p .vertices) → Words (polygonWords p)
+  unfolding polygonWordsAs polygonHeadAs
+  polygon-words shorts areas vertices =
+      let fits = polygon-fits shorts in
+      let links : Words (p .links) = all-imply Short Word (λ w l. omega arith) (p .links) (fits .links) in
+      let vertices-words : Words (each vecWords (p .vertices)) = all-each Word vecWords (p .vertices) vertices in
+      let edges : All (λ e. Words (edgeWords e)) (p .edges) = rw (f .edges-are) (all-images (λ e. Words (edgeWords e)) (edgeOf area) (edge-words area areas) (runOf b es)) in
+      let front = all-append Word (p .links) (each vecWords (p .vertices)) links vertices-words in
+      let rest = all-append Word (p .links ++ each vecWords (p .vertices)) (each edgeWords (p .edges)) front (all-each Word edgeWords (p .edges) edges) in
+      let first = pack-lt ((12, length (p .vertices)) ∷ (12, length (p .edges)) ∷ (4, length (p .links)) ∷ (4, 2) ∷ []) in
+      (first, (omega (arith, fits .flags0), (rw (f .flags1) (le-lt 4 b 0x24 h), (rw (f .flags2) (le-lt 4 b 0x28 h), rest))))
+
+-- ---- portals and points
+
+module _ (back : ℕ → ℕ → ℕ → Vec3) (b : List ℕ) (h : Bytes b) where
+  portal-fits : PortalFits (portalOf back b)
+  unfolding portalOf
+  portal-fits =
+      record {
+        kind = le-lt 1 b 0 h;
+        angle = le-lt 1 b 1 h;
+        flags-unk = le-lt 2 b 2 h;
+        poly-from = le-lt 2 b 16 h;
+        area-from = omega arith;
+        area-unk = omega arith;
+      }
+
+  point-fits : PointFits (pointOf back b)
+  unfolding pointOf
+  point-fits = record { angle = le-lt 1 b 6 h; kind = le-lt 1 b 7 h }
+
+  module _ (good : (x y z : ℕ) → WordVec (back x y z)) where
+    portal-words : Words (portalWords (portalOf back b))
+    unfolding portalOf portalWords
+    portal-words =
+        let from = back (le 2 b 4) (le 2 b 6) (le 2 b 8) in
+        let to = back (le 2 b 10) (le 2 b 12) (le 2 b 14) in
+        let first = pack-lt ((8, le 1 b 0) ∷ (8, le 1 b 1) ∷ (12, 0) ∷ (4, 3) ∷ []) in
+        let ends = all-append Word (vecWords from) (vecWords to) (good _ _ _) (good _ _ _) in
+        (first, (omega (arith, le-lt 2 b 2 h), all-append Word (vecWords from ++ vecWords to) _ ends (omega (arith, le-lt 2 b 16 h, le-lt 2 b 20 h), (omega arith, (omega arith, tt)))))
+
+    point-words : Words (pointWords (pointOf back b))
+    unfolding pointOf pointWords
+    point-words = (pack-lt ((8, le 1 b 6) ∷ (8, le 1 b 7) ∷ (12, 0) ∷ (4, 4) ∷ []), good (le 2 b 0) (le 2 b 2) (le 2 b 4))
+
+-- ---- the cell
+
+vec-words : (b : List ℕ) (off : ℕ) → Bytes b → WordVec (vecOf b off)
+unfolding vecOf vecWords
+vec-words b off h = (le-lt 4 b off h, (le-lt 4 b (off + 4) h, (le-lt 4 b (off + 8) h, tt)))
+
+head-words : (header root : List ℕ) → Bytes header → Bytes root → Words (headWords (headOf header root))
+unfolding headOf headWords
+head-words header root h r =
+    let box = all-append Word (vecWords (vecOf root 0)) (vecWords (vecOf root 16)) (vec-words root 0 r) (vec-words root 16 r) in
+    let rest = all-append Word (vecWords (vecOf root 0) ++ vecWords (vecOf root 16)) (vecWords (vecOf header 0x60)) box (vec-words header 0x60 h) in
+    (pack-lt ((28, 0) ∷ (4, 1) ∷ []), (le-lt 4 header 0x10 h, (le-lt 4 header 0x140 h, (le-lt 4 header 0x160 h, (le-lt 4 header 0 h, rest)))))
+
+area-word : (header : List ℕ) → Bytes header → (i : ℕ) → Word (areaOf header i)
+unfolding areaOf
+area-word header h i = by (ltb i (le 4 header 0x94))
+  where
+    by : (b : Bool) → Word (cond b (le 4 header (0x98 + 4 * i)) 16383)
+    by true = le-lt 4 header (0x98 + 4 * i) h
+    by false = omega arith
+
+module _ (system graphics : List ℕ) (sb : Bytes system) (gb : Bytes graphics) where
+  links-short : (va n : ℕ) → All Short (linksAt system graphics va n)
+  unfolding linksAt
+  links-short va n =
+      all-map Short Bytes (λ b. le 2 b 0) (λ b h. le-lt 2 b 0 h) (cut 2 (length (resolved system graphics va (2 * n)) / 2) (resolved system graphics va (2 * n)))
+      (bytes-cut 2 _ _ (bytes-resolved system graphics sb gb va (2 * n)))
+
+  module _ {sectors : ℕ} {c : Cell} (m : Makes system graphics sectors c) where
+    abbrev back : ℕ → ℕ → ℕ → Vec3
+    back = backOf (c .head)
+
+    abbrev links : List ℕ
+    links = linksAt system graphics (le 8 (m .header) 0x130) (le 4 (m .header) 0x150)
+
+    -- what holds of every item made from bytes holds of all the cell's
+    polygons-have : (Q : Polygon → Type 0) → ((b : List ℕ) (p : Polygon) → Bytes b → PolygonOf (m .vertices) (m .indices) (m .edges) links (areaOf (m .header)) back b p → Q p)
+        → All Q (c .polys)
+    polygons-have Q good = each-all Bytes Q good (bytes-items system graphics sb gb (m .polygon-list)) (m .polygons-are)
+
+    portals-have : (Q : Portal → Type 0) → ((b : List ℕ) → Bytes b → Q (portalOf back b)) → All Q (c .portals)
+    portals-have Q good = rw (m .portals-are) (all-map Q Bytes (portalOf back) good (m .portals) (bytes-array system graphics sb gb (m .portal-list)))
+
+    points-have : (Q : Point → Type 0) → ((b : List ℕ) → Bytes b → Q (pointOf back b)) → All Q (c .points)
+    points-have Q good = rw (m .points-are) (all-map Q Bytes (pointOf back) good (m .points) (bytes-trees system graphics sb gb (m .tree)))
+
+    positions : (P : Vec3 → Type 0) → ((x y z : ℕ) → Short x → Short y → Short z → P (back x y z)) → Positions P c
+    positions P good = record {
+      polys = polygons-have (λ p. All P (p .vertices)) (λ b p h f. vertices-have P back good (bytes-items system graphics sb gb (m .vertex-list)) f);
+      portals = portals-have (Ends P) (ends-have P back good);
+      points = points-have (λ t. P (t .position)) (point-has P back good);
+    }
+
+    -- no NaN is computed into a cell
+    pub makes-numbers : Positions AllNumbers c
+    makes-numbers = positions AllNumbers (back-numbers (c .head) (m .min-finite) (m .size-finite))
+
+    pub makes-shaped : All Shaped (c .polys)
+    makes-shaped = polygons-have Shaped (λ b p h f. polygon-shaped h f)
+
+    short-links : All Short links
+    short-links = links-short (le 8 (m .header) 0x130) (le 4 (m .header) 0x150)
+
+    makes-fits : Fits c
+    makes-fits = record {
+      polys = polygons-have PolygonFits (λ b p h f. polygon-fits h f short-links);
+      portals = portals-have PortalFits (portal-fits back);
+      points = points-have PointFits (point-fits back);
+    }
+
+    makes-words : Words (encode c)
+    unfolding encodeAs
+    makes-words =
+        let header-bytes = bytes-good system graphics sb gb (m .header-good) in
+        let head : Words (headWords (c .head)) = rw (m .head-is) (head-words (m .header) (m .root) header-bytes (bytes-good system graphics sb gb (m .root-good))) in
+        let vectors = back-words (c .head) in
+        let vertices : (b : List ℕ) (p : Polygon) → PolygonOf (m .vertices) (m .indices) (m .edges) links (areaOf (m .header)) back b p → All WordVec (p .vertices) =
+        λ b p f. vertices-have WordVec back (λ x y z hx hy hz. vectors x y z) (bytes-items system graphics sb gb (m .vertex-list)) f in
+        let polys = polygons-have (λ p. Words (polygonWords p)) (λ b p h f. polygon-words h f short-links (area-word (m .header) header-bytes) (vertices b p f)) in
+        let portals = portals-have (λ p. Words (portalWords p)) (λ b h. portal-words back b h vectors) in
+        let points = points-have (λ t. Words (pointWords t)) (λ b h. point-words back b h vectors) in
+        let s₁ = headWords (c .head) in
+        let s₂ = s₁ ++ each polygonWords (c .polys) in
+        let s₃ = s₂ ++ each portalWords (c .portals) in
+        let s₄ = s₃ ++ each pointWords (c .points) in
+        let h₂ : Words s₂ = all-append Word s₁ (each polygonWords (c .polys)) head (all-each Word polygonWords (c .polys) polys) in
+        let h₃ : Words s₃ = all-append Word s₂ (each portalWords (c .portals)) h₂ (all-each Word portalWords (c .portals) portals) in
+        let h₄ : Words s₄ = all-append Word s₃ (each pointWords (c .points)) h₃ (all-each Word pointWords (c .points) points) in
+        all-append Word s₄ endWords h₄ (pack-lt ((28, 0) ∷ (4, 5) ∷ []), tt)
+
+    pub makes-in-range : InRange c
+    makes-in-range = record { fits = makes-fits; words = makes-words }
+
+  -- A derived strip is of words and well formed, and stands for the cell that the sections make.
+  pub derived-words : {w : List ℕ} → Derives system graphics w → Words w
+  derived-words d = rw (d .strip) (makes-words (d .makes))
+
+  pub derived-scans : {w : List ℕ} (d : Derives system graphics w) → scan w ≡ Scanned.ok (d .cell)
+  derived-scans {w} d = scan-fits w (d .cell) .1 (makes-fits (d .makes), sym (d .strip))

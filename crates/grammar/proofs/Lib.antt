@@ -1,0 +1,6 @@
+pub mod Unique
+pub mod Runs
+pub mod Parts
+pub mod Bytes
+pub mod Formed
+pub mod Examples

@@ -1,0 +1,103 @@
+-- Positions turned back: records whose positions are shorts become those whose positions are the coordinates, in whatever box.
+use Prim.Native.Nat.{ℕ, suc, _+_, _-_, _*_, _/_, _%_, _≤_, _<_}
+use native.Mathlib.Nat.{mod-eq-of-lt}
+use native.Mathlib.Omega.{arith}
+use mathlib.Core.Path.{_≡_, sym, ap, _∙_}
+use mathlib.Core.List.{List, [], _∷_, _++_}
+use lib.ListN.{length, getD, set}
+use lib.Ieee.{binary32, ofBits}
+use Rattle.fields.specs.Bytes.{le, over, put}
+use Rattle.fields.proofs.Puts.{length-put, put-next, put-inside, stored}
+use Rattle.math.specs.declared.vec3.Vec3 as Floats
+use Rattle.strip.specs.Cell.{Vec3, Head, All, vecWords, pointWords}
+use Rattle.grammar.specs.Derives.{pointOf, axis, backOf}
+use Rattle.sector_tree.specs.Walk.{Walked}
+use Rattle.sector_tree.specs.declared.Spot.{Spot}
+use Rattle.sector_tree.specs.Write.{asShorts, axisBits, backBy, pointsWords, pointsIn, Fits, Written, turnedAt, turned}
+use Rattle.sector_tree.proofs.Shorts.{Shorts}
+use Rattle.sector_tree.proofs.Stores.{three-put, words-cons, words-next, put-none, length-point}
+
+-- a box whose numbers are floats of a head's bits turns shorts back as the grammar does
+abbrev pub floatsOf : Vec3 → Floats.Vec3
+floatsOf v = record { x = ofBits binary32 (v .x); y = ofBits binary32 (v .y); z = ofBits binary32 (v .z) }
+
+pub back-is : (h : Head) {lo size : Floats.Vec3} → lo ≡ floatsOf (h .bb-min) → size ≡ floatsOf (h .bb-size) → backBy lo size ≡ backOf h
+unfolding backBy backOf axis axisBits
+back-is h e f = rw (e, f)
+
+module _ (lo size : Floats.Vec3) where
+  -- the record at a place, whatever follows it
+  record-turned : (at h x y z : ℕ) (rest old : List ℕ) → at + 4 ≤ length old
+      → turnedAt lo size at (put at (h ∷ x ∷ y ∷ z ∷ rest) old)
+      ≡ put at (h ∷ axisBits (x % 65536) (lo .x) (size .x) ∷ axisBits (y % 65536) (lo .y) (size .y) ∷ axisBits (z % 65536) (lo .z) (size .z) ∷ rest) old
+  unfolding turnedAt put over
+  record-turned at h x y z rest old room =
+      let rec : List ℕ = h ∷ x ∷ y ∷ z ∷ rest in
+      rw (stored at rec old 1 (omega arith) (omega arith), stored at rec old 2 (omega arith) (omega arith), stored at rec old 3 (omega arith) (omega arith))
+      (put-inside at 1 _ rec old (omega arith))
+
+  point-turned : (at : ℕ) (p : List ℕ) (rest old : List ℕ) → Shorts p → at + 4 ≤ length old
+      → turnedAt lo size at (put at (pointWords (pointOf asShorts p) ++ rest) old) ≡ put at (pointWords (pointOf (backBy lo size) p) ++ rest) old
+  unfolding pointWords pointOf vecWords asShorts backBy
+  point-turned at p rest old (x, y, z) room =
+      record-turned at _ (le 2 p 0) (le 2 p 2) (le 2 p 4) rest old room ∙ rw (mod-eq-of-lt x, mod-eq-of-lt y, mod-eq-of-lt z)
+
+  first-turned : (at : ℕ) (p : List ℕ) (ps : List (List ℕ)) (old : List ℕ) → Shorts p → at + 4 ≤ length old
+      → turnedAt lo size at (put at (pointsWords asShorts (p ∷ ps)) old) ≡ put (at + 4) (pointsWords asShorts ps) (put at (pointWords (pointOf (backBy lo size) p)) old)
+  first-turned at p ps old q room =
+      ap (λ (ws : List ℕ). turnedAt lo size at (put at ws old)) (words-cons asShorts p ps)
+      ∙ point-turned at p (pointsWords asShorts ps) old q room
+      ∙ sym (put-next 4 at (pointWords (pointOf (backBy lo size) p)) (pointsWords asShorts ps) old (length-point (backBy lo size) p))
+
+  pub points-turned : (ps : List (List ℕ)) (at : ℕ) (old : List ℕ) → All Shorts ps → at + 4 * length ps ≤ length old
+      → turned lo size (length ps) at (put at (pointsWords asShorts ps) old) ≡ put at (pointsWords (backBy lo size) ps) old
+  unfolding turned
+  points-turned [] at old q room = put-none asShorts at old ∙ sym (put-none (backBy lo size) at old)
+  points-turned (p ∷ ps) at old q room =
+      let old' = put at (pointWords (pointOf (backBy lo size) p)) old in
+      let room' : at + 4 + 4 * length ps ≤ length old' = rw length-put (omega arith) in
+      ap (turned lo size (length ps) (at + 4)) (first-turned at p ps old (q .0) (omega arith)) ∙ points-turned ps (at + 4) old' (q .1) room' ∙ words-next (backBy lo size) at p ps old
+
+  -- the code's stores
+  pub turn-put : (at : ℕ) (s : List ℕ) {x y z : ℕ} → x ≡ axisBits (getD s (at + 1) 0 % 65536) (lo .x) (size .x) → y ≡ axisBits (getD s (at + 2) 0 % 65536) (lo .y) (size .y)
+      → z ≡ axisBits (getD s (at + 3) 0 % 65536) (lo .z) (size .z) → set (set (set s (at + 1) x) (at + 2) y) (at + 3) z ≡ turnedAt lo size at s
+  unfolding turnedAt
+  turn-put at s {x} {y} {z} ex ey ez = rw (← ex, ← ey, ← ez) (three-put at x y z s)
+
+  -- one turn of the loop
+  pub turned-more : (n i at : ℕ) (s : List ℕ) {t : List ℕ} → i < n → t ≡ turnedAt lo size (at + 4 * i) s
+      → turned lo size (n - (i + 1)) (at + 4 * (i + 1)) t ≡ turned lo size (n - i) (at + 4 * i) s
+  unfolding turned
+  turned-more n i at s h e =
+      let f : n - i ≡ suc (n - (i + 1)) = omega arith in
+      let g : at + 4 * (i + 1) ≡ at + 4 * i + 4 = omega arith in
+      rw (e, f, g)
+
+  pub turned-start : (n i at : ℕ) (s : List ℕ) → i ≡ 0 → turned lo size (n - i) (at + 4 * i) s ≡ turned lo size n at s
+  turned-start n i at s e =
+      let a : at + 4 * i ≡ at = omega arith in
+      let b : n - i ≡ n = omega arith in
+      rw (a, b)
+
+  pub turned-end : (n i at : ℕ) (s : List ℕ) → i ≡ n → turned lo size (n - i) (at + 4 * i) s ≡ s
+  unfolding turned
+  turned-end n i at s e = let z : n - i ≡ 0 = omega arith in rw z
+
+-- ---- the two steps together
+
+module _ {w : Walked} {at : ℕ} {old mid : List ℕ} {r : Spot} (f : Fits w at (length old)) (t : Written w at old r mid) where
+  pub count-is : r .at ≡ at + 4 * length (f .points)
+  count-is = t (f .left) (f .points) (f .is) .at
+
+  pub turn-fits : (n : ℕ) → n ≡ (r .at - at) / 4 → length mid ≡ length old → at + 4 * n ≤ length mid
+  turn-fits n e k = let c = count-is in omega (arith, f .room)
+
+  pub next-is : r .at ≡ at + 4 * length (pointsIn w)
+  next-is = rw (f .is) count-is
+
+  pub all-turned : (lo size : Floats.Vec3) (n : ℕ) {new : List ℕ} → All Shorts (f .points) → n ≡ (r .at - at) / 4 → new ≡ turned lo size n at mid
+      → new ≡ put at (pointsWords (backBy lo size) (pointsIn w)) old
+  all-turned lo size n q e g =
+      let c = count-is in
+      let m : n ≡ length (f .points) = omega arith in
+      g ∙ rw (t (f .left) (f .points) (f .is) .strip, m, f .is) (points-turned lo size (f .points) at old q (f .room))

@@ -1,0 +1,29 @@
+-- `put_tree_points` meets its contract: the points stand with their shorts, which have 16 bits, and all are turned back.
+use native.Mathlib.Omega.{arith}
+use mathlib.Core.Path.{refl}
+use Rattle.sector_tree.proofs.Shorts.{walk-shorts}
+use Rattle.sector_tree.proofs.Turned.{count-is, turn-fits, next-is, all-turned}
+use borrow.Author.Needs.{needs}
+use Rattle.sector_tree.proofs.put_tree_points.Statement.{statement}
+use Rattle.sector_tree.proofs.put_tree_points.Tie as tie
+
+sub-turn-points : tie.Need-sub-turn-points
+sub-turn-points c = let e = count-is (c .before .before .before .before .before .before .before .before .pre) (c .before .before .before .put-sector .ensures) in omega arith
+
+turn-points-requires : tie.Need-turn-points-requires
+turn-points-requires c κs = turn-fits (c .before .before .before .before .before .before .before .before .pre) (c .before .before .before .put-sector .ensures) _ refl (c .before .before .before .put-sector .kept .1 .1 .1 .1 .0)
+
+returns : tie.Need-returns
+returns c =
+    let a = c .before .before .before .before .before .before .before .before .before .before .before .args in
+    let f = c .before .before .before .before .before .before .before .before .before .before .before .pre in
+    let t = c .before .before .before .before .before .before .put-sector .ensures in
+    let q =
+    walk-shorts (a .system .now) (a .graphics .now) (λ i. omega (arith, c .before .before .before .before .before .before .before .before .before .before .shared-slice-known .given i)) (λ i. omega (arith, c .before .before .before .before .before .before .before .before .before .shared-slice-known2 .given i)) 4096 _
+    (f .is) in
+    (next-is f t, all-turned f t _ _ _ q refl (c .before .before .turn-points .ensures))
+
+pub put-tree-points-spec : {M : Type 1} → statement M
+put-tree-points-spec =
+    tie.close
+    (tie.spec (λ c κs. search needs) sub-turn-points turn-points-requires (λ c. search needs) returns)

@@ -1,0 +1,4 @@
+pub mod Sector
+pub mod Walk
+pub mod Answer
+pub mod Write

@@ -1,0 +1,63 @@
+-- The second pass: what it writes of a tree that was accepted, from a word of the strip on. Definitions only.
+use Prim.Native.Nat.{ℕ, zero, suc, _+_, _*_, _%_, _≤_}
+use mathlib.Core.Path.{_≡_}
+use mathlib.Core.List.{List, [], _∷_, map}
+use lib.ListN.{length, getD}
+use lib.Ieee.{Float, binary32, toBits}
+use Rattle.fields.specs.Bytes.{put}
+use Rattle.math.specs.declared.vec3.Vec3 as Floats
+use Rattle.quantise.specs.Short.{coordinate}
+use Rattle.strip.specs.Cell.{Vec3, each, pointWords}
+use Rattle.grammar.specs.Derives.{pointOf}
+use Rattle.sector_tree.specs.declared.Spot.{Spot}
+use Rattle.sector_tree.specs.Walk.{Walked}
+use Rattle.sector_tree.specs.Walk.Walked.{done, refused}
+
+-- a short turned back on an axis, as bits
+unfoldable pub axisBits : ℕ → Float → Float → ℕ
+axisBits q lo extent = toBits binary32 (coordinate q lo extent)
+
+-- three shorts turned back in a box, by its min and its size
+unfoldable pub backBy : Floats.Vec3 → Floats.Vec3 → ℕ → ℕ → ℕ → Vec3
+backBy lo size x y z =
+    record { x = axisBits x (lo .x) (size .x); y = axisBits y (lo .y) (size .y); z = axisBits z (lo .z) (size .z) }
+
+-- the points of an accepted walk
+abbrev pub pointsIn : Walked → List (List ℕ)
+pointsIn (done l ps) = ps
+pointsIn (refused number) = []
+
+-- the words of points, each given by its bytes
+unfoldable pub pointsWords : (ℕ → ℕ → ℕ → Vec3) → List (List ℕ) → List ℕ
+pointsWords back ps = each pointWords (map (pointOf back) ps)
+
+-- the walk was accepted, and its points have room from at on in a strip of n words
+pub record Fits (w : Walked) (at n : ℕ) : Type 0 where
+  pub left : ℕ
+  pub points : List (List ℕ)
+  pub is : w ≡ done left points
+  pub room : at + 4 * length points ≤ n
+
+-- The steps of the pass. First the points' positions are their shorts:
+unfoldable pub asShorts : ℕ → ℕ → ℕ → Vec3
+asShorts x y z = record { x = x; y = y; z = z }
+
+-- of an accepted walk with the points ps and l visits left, the points stand from a word on, and the rest is as it was
+pub record Stands (l : ℕ) (ps : List (List ℕ)) (from : ℕ) (old : List ℕ) (r : Spot) (new : List ℕ) : Type 0 where
+  pub left : r .left ≡ l
+  pub at : r .at ≡ from + 4 * length ps
+  pub strip : new ≡ put from (pointsWords asShorts ps) old
+
+abbrev pub Written : Walked → ℕ → List ℕ → Spot → List ℕ → Type 0
+Written w at old r new = (l : ℕ) (ps : List (List ℕ)) → w ≡ done l ps → Stands l ps at old r new
+
+-- then they are turned back, one record after the other
+unfoldable pub turnedAt : Floats.Vec3 → Floats.Vec3 → ℕ → List ℕ → List ℕ
+turnedAt lo size at s =
+    put (at + 1)
+    (axisBits (getD s (at + 1) 0 % 65536) (lo .x) (size .x) ∷ axisBits (getD s (at + 2) 0 % 65536) (lo .y) (size .y) ∷ axisBits (getD s (at + 3) 0 % 65536) (lo .z) (size .z) ∷ [])
+    s
+
+unfoldable pub turned : Floats.Vec3 → Floats.Vec3 → ℕ → ℕ → List ℕ → List ℕ
+turned lo size zero at s = s
+turned lo size (suc n) at s = turned lo size n (at + 4) (turnedAt lo size at s)

@@ -1,0 +1,51 @@
+-- `vectors::tally_of` meets its contract. The loop's invariant: the tally is of the records passed. The measure is how many words are left.
+use Prim.Native.Nat.{_-_, _≤_}
+use native.Mathlib.Omega.{arith}
+use mathlib.Core.Path.{refl}
+use lib.ListN.{length}
+use Rattle.vectors.specs.Agreement.{Tallied}
+use Rattle.vectors.proofs.Turns.{later}
+use Rattle.vectors.proofs.tally_of.Statement.{statement}
+use Rattle.vectors.proofs.tally_of.Tie as tie
+
+abbrev Inv-loop : tie.InvT-loop
+Inv-loop words low high t₀ at₀ t at = (at ≤ length words) × Tallied (length words) at t
+
+abbrev μ-loop : tie.MeasureT-loop
+μ-loop words low high t₀ at₀ t at = length words - at
+
+loop-holds : tie.Need-loop-holds Inv-loop μ-loop
+loop-holds c = (omega arith, record { few = omega arith; part = omega arith; shown = omega arith; all = λ h. refl })
+
+sub-loop : tie.Need-sub-loop Inv-loop μ-loop
+sub-loop c = omega arith
+
+record-at-requires : tie.Need-record-at-requires Inv-loop μ-loop
+record-at-requires c κs = omega arith
+
+with-record-requires : tie.Need-with-record-requires Inv-loop μ-loop
+with-record-requires c κs = (c .record-at .ensures, c .before .before .loop .inv .1)
+
+loop-less : tie.Need-loop-less Inv-loop μ-loop
+loop-less c = let r = c .before .record-at in omega (arith, r .ensures .starts, r .ensures .ends, r .ensures .behind)
+
+loop-again : tie.Need-loop-again Inv-loop μ-loop
+loop-again c = let r = c .before .record-at in
+    (r .ensures .within, later _ _ _ _ (c .with-record .ensures) (omega (arith, r .ensures .starts, r .ensures .ends, r .ensures .behind)))
+
+returns : tie.Need-returns Inv-loop μ-loop
+returns c = later _ _ _ _ (c .before .loop .inv .1) (c .before .loop .inv .0)
+
+pub tally-of-spec : {M : Type 1} → statement M
+tally-of-spec =
+    tie.close
+    (tie.spec
+    Inv-loop
+    μ-loop
+    loop-holds
+    sub-loop
+    record-at-requires
+    with-record-requires
+    loop-less
+    loop-again
+    returns)

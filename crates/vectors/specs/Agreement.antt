@@ -1,0 +1,92 @@
+-- What the leaves make of a record's words in, by its tag, and when a record agrees with them. Definitions only.
+use Prim.Native.Nat.{ℕ, _+_, _*_, _%_, _≤_, _<_}
+use mathlib.Core.Path.{_≡_}
+use mathlib.Core.Bool.{Bool, true, false, cond}
+use mathlib.Core.List.{List, [], _∷_}
+use lib.ListN.{getD, drop}
+use lib.Ieee.{Float, binary32, ofBits, toBits}
+use Rattle.fields.specs.Bytes.{over, zeros}
+use Rattle.quantise.specs.Short.{short, coordinate}
+use Rattle.quantise.specs.Quarter.{quarterFloor, quarterCeil, bits16}
+use Rattle.areas.specs.Areas.{seeded, stored, ensured}
+use Rattle.areas.specs.declared.Areas.{Areas}
+use Rattle.areas.specs.declared.AreaAnswer.{AreaAnswer}
+use Rattle.areas.specs.declared.AreaAnswer.the-variants.{At, Full}
+use Rattle.blocks.specs.Layout.{placeOf}
+use Rattle.strip.specs.Outcome.{shown}
+use Rattle.strip.specs.Check.{stripOutcome}
+use Rattle.leaves.specs.Entries.{numberOf, answerOf}
+use Rattle.vectors.specs.declared.Taken.{Taken}
+use Rattle.vectors.specs.declared.Record.{Record}
+use Rattle.vectors.specs.declared.Tally.{Tally}
+
+-- word k as a float
+abbrev pub floatAt : List ℕ → ℕ → Float
+floatAt i k = ofBits binary32 (getD i k 0)
+
+abbrev pub shortOf : List ℕ → ℕ
+shortOf i = short (floatAt i 0) (floatAt i 1) (floatAt i 2)
+
+abbrev pub backOf : List ℕ → ℕ
+backOf i = toBits binary32 (coordinate (getD i 0 0 % 65536) (floatAt i 1) (floatAt i 2))
+
+abbrev pub floorOf : List ℕ → ℕ
+floorOf i = bits16 (quarterFloor (floatAt i 0))
+
+abbrev pub ceilOf : List ℕ → ℕ
+ceilOf i = bits16 (quarterCeil (floatAt i 0))
+
+abbrev pub placeIn : List ℕ → ℕ
+placeIn i = placeOf (getD i 0 0) (getD i 1 0)
+
+abbrev pub stripNumber : List ℕ → ℕ
+stripNumber i = numberOf (shown (stripOutcome i))
+
+abbrev pub stripWords : List ℕ → List ℕ
+stripWords i = over (answerOf (shown (stripOutcome i))) (zeros 8)
+
+abbrev pub isFull : AreaAnswer → Bool
+isFull (At i) = false
+isFull Full = true
+
+-- the table after as many ids as are taken before a 33rd area, and how many these are with n before them
+unfoldable pub taking : Areas → ℕ → List ℕ → Taken
+taking t n [] = record { areas = t; count = n }
+taking t n (x ∷ xs) = cond (isFull (ensured t x .at)) (record { areas = t; count = n }) (taking (ensured t x .areas) (n + 1) xs)
+
+-- the words out are how many ids are taken, the length of the table and its 32 words
+pub record AreasAgree (i o : List ℕ) : Type 0 where
+  pub end : Taken
+  pub taken : end ≡ taking (stored (seeded (getD i 0 0)) (zeros 32)) 0 (drop 1 i)
+  pub count : end .count ≡ getD o 0 0
+  pub len : end .areas .len ≡ getD o 1 0
+  pub ids : (k : ℕ) → k < 32 → getD (end .areas .ids) k 0 ≡ getD o (k + 2) 0
+
+-- the first three of ws stand behind the first of o
+pub record FirstThree (ws o : List ℕ) : Type 0 where
+  pub polys : getD ws 0 0 ≡ getD o 1 0
+  pub portals : getD ws 1 0 ≡ getD o 2 0
+  pub points : getD ws 2 0 ≡ getD o 3 0
+
+-- a record of a tag, with the words i in and the words o out, agrees
+pub data Agrees : ℕ → List ℕ → List ℕ → Type 0 where
+  as-short : {i o : List ℕ} → shortOf i ≡ getD o 0 0 → Agrees 1 i o
+  as-back : {i o : List ℕ} → backOf i ≡ getD o 0 0 → Agrees 2 i o
+  as-quarter : {i o : List ℕ} → (floorOf i ≡ getD o 0 0) × (ceilOf i ≡ getD o 1 0) → Agrees 3 i o
+  as-areas : {i o : List ℕ} → AreasAgree i o → Agrees 4 i o
+  as-place : {i o : List ℕ} → placeIn i ≡ getD o 0 0 + 0x1_0000_0000 * getD o 1 0 → Agrees 5 i o
+  as-strip : {i o : List ℕ} → (stripNumber i ≡ getD o 0 0) × FirstThree (stripWords i) o → Agrees 6 i o
+
+-- a record at a place of n words, which it goes beyond and does not leave
+pub record Stands (at : ℕ) (r : Record) (n : ℕ) : Type 0 where
+  pub starts : at < r .input
+  pub ends : r .input ≤ r .output
+  pub behind : r .output ≤ r .next
+  pub within : r .next ≤ n
+
+-- a tally of the records before a place of n words: where no difference is shown, all of them agree
+pub record Tallied (n at : ℕ) (t : Tally) : Type 0 where
+  pub few : t .seen ≤ at
+  pub part : t .agreed ≤ t .seen
+  pub shown : t .first ≤ n
+  pub all : t .first ≡ n → t .agreed ≡ t .seen
