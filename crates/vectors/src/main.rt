@@ -149,7 +149,7 @@ fn areas_agree(input: &[u32], output: &[u32]) -> bool
     ids_agree(&ids, output)
 }
 
-// Whether a record agrees. There is none of another tag.
+// Whether a record agrees. One of another tag doesn't.
 fn agrees(tag: u32, input: &[u32], output: &[u32]) -> bool
     ensures { λ r. ⌜ (r ≡ true → Agrees tag (now (input .entry)) (now (output .entry))) ⌝ }
 {
@@ -285,6 +285,7 @@ fn load(bytes: &[u8], words: &mut [u32])
     }
 }
 
+// A line for each kind and one for all, where a record of another tag counts as one that differs.
 fn replay(words: &[u32]) {
     report(b"short ", words, 1, 1);
     report(b"back ", words, 2, 2);
@@ -292,7 +293,7 @@ fn replay(words: &[u32]) {
     report(b"areas ", words, 4, 4);
     report(b"place ", words, 5, 5);
     report(b"strip ", words, 6, 6);
-    let first = report(b"all ", words, 1, 6);
+    let first = report(b"all ", words, 1, 4294967295);
     if first < words.len() {
         print(b"first difference at word ");
         io::print_decimal(1, first as u64);
@@ -300,6 +301,7 @@ fn replay(words: &[u32]) {
     }
 }
 
+// The list has at most 100,000 bytes; zeros lie behind it.
 fn main() {
     let mut bytes = [0u8; 131072];
     io::read_full(0, &mut bytes);

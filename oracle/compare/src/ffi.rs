@@ -18,13 +18,7 @@ extern "C" {
     fn leaf_ensure_area(ids: *mut u32, len: usize, id: u32) -> u32;
     fn leaf_place(end: u32, size: u32) -> u64;
     /// Three words to three shorts, one per word, in a box of 6 words; the vertices done.
-    fn leaf_quantise_all(
-        vertices: *const u32,
-        len: usize,
-        bounds: *const u32,
-        out: *mut u32,
-        out_len: usize,
-    ) -> usize;
+    fn leaf_quantise_all(vertices: *const u32, len: usize, bounds: *const u32, out: *mut u32, out_len: usize) -> usize;
     /// Two words per vertex (x + 65536 y, z) to its number, first in `work`; the distinct
     /// vertices.
     fn leaf_number_all(triples: *const u32, len: usize, work: *mut u32, work_len: usize) -> usize;
