@@ -31,6 +31,11 @@ outcomeOf (refused number) = Outcome.refused number 0
 unfoldable pub treeOutcome : (system graphics : List ℕ) → ℕ → Outcome Tree
 treeOutcome system graphics root = cond (eqb root 0) (Outcome.refused 31 0) (outcomeOf (walk system graphics 4096 (root ∷ [])))
 
+-- 4,096 sectors have at most 65,535 points each
+abbrev pub Small : TreeAnswer → Type 0
+Small (TreeAnswer.Tree t) = t .points ≤ 65535 * 4096
+Small (TreeAnswer.Refused r) = Unit {0}
+
 -- a walk's answer, where so many points were counted before it
 abbrev pub counted : ℕ → Walked → Walk
 counted points (done l ps) = Done l (points + length ps)

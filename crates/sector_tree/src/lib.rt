@@ -12,7 +12,7 @@ ghost use Rattle.grammar.specs.Trees.{subsTo};
 ghost use Rattle.grammar.specs.Derives.{pointOf};
 ghost use Rattle.sector_tree.specs.Sector.{goodData, pointsOf};
 ghost use Rattle.sector_tree.specs.Walk.{walk};
-ghost use Rattle.sector_tree.specs.Answer.{paper, treeOutcome, foundOf, Few, Counted};
+ghost use Rattle.sector_tree.specs.Answer.{paper, treeOutcome, foundOf, Few, Small, Counted};
 ghost use Rattle.sector_tree.specs.Write.{asShorts, axisBits, backBy, pointsWords, pointsIn, Fits, Written, turnedAt, turned};
 use fields::u8_le;
 use fields::u16_le;
@@ -127,7 +127,7 @@ fn visit_subs<'a>(
 
 // The tree at root, of 4,096 sectors at most: how many sectors and points it has, or the first fault in preorder.
 pub fn read_sector_tree<'a>(system: &'a [u8], graphics: &'a [u8], root: u64) -> TreeAnswer
-    ensures { λ r. ⌜ paper r ≡ shown (treeOutcome (now (system .entry)) (now (graphics .entry)) root) ⌝ }
+    ensures { λ r. ⌜ (paper r ≡ shown (treeOutcome (now (system .entry)) (now (graphics .entry)) root)) × Small r ⌝ }
 {
     if root == 0 {
         return TreeAnswer::Refused(Refusal {

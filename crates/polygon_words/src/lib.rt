@@ -1,0 +1,151 @@
+// The words of a polygon's parts, from bytes that are at hand. Nothing here can fail: pass two calls it for what pass one accepted.
+ghost use mathlib.Core.Path.{_≡_};
+ghost use mathlib.Core.List.{[], _∷_, map};
+ghost use Prim.Native.Nat.{_+_, _*_, _/_, _≤_};
+ghost use lib.Ieee.{binary32, toBits};
+ghost use lib.ListN.{length};
+ghost use Rattle.fields.specs.Bytes.{put};
+ghost use Rattle.quantise.specs.Short.{coordinate};
+ghost use Rattle.strip.specs.Cell.{vecWords, halfWords, edgeWords, each};
+ghost use Rattle.grammar.specs.Parts.{cut};
+ghost use Rattle.grammar.specs.Polygons.{vertexOf, halfOf, edgeOf, linkRun, countOf};
+ghost use Rattle.grammar.specs.Derives.{areaOf};
+ghost use Rattle.lists.specs.Lists.{item};
+ghost use Rattle.polygon_words.specs.Words.{backIn, linksOf, linkStart, linksNamed, linkCount, frontOf, allBelow};
+use areas::ADJACENT_NONE;
+use areas::edge::decode_end;
+use fields::u16_le;
+use fields::u32_le;
+use math::num::bits_of_float;
+use math::vec3::Vec3;
+use quantise::short::unquantise_axis;
+
+fn put3(out: &mut [u32], at: usize, a: u32, b: u32, c: u32)
+    requires { ⌜ at + 3 ≤ length (now out) ⌝ }
+    ensures { λ _. ⌜ now (out .exit) ≡ put at (a ∷ b ∷ c ∷ []) (now (out .entry)) ⌝ }
+{
+    out[at] = a;
+    out[at + 1] = b;
+    out[at + 2] = c;
+}
+
+fn put4(out: &mut [u32], at: usize, a: u32, b: u32, c: u32, d: u32)
+    requires { ⌜ at + 4 ≤ length (now out) ⌝ }
+    ensures { λ _. ⌜ now (out .exit) ≡ put at (a ∷ b ∷ c ∷ d ∷ []) (now (out .entry)) ⌝ }
+{
+    put3(out, at, a, b, c);
+    out[at + 3] = d;
+}
+
+fn axis_bits(q: u16, lo: f32, extent: f32) -> u32
+    ensures { λ r. ⌜ r ≡ toBits binary32 (coordinate q lo extent) ⌝ }
+{
+    bits_of_float(unquantise_axis(q, lo, extent))
+}
+
+// A vertex, 6 bytes: the bits of its coordinates.
+pub fn put_vertex(v: &[u8], bb_min: Vec3, bb_size: Vec3, out: &mut [u32], at: usize)
+    requires { ⌜ at + 3 ≤ length (now out) ⌝ }
+    ensures { λ _. ⌜ now (out .exit) ≡ put at (vecWords (vertexOf (backIn «bb_min» «bb_size») (now (v .entry)))) (now (out .entry)) ⌝ }
+{
+    let x = axis_bits(u16_le(v, 0), bb_min.x, bb_size.x);
+    let y = axis_bits(u16_le(v, 2), bb_min.y, bb_size.y);
+    let z = axis_bits(u16_le(v, 4), bb_min.z, bb_size.z);
+    put3(out, at, x, y, z);
+}
+
+// The area of an index, by the header's table.
+fn area_of(header: &[u8], i: u32) -> u32
+    ensures { λ r. ⌜ r ≡ areaOf (now (header .entry)) i ⌝ }
+{
+    if i < u32_le(header, 0x94) {
+        u32_le(header, 0x98 + 4 * (i as usize))
+    } else {
+        ADJACENT_NONE
+    }
+}
+
+fn put_half(header: &[u8], raw: u32, out: &mut [u32], at: usize)
+    requires { ⌜ at + 3 ≤ length (now out) ⌝ }
+    ensures { λ _. ⌜ now (out .exit) ≡ put at (halfWords (halfOf (areaOf (now (header .entry))) raw)) (now (out .entry)) ⌝ }
+{
+    let e = decode_end(raw);
+    let area = area_of(header, e.index);
+    put3(out, at, area, e.poly, e.unk3 % 2048 + 65536 * (e.unk2 % 4));
+}
+
+// Edge k of `run`, 8 bytes.
+fn put_edge(header: &[u8], run: &[u8], k: usize, out: &mut [u32], at: usize)
+    requires { ⌜ (8 * k + 8 ≤ length (now run)) × (at + 6 ≤ length (now out)) ⌝ }
+    ensures { λ _. ⌜ now (out .exit) ≡ put at (edgeWords (edgeOf (areaOf (now (header .entry))) (item 8 (now (run .entry)) k))) (now (out .entry)) ⌝ }
+{
+    put_half(header, u32_le(run, 8 * k), out, at);
+    put_half(header, u32_le(run, 8 * k + 4), out, at + 3);
+}
+
+// The first n edges of `run`.
+pub fn put_edge_run(header: &[u8], run: &[u8], n: usize, out: &mut [u32], at: usize)
+    requires { ⌜ (8 * n ≤ length (now run)) × (at + 6 * n ≤ length (now out)) ⌝ }
+    ensures { λ _. ⌜ now (out .exit) ≡ put at (each edgeWords (map (edgeOf (areaOf (now (header .entry)))) (cut 8 n (now (run .entry))))) (now (out .entry)) ⌝ }
+{
+    let mut k = 0;
+    while k < n {
+        put_edge(header, run, k, out, at + 6 * k);
+        k += 1;
+    }
+}
+
+// Whether the first n indices of `run` are below a limit.
+pub fn all_below(run: &[u8], n: usize, limit: usize) -> bool
+    requires { ⌜ 2 * n ≤ length (now run) ⌝ }
+    ensures { λ r. ⌜ r ≡ allBelow limit (cut 2 n (now (run .entry))) ⌝ }
+{
+    let mut k = 0;
+    while k < n {
+        if limit <= (u16_le(run, 2 * k) as usize) {
+            return false;
+        }
+        k += 1;
+    }
+    true
+}
+
+// How many links a polygon has by a table of n: none where their run is not inside it.
+pub fn link_count(rec: &[u8], n: usize) -> usize
+    ensures { λ r. ⌜ (r ≡ linkCount n (now (rec .entry))) × (r ≤ 7) ⌝ }
+{
+    let w = u32_le(rec, 0x2C);
+    let start = (w / 32768 % 131072) as usize;
+    let named = (w / 4096 % 8) as usize;
+    if start + named <= n { named } else { 0 }
+}
+
+// A polygon's n links.
+fn put_links(rec: &[u8], links: &[u8], n: usize, out: &mut [u32], at: usize)
+    requires { ⌜ (n ≡ linkCount (length (linksOf (now links))) (now rec)) × (at + n ≤ length (now out)) ⌝ }
+    ensures { λ _. ⌜ now (out .exit) ≡ put at (linkRun (linksOf (now (links .entry))) (linkStart (now (rec .entry))) (linksNamed (now (rec .entry)))) (now (out .entry)) ⌝ }
+{
+    let start = (u32_le(rec, 0x2C) / 32768 % 131072) as usize;
+    let mut k = 0;
+    while k < n {
+        out[at + k] = u16_le(links, 2 * (start + k)) as u32;
+        k += 1;
+    }
+}
+
+// The words before a polygon's vertices: n links, `count` vertices and as many edges.
+pub fn put_front(rec: &[u8], links: &[u8], n: usize, count: usize, out: &mut [u32], at: usize)
+    requires { ⌜ (n ≡ linkCount (length (linksOf (now links))) (now rec)) × (n ≤ 7) × (count ≡ countOf (now rec)) × (at + 4 + n ≤ length (now out)) ⌝ }
+    ensures { λ _. ⌜ now (out .exit) ≡ put at (frontOf (linksOf (now (links .entry))) (now (rec .entry))) (now (out .entry)) ⌝ }
+{
+    let first = 0x2000_0000 + (n * 0x100_0000 + (count * 0x1000 + count));
+    put4(
+        out,
+        at,
+        first as u32,
+        u16_le(rec, 0) as u32,
+        u32_le(rec, 0x24),
+        u32_le(rec, 0x28),
+    );
+    put_links(rec, links, n, out, at + 4);
+}

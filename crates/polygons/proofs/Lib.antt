@@ -1,0 +1,4 @@
+pub mod Runs
+pub mod Tallies
+pub mod Writes
+pub mod Exact

@@ -1,0 +1,214 @@
+-- Pass two: what pass one accepted is what it needs, and the words of a polygon are its front, its vertices and its edges.
+use Prim.Native.Nat.{ℕ, _+_, _*_, _/_, _%_, _≤_, _<_}
+use native.Mathlib.Omega.{arith}
+use mathlib.Core.Path.{_≡_, refl, sym, ap, _∙_}
+use mathlib.Core.Bool.{Bool, true, false, cond, _&&_}
+use mathlib.Core.List.{List, [], _∷_, _++_, map, append-assoc}
+use lib.Dec.{leb}
+use lib.ListN.{length, take, drop, length-append, length-drop}
+use lib.Seq.{length-take-le}
+use borrow.Author.Tests.{leb-true}
+use Rattle.fields.specs.Bytes.{le, put}
+use Rattle.fields.proofs.Puts.{length-put, put-next, put-nil}
+use Rattle.math.specs.declared.vec3.Vec3.{Vec3 as Floats}
+use Rattle.strip.specs.Cell.{Vec3, vecWords, edgeWords, polygonHeadAs, polygonWordsAs, polygonWords, each}
+use Rattle.strip.specs.declared.Refusal.{Refusal}
+use Rattle.grammar.specs.Polygons.{edgeOf, countOf, startOf, runOf}
+use Rattle.lists.specs.declared.Cursor.{Cursor}
+use Rattle.lists.specs.Lists.{item, total, listBytes}
+use Rattle.lists.specs.Cursors.{Stands, Holds}
+use Rattle.polygon_words.specs.Words.{linksOf, linkCount, frontOf, allBelow}
+use Rattle.polygon_words.proofs.Cuts.{length-each}
+use Rattle.polygon_words.proofs.Words.{vec-three, edge-six}
+use Rattle.polygon_words.proofs.Words as words
+use Rattle.polygons.specs.declared.Cursors.{Cursors}
+use Rattle.polygons.specs.declared.Limits.{Limits}
+use Rattle.polygons.specs.declared.Spot.{Spot}
+use Rattle.polygons.specs.declared.Tally.{Tally}
+use Rattle.polygons.specs.declared.Tally.the-variants.{Words, Refused}
+use Rattle.polygons.specs.Polygons.{Source, limitsOf, corner, polygonMade, sizeOf, tallyOf, then, tallyFrom}
+use Rattle.polygons.specs.Passes.{itemsIn, sourceOf, sides, Ready, Inside, Put, Passed}
+use Rattle.polygons.proofs.Runs.{length-map, length-items}
+use Rattle.polygons.proofs.Tallies.{next-item, no-item}
+
+-- ---- what pass one accepted
+
+pub never : {r : Refusal} {w : ℕ} → Refused r ≡ Words w → ⊥
+never e = let z : _≡_ {A = ℕ} 0 1 = cc in omega arith
+
+pub then-words : (t u : Tally) {w : ℕ} → then t u ≡ Words w → (a b : ℕ) × (t ≡ Words a) × (u ≡ Words b) × (w ≡ a + b)
+then-words (Refused r) u e = absurd (never e)
+then-words (Words a) (Refused r) e = absurd (never e)
+then-words (Words a) (Words b) e = (a, b, refl, refl, cc)
+
+picked : (x y z : Bool) (r q : Refusal) (v w : ℕ) → cond (x && y) (cond z (Words w) (Refused r)) (Refused q) ≡ Words v → (x ≡ true) × (y ≡ true) × (z ≡ true) × (v ≡ w)
+picked false y z r q v w e = absurd (never e)
+picked true false z r q v w e = absurd (never e)
+picked true true false r q v w e = absurd (never e)
+picked true true true r q v w e = (refl, refl, refl, cc)
+
+module _ (l : Limits) (indices : List (List ℕ)) where
+  pub accepted : (p : ℕ) (b : List ℕ) {v : ℕ} → tallyOf l indices p b ≡ Words v
+      → (startOf b + countOf b ≤ l .indices) × (startOf b + countOf b ≤ l .edges) × (allBelow (l .vertices) (runOf b indices) ≡ true) × (v ≡ sizeOf (l .links) b)
+  unfolding tallyOf
+  accepted p b {v} e =
+      let (x, y, z, w) = picked (leb (startOf b + countOf b) (l .indices)) (leb (startOf b + countOf b) (l .edges)) (allBelow (l .vertices) (runOf b indices)) _ _ v (sizeOf (l .links) b) e in
+      (leb-true _ _ x, leb-true _ _ y, z, w)
+
+  -- the first polygon, and those behind it
+  module _ (p at end : ℕ) (b : List ℕ) (bs : List (List ℕ)) {xs : List (List ℕ)} (e : xs ≡ b ∷ bs) (h : Passed l indices p xs at end) where
+    parts : (v u : ℕ) × (tallyOf l indices p b ≡ Words v) × (tallyFrom l indices (p + 1) bs ≡ Words u) × (h .words ≡ v + u)
+    unfolding tallyFrom
+    parts = then-words (tallyOf l indices p b) (tallyFrom l indices (p + 1) bs) (sym (ap (tallyFrom l indices p) e) ∙ h .is)
+
+    first-well : (startOf b + countOf b ≤ l .indices) × (startOf b + countOf b ≤ l .edges) × (allBelow (l .vertices) (runOf b indices) ≡ true) × (at + sizeOf (l .links) b ≤ end)
+    first-well =
+        let (v, u, f, g, s) = parts in
+        let (x, y, z, w) = accepted p b f in
+        (x, y, z, omega (arith, w, s, h .room))
+
+    passed-next : Passed l indices (p + 1) bs (at + sizeOf (l .links) b) end
+    passed-next =
+        let (v, u, f, g, s) = parts in
+        let w : v ≡ sizeOf (l .links) b = accepted p b f .3 in
+        record { words = u; is = g; room = omega (arith, w, s, h .room) }
+
+-- ---- the words of a polygon
+
+run-length : (xs : List (List ℕ)) (start n : ℕ) → start + n ≤ length xs → length (take n (drop start xs)) ≡ n
+run-length xs start n h = length-take-le n (drop start xs) (rw length-drop (omega arith))
+
+module _ (area : ℕ → ℕ) (back : ℕ → ℕ → ℕ → Vec3) (vertices indices edges : List (List ℕ)) (start n : ℕ) (hi : start + n ≤ length indices) (he : start + n ≤ length edges) where
+  vertex-count : length (map (corner back vertices) (take n (drop start indices))) ≡ n
+  vertex-count = length-map (corner back vertices) (take n (drop start indices)) ∙ run-length indices start n hi
+
+  edge-count : length (map (edgeOf area) (take n (drop start edges))) ≡ n
+  edge-count = length-map (edgeOf area) (take n (drop start edges)) ∙ run-length edges start n he
+
+  vertex-words : length (each vecWords (map (corner back vertices) (take n (drop start indices)))) ≡ 3 * n
+  vertex-words = length-each vecWords 3 vec-three (map (corner back vertices) (take n (drop start indices))) ∙ ap (λ (k : ℕ). 3 * k) vertex-count
+
+  edge-words : length (each edgeWords (map (edgeOf area) (take n (drop start edges)))) ≡ 6 * n
+  edge-words = length-each edgeWords 6 edge-six (map (edgeOf area) (take n (drop start edges))) ∙ ap (λ (k : ℕ). 6 * k) edge-count
+
+  length-sides : length (sides area back vertices indices edges start n) ≡ 9 * n
+  unfolding sides
+  length-sides = rw (length-append, vertex-words, edge-words) (omega arith)
+
+  pub sides-put : (old : List ℕ) (at : ℕ)
+      → put (at + 3 * n) (each edgeWords (map (edgeOf area) (take n (drop start edges)))) (put at (each vecWords (map (corner back vertices) (take n (drop start indices)))) old)
+      ≡ put at (sides area back vertices indices edges start n) old
+  unfolding sides
+  sides-put old at = put-next (3 * n) at (each vecWords (map (corner back vertices) (take n (drop start indices)))) (each edgeWords (map (edgeOf area) (take n (drop start edges)))) old vertex-words
+
+module _ (s : Source) (b : List ℕ) (hi : startOf b + countOf b ≤ length (s .indices)) (he : startOf b + countOf b ≤ length (s .edges)) where
+  abbrev body : List ℕ
+  body = sides (s .area) (s .back) (s .vertices) (s .indices) (s .edges) (startOf b) (countOf b)
+
+  words-are : polygonWords (polygonMade s b) ≡ frontOf (s .links) b ++ body
+  unfolding polygonWordsAs polygonHeadAs polygonMade frontOf sides
+  words-are =
+      rw (
+        vertex-count (s .area) (s .back) (s .vertices) (s .indices) (s .edges) (startOf b) (countOf b) hi he,
+        edge-count (s .area) (s .back) (s .vertices) (s .indices) (s .edges) (startOf b) (countOf b) hi he,
+        words.length-run (s .links) b,
+      )
+      (append-assoc (frontOf (s .links) b) (each vecWords (map (corner (s .back) (s .vertices)) (runOf b (s .indices)))) (each edgeWords (map (edgeOf (s .area)) (runOf b (s .edges)))))
+
+  front-length : length (frontOf (s .links) b) ≡ 4 + linkCount (length (s .links)) b
+  unfolding frontOf
+  front-length = let e = words.length-run (s .links) b in omega (arith, e)
+
+  pub polygon-size : length (polygonWords (polygonMade s b)) ≡ sizeOf (length (s .links)) b
+  unfolding sizeOf
+  polygon-size = rw (words-are, length-append, front-length, length-sides (s .area) (s .back) (s .vertices) (s .indices) (s .edges) (startOf b) (countOf b) hi he)
+
+  pub polygon-put : {n : ℕ} → n ≡ linkCount (length (s .links)) b → (old : List ℕ) (at : ℕ) → put (at + 4 + n) body (put at (frontOf (s .links) b) old) ≡ put at (polygonWords (polygonMade s b)) old
+  polygon-put {n} en old at =
+      let e : at + 4 + n ≡ at + (4 + n) = omega arith in
+      rw (words-are, e) (put-next (4 + n) at (frontOf (s .links) b) body old (front-length ∙ rw (← en)))
+
+-- ---- what the functions read
+
+pub link-count-is : (links rec : List ℕ) {n : ℕ} → n ≡ linkCount (length links / 2) rec → n ≡ linkCount (length (linksOf links)) rec
+link-count-is links rec e = e ∙ ap (λ (m : ℕ). linkCount m rec) (sym (words.length-links links))
+
+pub size-of : (m : ℕ) (rec : List ℕ) {n a : ℕ} → n ≡ linkCount m rec → a ≡ le 2 rec 2 → sizeOf m rec ≡ 4 + n + 9 * (a / 32 % 2048)
+unfolding sizeOf
+size-of m rec en ea = rw (← en, ← ea)
+
+inside : (system graphics vertices indices edges : List ℕ) (start n : ℕ) → start + n ≤ length (itemsIn system graphics 2 indices) → start + n ≤ length (itemsIn system graphics 8 edges)
+    → allBelow (length (itemsIn system graphics 6 vertices)) (take n (drop start (itemsIn system graphics 2 indices))) ≡ true → Inside system graphics vertices indices edges start n
+inside system graphics vertices indices edges start n hi he below =
+    record {
+      in-indices = omega (arith, hi, length-items system graphics 2 indices);
+      in-edges = omega (arith, he, length-items system graphics 8 edges);
+      below = sym (ap (λ (k : ℕ). allBelow k (take n (drop start (itemsIn system graphics 2 indices)))) (length-items system graphics 6 vertices)) ∙ below;
+    }
+
+-- ---- polygons in order
+
+module _ (s : Source) (b : List ℕ) (bs : List (List ℕ)) {xs : List (List ℕ)} (e : xs ≡ b ∷ bs) (at : ℕ) {next : ℕ} (en : next ≡ at + length (polygonWords (polygonMade s b))) where
+  polygons-put : (old : List ℕ) → put next (each polygonWords (map (polygonMade s) bs)) (put at (polygonWords (polygonMade s b)) old) ≡ put at (each polygonWords (map (polygonMade s) xs)) old
+  unfolding each
+  polygons-put old = rw (e, en) (put-next (length (polygonWords (polygonMade s b))) at (polygonWords (polygonMade s b)) (each polygonWords (map (polygonMade s) bs)) old refl)
+
+  polygons-length : next + length (each polygonWords (map (polygonMade s) bs)) ≡ at + length (each polygonWords (map (polygonMade s) xs))
+  unfolding each
+  polygons-length = rw (e, length-append, en) (omega arith)
+
+module _ (s : Source) {xs : List (List ℕ)} (e : xs ≡ []) where
+  polygons-none : (at : ℕ) (old : List ℕ) → put at (each polygonWords (map (polygonMade s) xs)) old ≡ old
+  unfolding each
+  polygons-none at old = rw (e, put-nil)
+
+  no-words : length (each polygonWords (map (polygonMade s) xs)) ≡ 0
+  unfolding each
+  no-words = rw e
+
+module _ (system graphics vertices indices edges links header : List ℕ) (lo size : Floats) (polys : List ℕ) (n : ℕ) (old : List ℕ) (at : ℕ) where
+  abbrev source : Source
+  source = sourceOf system graphics vertices indices edges links header lo size
+
+  abbrev items : List (List ℕ)
+  items = itemsIn system graphics 48 polys
+
+  -- after i polygons: what is left passed, and written from word e on it makes what is promised
+  pub record Going (out : List ℕ) (c : Cursors) (p : Cursor) (e i : ℕ) : Type 0 where
+    pub low : i ≤ n
+    pub in-polys : Stands polys p
+    pub ready : Ready system graphics vertices indices edges c
+    pub same-length : length out ≡ length old
+    pub passed : Passed (limitsOf source) (itemsIn system graphics 2 indices) i (drop i items) e (length old)
+    pub next : e + length (each polygonWords (map (polygonMade source) (drop i items))) ≡ at + length (each polygonWords (map (polygonMade source) items))
+    pub strip : put e (each polygonWords (map (polygonMade source) (drop i items))) out ≡ put at (each polygonWords (map (polygonMade source) items)) old
+
+  module _ (en : n ≡ total polys) {out : List ℕ} {c : Cursors} {p : Cursor} {e i : ℕ} (g : Going out c p e i) where
+    module _ (l : i < n) {q : Cursor} (h : Holds polys i q) {rec : List ℕ} (er : rec ≡ item 48 (listBytes system graphics 48 polys) i) where
+      here : drop i items ≡ rec ∷ drop (i + 1) items
+      here = next-item system graphics polys i (omega arith) er
+
+      well : (startOf rec + countOf rec ≤ length (itemsIn system graphics 2 indices)) × (startOf rec + countOf rec ≤ length (itemsIn system graphics 8 edges))
+          × (allBelow (length (itemsIn system graphics 6 vertices)) (runOf rec (itemsIn system graphics 2 indices)) ≡ true) × (e + sizeOf (length (linksOf links)) rec ≤ length old)
+      well = first-well (limitsOf source) (itemsIn system graphics 2 indices) i e (length old) rec (drop (i + 1) items) here (g .passed)
+
+      pub polygon-asks : Ready system graphics vertices indices edges c × Inside system graphics vertices indices edges (startOf rec) (countOf rec) × (e + sizeOf (length (linksOf links)) rec ≤ length out)
+      polygon-asks = (g .ready, inside system graphics vertices indices edges (startOf rec) (countOf rec) (well .0) (well .1) (well .2), omega (arith, well .3, g .same-length))
+
+      pub goes-on : {r : Spot} {new : List ℕ} → Put system graphics vertices indices edges (polygonWords (polygonMade source rec)) out e r new → Going new (r .cursors) q (r .at) (i + 1)
+      goes-on {r} w =
+          let to : r .at ≡ e + sizeOf (length (linksOf links)) rec = w .next ∙ ap (λ (k : ℕ). e + k) (polygon-size source rec (well .0) (well .1)) in
+          record {
+            low = omega arith;
+            in-polys = h .stands;
+            ready = w .ready;
+            same-length = ap length (w .strip) ∙ length-put e (polygonWords (polygonMade source rec)) out ∙ g .same-length;
+            passed = rw to (passed-next (limitsOf source) (itemsIn system graphics 2 indices) i e (length old) rec (drop (i + 1) items) here (g .passed));
+            next = polygons-length source rec (drop (i + 1) items) here e (w .next) ∙ g .next;
+            strip = rw (w .strip) (polygons-put source rec (drop (i + 1) items) here e (w .next) out) ∙ g .strip;
+          }
+
+    pub all-put : n ≤ i → (e ≡ at + length (each polygonWords (map (polygonMade source) items))) × (out ≡ put at (each polygonWords (map (polygonMade source) items)) old)
+    all-put l =
+        let none : drop i items ≡ [] = no-item system graphics polys i (omega arith) in
+        (omega (arith, no-words source none, g .next), sym (polygons-none source none e out) ∙ g .strip)

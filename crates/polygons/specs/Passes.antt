@@ -1,0 +1,81 @@
+-- What the two passes over polygons keep, on lists that were read. Definitions only.
+use Prim.Native.Nat.{ℕ, _+_, _≤_}
+use mathlib.Core.Path.{_≡_}
+use mathlib.Core.Bool.{true}
+use mathlib.Core.List.{List, _++_, map}
+use lib.ListN.{length, take, drop}
+use Rattle.fields.specs.Bytes.{put}
+use Rattle.math.specs.declared.vec3.Vec3.{Vec3}
+use Rattle.strip.specs.Cell.{Vec3 as Point, vecWords, edgeWords, each}
+use Rattle.grammar.specs.Parts.{cut}
+use Rattle.grammar.specs.Polygons.{edgeOf}
+use Rattle.grammar.specs.Derives.{areaOf}
+use Rattle.lists.specs.Lists.{total, listBytes, Readable}
+use Rattle.lists.specs.Cursors.{Stands}
+use Rattle.polygon_words.specs.Words.{backIn, linksOf, allBelow}
+use Rattle.polygons.specs.declared.Limits.{Limits}
+use Rattle.polygons.specs.declared.Cursors.{Cursors}
+use Rattle.polygons.specs.declared.Spot.{Spot}
+use Rattle.polygons.specs.declared.Step.{Step}
+use Rattle.polygons.specs.declared.Step.the-variants.{Good, Bad}
+use Rattle.polygons.specs.declared.Tally.{Tally}
+use Rattle.polygons.specs.declared.Tally.the-variants.{Words, Refused}
+use Rattle.polygons.specs.Polygons.{Source, corner, tallyFrom}
+
+-- the items of a list that was read, by its part table
+unfoldable pub itemsIn : List ℕ → List ℕ → ℕ → List ℕ → List (List ℕ)
+itemsIn system graphics w table = cut w (total table) (listBytes system graphics w table)
+
+-- the source that part tables, the link table's bytes, the header and the box give
+abbrev pub sourceOf : List ℕ → List ℕ → List ℕ → List ℕ → List ℕ → List ℕ → List ℕ → Vec3 → Vec3 → Source
+sourceOf system graphics vertices indices edges links header lo size =
+    record {
+      vertices = itemsIn system graphics 6 vertices;
+      indices = itemsIn system graphics 2 indices;
+      edges = itemsIn system graphics 8 edges;
+      links = linksOf links;
+      area = areaOf header;
+      back = backIn lo size;
+    }
+
+-- the words of n vertices and of n edges, from `start` on
+unfoldable pub sides : (ℕ → ℕ) → (ℕ → ℕ → ℕ → Point) → (vertices indices edges : List (List ℕ)) → (start n : ℕ) → List ℕ
+sides area back vertices indices edges start n =
+    each vecWords (map (corner back vertices) (take n (drop start indices))) ++ each edgeWords (map (edgeOf area) (take n (drop start edges)))
+
+-- the three lists were read, and a cursor stands in each
+pub record Ready (system graphics vertices indices edges : List ℕ) (c : Cursors) : Type 0 where
+  pub vertex-list : Readable system graphics 6 vertices
+  pub index-list : Readable system graphics 2 indices
+  pub edge-list : Readable system graphics 8 edges
+  pub in-vertices : Stands vertices (c .vertices)
+  pub in-indices : Stands indices (c .indices)
+  pub in-edges : Stands edges (c .edges)
+
+-- a run that passed 37 and 38
+pub record Inside (system graphics vertices indices edges : List ℕ) (start n : ℕ) : Type 0 where
+  pub in-indices : start + n ≤ total indices
+  pub in-edges : start + n ≤ total edges
+  pub below : allBelow (total vertices) (take n (drop start (itemsIn system graphics 2 indices))) ≡ true
+
+-- words that stand from `at` on, and the rest as it was; the next place, and the cursors
+pub record Put (system graphics vertices indices edges words old : List ℕ) (at : ℕ) (r : Spot) (new : List ℕ) : Type 0 where
+  pub next : r .at ≡ at + length words
+  pub ready : Ready system graphics vertices indices edges (r .cursors)
+  pub strip : new ≡ put at words old
+
+-- pass one found no fault in polygons, the first of them number p, and their words have room from `at` on
+pub record Passed (l : Limits) (indices : List (List ℕ)) (p : ℕ) (polys : List (List ℕ)) (at end : ℕ) : Type 0 where
+  pub words : ℕ
+  pub is : tallyFrom l indices p polys ≡ Words words
+  pub room : at + words ≤ end
+
+-- what the step over a polygon answers: its words, which are few, and where the cursor over the indices stands
+abbrev pub Stepped : List ℕ → Tally → Step → Type 0
+Stepped table t (Good w c) = (t ≡ Words w) × Stands table c × (w ≤ 18434)
+Stepped table t (Bad r) = t ≡ Refused r
+
+-- words that are at most n
+abbrev pub Small : ℕ → Tally → Type 0
+Small n (Words w) = w ≤ n
+Small n (Refused r) = Unit {0}

@@ -1,0 +1,502 @@
+// Polygons in two passes over lists: pass one decides and counts words, pass two cannot fail and writes them.
+ghost use mathlib.Core.Path.{_≡_};
+ghost use mathlib.Core.Bool.{true};
+ghost use mathlib.Core.List.{map};
+ghost use Prim.Native.Nat.{_+_, _*_, _/_, _≤_, min};
+ghost use lib.ListN.{length, take, drop};
+ghost use Rattle.fields.specs.Bytes.{put};
+ghost use Rattle.strip.specs.Cell.{vecWords, edgeWords, polygonWords, each};
+ghost use Rattle.grammar.specs.Parts.{cut};
+ghost use Rattle.grammar.specs.Polygons.{edgeOf, startOf, countOf};
+ghost use Rattle.grammar.specs.Derives.{areaOf};
+ghost use Rattle.lists.specs.Lists.{total, Readable};
+ghost use Rattle.lists.specs.Cursors.{Stands};
+ghost use Rattle.polygon_words.specs.Words.{backIn, linksOf, allBelow};
+ghost use Rattle.polygons.specs.Polygons.{corner, limitsOf, polygonMade, sizeOf, tallyOf, tallyFrom};
+ghost use Rattle.polygons.specs.Passes.{itemsIn, sourceOf, sides, Ready, Inside, Put, Passed, Stepped, Small};
+ghost use Rattle.polygons.specs.Listed.{listsOf, ListsRead};
+use fields::u16_le;
+use lists::Cursor;
+use lists::ListAnswer;
+use lists::list_item;
+use lists::list_run;
+use lists::list_start;
+use lists::read_list;
+use lists::seek;
+use math::vec3::Vec3;
+use polygon_words::all_below;
+use polygon_words::link_count;
+use polygon_words::put_edge_run;
+use polygon_words::put_front;
+use polygon_words::put_vertex;
+use strip::Refusal;
+
+// How many items the lists and the link table have.
+pub struct Limits {
+    pub vertices: usize,
+    pub indices: usize,
+    pub edges: usize,
+    pub links: usize,
+}
+
+// What pass one answers: how many words the polygons make.
+pub enum Tally {
+    Words(usize),
+    Refused(Refusal),
+}
+
+// One polygon's words, and where the cursor over the indices stands then.
+pub enum Step {
+    Good(usize, Cursor),
+    Bad(Refusal),
+}
+
+// Whether a run of indices is below a limit, and where the cursor stands then.
+pub struct Run {
+    pub below: bool,
+    pub cursor: Cursor,
+}
+
+// Where the cursors over the three lists stand.
+pub struct Cursors {
+    pub vertices: Cursor,
+    pub indices: Cursor,
+    pub edges: Cursor,
+}
+
+// Two of them.
+pub struct Corners {
+    pub vertices: Cursor,
+    pub indices: Cursor,
+}
+
+// Where a writer of polygons stands: the strip's next word, and the cursors.
+pub struct Spot {
+    pub at: usize,
+    pub cursors: Cursors,
+}
+
+// The four lists' counts, the polygons' apart.
+pub enum ListsAnswer {
+    Lists(Limits, usize),
+    Refused(Refusal),
+}
+
+fn lesser(a: usize, b: usize) -> usize
+    ensures { λ r. ⌜ r ≡ min a b ⌝ }
+{
+    if a < b { a } else { b }
+}
+
+// Pass one.
+
+// The run is taken part by part: what a part holds of it is one slice.
+fn run_below<'a>(
+    system: &'a [u8],
+    graphics: &'a [u8],
+    table: &'a [u8],
+    from: Cursor,
+    start: usize,
+    count: usize,
+    limit: usize,
+) -> Run
+    requires { ⌜ Readable (now system) (now graphics) 2 (now table) × Stands (now table) from × (start + count ≤ total (now table)) ⌝ }
+    ensures { λ r. ⌜ (r .below ≡ allBelow limit (take count (drop start (itemsIn (now (system .entry)) (now (graphics .entry)) 2 (now (table .entry)))))) × Stands (now (table .entry)) (r .cursor) ⌝ }
+{
+    let mut c = from;
+    let mut k = 0;
+    while k < count {
+        c = seek(table, c, start + k);
+        let run = list_run(system, graphics, table, 2, c, start + k);
+        let n = lesser(run.len() / 2, count - k);
+        if !all_below(run, n, limit) {
+            return Run {
+                below: false,
+                cursor: c,
+            };
+        }
+        k += n;
+    }
+    Run {
+        below: true,
+        cursor: c,
+    }
+}
+
+// Polygon p, whose 48 bytes are rec.
+fn check_polygon<'a>(
+    system: &'a [u8],
+    graphics: &'a [u8],
+    rec: &'a [u8],
+    p: usize,
+    limits: Limits,
+    table: &'a [u8],
+    from: Cursor,
+) -> Step
+    requires { ⌜ Readable (now system) (now graphics) 2 (now table) × Stands (now table) from × (limits .indices ≡ total (now table)) ⌝ }
+    ensures { λ r. ⌜ Stepped (now (table .entry)) (tallyOf limits (itemsIn (now (system .entry)) (now (graphics .entry)) 2 (now (table .entry))) p (now (rec .entry))) r ⌝ }
+{
+    let count = (u16_le(rec, 2) / 32 % 2048) as usize;
+    let start = u16_le(rec, 4) as usize;
+    if limits.indices < start + count {
+        return Step::Bad(Refusal {
+            number: 37,
+            place: p,
+        });
+    }
+    if limits.edges < start + count {
+        return Step::Bad(Refusal {
+            number: 37,
+            place: p,
+        });
+    }
+    let run = run_below(system, graphics, table, from, start, count, limits.vertices);
+    let below = run.below;
+    if below {
+        let c = run.cursor;
+        Step::Good(4 + link_count(rec, limits.links) + 9 * count, c)
+    } else {
+        Step::Bad(Refusal {
+            number: 38,
+            place: p,
+        })
+    }
+}
+
+// The n polygons of a list: the first refusal in order, or their words.
+pub fn check_polygons<'a>(
+    system: &'a [u8],
+    graphics: &'a [u8],
+    polys: &'a [u8],
+    n: usize,
+    limits: Limits,
+    table: &'a [u8],
+) -> Tally
+    requires { ⌜ Readable (now system) (now graphics) 2 (now table) × Readable (now system) (now graphics) 48 (now polys) × (limits .indices ≡ total (now table)) × (n ≡ total (now polys)) ⌝ }
+    ensures { λ r. ⌜ (r ≡ tallyFrom limits (itemsIn (now (system .entry)) (now (graphics .entry)) 2 (now (table .entry))) 0 (itemsIn (now (system .entry)) (now (graphics .entry)) 48 (now (polys .entry)))) × Small (18434 * n) r ⌝ }
+{
+    let mut words = 0;
+    let mut p = list_start(polys);
+    let mut c = list_start(table);
+    let mut i = 0;
+    while i < n {
+        p = seek(polys, p, i);
+        let rec = list_item(system, graphics, polys, 48, p, i);
+        match check_polygon(system, graphics, rec, i, limits, table, c) {
+            Step::Bad(r) => {
+                return Tally::Refused(r);
+            }
+            Step::Good(w, next) => {
+                words += w;
+                c = next;
+            }
+        }
+        i += 1;
+    }
+    Tally::Words(words)
+}
+
+// Pass two.
+
+// A run of edges, part by part; where the cursor stands then.
+fn put_edges<'a>(
+    system: &'a [u8],
+    graphics: &'a [u8],
+    header: &'a [u8],
+    table: &'a [u8],
+    from: Cursor,
+    start: usize,
+    count: usize,
+    out: &mut [u32],
+    at: usize,
+) -> Cursor
+    requires { ⌜ Readable (now system) (now graphics) 8 (now table) × Stands (now table) from × (start + count ≤ total (now table)) × (at + 6 * count ≤ length (now out)) ⌝ }
+    ensures { λ r. ⌜ Stands (now (table .entry)) r × (now (out .exit) ≡ put at (each edgeWords (map (edgeOf (areaOf (now (header .entry)))) (take count (drop start (itemsIn (now (system .entry)) (now (graphics .entry)) 8 (now (table .entry))))))) (now (out .entry))) ⌝ }
+{
+    let mut c = from;
+    let mut k = 0;
+    while k < count {
+        c = seek(table, c, start + k);
+        let run = list_run(system, graphics, table, 8, c, start + k);
+        let n = lesser(run.len() / 8, count - k);
+        put_edge_run(header, run, n, out, at + 6 * k);
+        k += n;
+    }
+    c
+}
+
+// The vertices that the first n indices of `run` name.
+fn put_vertex_run<'a>(
+    system: &'a [u8],
+    graphics: &'a [u8],
+    vertices: &'a [u8],
+    from: Cursor,
+    bb_min: Vec3,
+    bb_size: Vec3,
+    run: &'a [u8],
+    n: usize,
+    out: &mut [u32],
+    at: usize,
+) -> Cursor
+    requires { ⌜ Readable (now system) (now graphics) 6 (now vertices) × Stands (now vertices) from × (2 * n ≤ length (now run)) × (at + 3 * n ≤ length (now out)) ⌝ }
+    requires { ⌜ allBelow (total (now vertices)) (cut 2 n (now run)) ≡ true ⌝ }
+    ensures { λ r. ⌜ Stands (now (vertices .entry)) r × (now (out .exit) ≡ put at (each vecWords (map (corner (backIn «bb_min» «bb_size») (itemsIn (now (system .entry)) (now (graphics .entry)) 6 (now (vertices .entry)))) (cut 2 n (now (run .entry))))) (now (out .entry))) ⌝ }
+{
+    let mut d = from;
+    let mut k = 0;
+    while k < n {
+        let j = u16_le(run, 2 * k) as usize;
+        d = seek(vertices, d, j);
+        let v = list_item(system, graphics, vertices, 6, d, j);
+        put_vertex(v, bb_min, bb_size, out, at + 3 * k);
+        k += 1;
+    }
+    d
+}
+
+// A run of vertices by their indices, part by part.
+fn put_vertices<'a>(
+    system: &'a [u8],
+    graphics: &'a [u8],
+    vertices: &'a [u8],
+    indices: &'a [u8],
+    from: Corners,
+    bb_min: Vec3,
+    bb_size: Vec3,
+    start: usize,
+    count: usize,
+    out: &mut [u32],
+    at: usize,
+) -> Corners
+    requires { ⌜ Readable (now system) (now graphics) 6 (now vertices) × Readable (now system) (now graphics) 2 (now indices) × Stands (now vertices) (from .vertices) × Stands (now indices) (from .indices) ⌝ }
+    requires { ⌜ (start + count ≤ total (now indices)) × (at + 3 * count ≤ length (now out)) × (allBelow (total (now vertices)) (take count (drop start (itemsIn (now system) (now graphics) 2 (now indices)))) ≡ true) ⌝ }
+    ensures { λ r. ⌜ Stands (now (vertices .entry)) (r .vertices) × Stands (now (indices .entry)) (r .indices)
+        × (now (out .exit) ≡ put at (each vecWords (map (corner (backIn «bb_min» «bb_size») (itemsIn (now (system .entry)) (now (graphics .entry)) 6 (now (vertices .entry)))) (take count (drop start (itemsIn (now (system .entry)) (now (graphics .entry)) 2 (now (indices .entry))))))) (now (out .entry))) ⌝ }
+{
+    let mut c = from.indices;
+    let mut d = from.vertices;
+    let mut k = 0;
+    while k < count {
+        c = seek(indices, c, start + k);
+        let run = list_run(system, graphics, indices, 2, c, start + k);
+        let n = lesser(run.len() / 2, count - k);
+        d = put_vertex_run(
+            system,
+            graphics,
+            vertices,
+            d,
+            bb_min,
+            bb_size,
+            run,
+            n,
+            out,
+            at + 3 * k,
+        );
+        k += n;
+    }
+    Corners {
+        vertices: d,
+        indices: c,
+    }
+}
+
+// A polygon's vertices and edges.
+fn put_sides<'a>(
+    system: &'a [u8],
+    graphics: &'a [u8],
+    vertices: &'a [u8],
+    indices: &'a [u8],
+    edges: &'a [u8],
+    header: &'a [u8],
+    bb_min: Vec3,
+    bb_size: Vec3,
+    start: usize,
+    count: usize,
+    from: Cursors,
+    out: &mut [u32],
+    at: usize,
+) -> Cursors
+    requires { ⌜ Ready (now system) (now graphics) (now vertices) (now indices) (now edges) from × (at + 9 * count ≤ length (now out)) ⌝ }
+    requires { ⌜ Inside (now system) (now graphics) (now vertices) (now indices) (now edges) start count ⌝ }
+    ensures { λ r. ⌜ Ready (now (system .entry)) (now (graphics .entry)) (now (vertices .entry)) (now (indices .entry)) (now (edges .entry)) r
+        × (now (out .exit) ≡ put at (sides (areaOf (now (header .entry))) (backIn «bb_min» «bb_size») (itemsIn (now (system .entry)) (now (graphics .entry)) 6 (now (vertices .entry))) (itemsIn (now (system .entry)) (now (graphics .entry)) 2 (now (indices .entry))) (itemsIn (now (system .entry)) (now (graphics .entry)) 8 (now (edges .entry))) start count) (now (out .entry))) ⌝ }
+{
+    let ci = from.indices;
+    let cv = from.vertices;
+    let ce = from.edges;
+    let two = put_vertices(
+        system,
+        graphics,
+        vertices,
+        indices,
+        Corners {
+            vertices: cv,
+            indices: ci,
+        },
+        bb_min,
+        bb_size,
+        start,
+        count,
+        out,
+        at,
+    );
+    let e = put_edges(
+        system,
+        graphics,
+        header,
+        edges,
+        ce,
+        start,
+        count,
+        out,
+        at + 3 * count,
+    );
+    let i = two.indices;
+    let v = two.vertices;
+    Cursors {
+        vertices: v,
+        indices: i,
+        edges: e,
+    }
+}
+
+// The polygon whose 48 bytes are rec, from the strip's word `at` on.
+fn put_polygon<'a>(
+    system: &'a [u8],
+    graphics: &'a [u8],
+    vertices: &'a [u8],
+    indices: &'a [u8],
+    edges: &'a [u8],
+    links: &'a [u8],
+    header: &'a [u8],
+    bb_min: Vec3,
+    bb_size: Vec3,
+    rec: &'a [u8],
+    from: Cursors,
+    out: &mut [u32],
+    at: usize,
+) -> Spot
+    requires { ⌜ Ready (now system) (now graphics) (now vertices) (now indices) (now edges) from
+        × Inside (now system) (now graphics) (now vertices) (now indices) (now edges) (startOf (now rec)) (countOf (now rec))
+        × (at + sizeOf (length (linksOf (now links))) (now rec) ≤ length (now out)) ⌝ }
+    ensures { λ r. ⌜ Put (now (system .entry)) (now (graphics .entry)) (now (vertices .entry)) (now (indices .entry)) (now (edges .entry))
+        (polygonWords (polygonMade (sourceOf (now (system .entry)) (now (graphics .entry)) (now (vertices .entry)) (now (indices .entry)) (now (edges .entry)) (now (links .entry)) (now (header .entry)) «bb_min» «bb_size») (now (rec .entry))))
+        (now (out .entry)) at r (now (out .exit)) ⌝ }
+{
+    let n = link_count(rec, links.len() / 2);
+    let count = (u16_le(rec, 2) / 32 % 2048) as usize;
+    let start = u16_le(rec, 4) as usize;
+    put_front(rec, links, n, count, out, at);
+    let next = at + 4 + n;
+    let cursors = put_sides(
+        system,
+        graphics,
+        vertices,
+        indices,
+        edges,
+        header,
+        bb_min,
+        bb_size,
+        start,
+        count,
+        from,
+        out,
+        next,
+    );
+    Spot {
+        at: next + 9 * count,
+        cursors,
+    }
+}
+
+// The n polygons of a list, from the strip's word `at` on; the word after them.
+pub fn put_polygons<'a>(
+    system: &'a [u8],
+    graphics: &'a [u8],
+    vertices: &'a [u8],
+    indices: &'a [u8],
+    edges: &'a [u8],
+    links: &'a [u8],
+    header: &'a [u8],
+    bb_min: Vec3,
+    bb_size: Vec3,
+    polys: &'a [u8],
+    n: usize,
+    out: &mut [u32],
+    at: usize,
+) -> usize
+    requires { ⌜ Readable (now system) (now graphics) 6 (now vertices) × Readable (now system) (now graphics) 2 (now indices) × Readable (now system) (now graphics) 8 (now edges) × Readable (now system) (now graphics) 48 (now polys) × (n ≡ total (now polys)) ⌝ }
+    requires { ⌜ Passed (limitsOf (sourceOf (now system) (now graphics) (now vertices) (now indices) (now edges) (now links) (now header) «bb_min» «bb_size»)) (itemsIn (now system) (now graphics) 2 (now indices)) 0 (itemsIn (now system) (now graphics) 48 (now polys)) at (length (now out)) ⌝ }
+    ensures { λ r. ⌜ (r ≡ at + length (each polygonWords (map (polygonMade (sourceOf (now (system .entry)) (now (graphics .entry)) (now (vertices .entry)) (now (indices .entry)) (now (edges .entry)) (now (links .entry)) (now (header .entry)) «bb_min» «bb_size»)) (itemsIn (now (system .entry)) (now (graphics .entry)) 48 (now (polys .entry))))))
+        × (now (out .exit) ≡ put at (each polygonWords (map (polygonMade (sourceOf (now (system .entry)) (now (graphics .entry)) (now (vertices .entry)) (now (indices .entry)) (now (edges .entry)) (now (links .entry)) (now (header .entry)) «bb_min» «bb_size»)) (itemsIn (now (system .entry)) (now (graphics .entry)) 48 (now (polys .entry))))) (now (out .entry))) ⌝ }
+{
+    let cv = list_start(vertices);
+    let ci = list_start(indices);
+    let ce = list_start(edges);
+    let mut c = Cursors {
+        vertices: cv,
+        indices: ci,
+        edges: ce,
+    };
+    let mut p = list_start(polys);
+    let mut e = at;
+    let mut i = 0;
+    while i < n {
+        p = seek(polys, p, i);
+        let rec = list_item(system, graphics, polys, 48, p, i);
+        let r = put_polygon(
+            system,
+            graphics,
+            vertices,
+            indices,
+            edges,
+            links,
+            header,
+            bb_min,
+            bb_size,
+            rec,
+            c,
+            out,
+            e,
+        );
+        e = r.at;
+        c = r.cursors;
+        i += 1;
+    }
+    e
+}
+
+// The four lists at their addresses: the first refusal in order, or their counts.
+pub fn read_lists<'a>(
+    system: &'a [u8],
+    graphics: &'a [u8],
+    va: u64,
+    ia: u64,
+    ea: u64,
+    pa: u64,
+    links: usize,
+) -> ListsAnswer
+    ensures { λ r. ⌜ (r ≡ listsOf (now (system .entry)) (now (graphics .entry)) va ia ea pa links) × ListsRead (now (system .entry)) (now (graphics .entry)) va ia ea pa links r ⌝ }
+{
+    match read_list(system, graphics, va, 6, 1) {
+        ListAnswer::Refused(r) => ListsAnswer::Refused(r),
+        ListAnswer::Items(vertices) => match read_list(system, graphics, ia, 2, 2) {
+            ListAnswer::Refused(r) => ListsAnswer::Refused(r),
+            ListAnswer::Items(indices) => match read_list(system, graphics, ea, 8, 3) {
+                ListAnswer::Refused(r) => ListsAnswer::Refused(r),
+                ListAnswer::Items(edges) => match read_list(system, graphics, pa, 48, 4) {
+                    ListAnswer::Refused(r) => ListsAnswer::Refused(r),
+                    ListAnswer::Items(polys) => ListsAnswer::Lists(
+                        Limits {
+                            vertices,
+                            indices,
+                            edges,
+                            links,
+                        },
+                        polys,
+                    ),
+                },
+            },
+        },
+    }
+}

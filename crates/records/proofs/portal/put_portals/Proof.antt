@@ -1,0 +1,69 @@
+-- `put_portals` meets its contract. Invariant: what is left of the portals, stored from here on, gives what is promised.
+use native.Mathlib.Numerals.{unary-clauses}
+use native.Mathlib.Omega.{arith}
+use mathlib.Core.Path.{_≡_, refl, sym, ap, _∙_}
+use mathlib.Core.List.{map}
+use Prim.Native.Nat.{ℕ, _+_, _-_, _*_, _≤_}
+use lib.ListN.{length, take, drop}
+use borrow.Author.Needs.{needs}
+use Rattle.fields.specs.Bytes.{put}
+use Rattle.strip.specs.Cell.{each, portalWords}
+use Rattle.grammar.specs.Parts.{cut}
+use Rattle.grammar.specs.Derives.{portalOf}
+use Rattle.fields.proofs.Puts.{length-put}
+use Rattle.records.specs.Back.{backBy}
+use Rattle.records.proofs.Stores.{item-stored, items-stored, portal-length}
+use Rattle.records.proofs.portal.put_portals.Statement.{statement}
+use Rattle.records.proofs.portal.put_portals.Tie as tie
+
+abbrev Inv-loop : tie.InvT-loop
+Inv-loop portals n bb-min bb-size strip₀ at i₀ strip i =
+    (i ≤ n)
+    × (length strip ≡ length strip₀)
+    × (put (at + 11 * i) (each portalWords (map (portalOf (backBy bb-min bb-size)) (cut 28 (n - i) (drop (28 * i) portals)))) strip
+    ≡ put at (each portalWords (map (portalOf (backBy bb-min bb-size)) (cut 28 n portals))) strip₀)
+
+abbrev μ-loop : tie.MeasureT-loop
+μ-loop portals n bb-min bb-size strip₀ at i₀ strip i = n - i
+
+loop-holds : tie.Need-loop-holds Inv-loop μ-loop
+loop-holds c = (search needs, refl, simp unary-clauses)
+
+put-portal-requires : tie.Need-put-portal-requires Inv-loop μ-loop
+put-portal-requires c κs = omega (arith, c .before .before .before .loop .inv .1)
+
+loop-again : tie.Need-loop-again Inv-loop μ-loop
+loop-again c =
+    let i = c .before .before .before .before .before .before .loop .i in
+    let bs = c .before .before .before .before .before .before .before .before .before .args .portals .now in
+    let f = portalOf (backBy (c .before .before .before .before .before .before .before .before .before .args .bb-min) (c .before .before .before .before .before .before .before .before .before .args .bb-size)) in
+    let e : 28 * i + 28 - 28 * i ≡ 28 = omega arith in
+    let stored = c .before .before .put-portal .ensures ∙ ap (λ (k : ℕ). put (c .before .before .before .before .before .before .before .before .before .args .at + 11 * i) (portalWords (f (take k (drop (28 * i) bs)))) (c .before .before .before .before .before .before .loop .strip)) e in
+    (search needs, ap length stored ∙ length-put _ _ _ ∙ c .before .before .before .before .before .before .loop .inv .1, rw stored (item-stored portalWords f 28 11 portal-length (c .before .before .before .before .before .before .before .before .before .args .at) (c .before .before .before .before .before .before .before .before .before .args .n) i bs (c .before .before .before .before .before .before .loop .strip) (search needs) ∙ c .before .before .before .before .before .before .loop .inv .2))
+
+same-length : tie.Need-same-length Inv-loop μ-loop
+same-length c = c .before .loop .inv .1
+
+returns : tie.Need-returns Inv-loop μ-loop
+returns c = sym (items-stored portalWords _ 28 _ (c .before .before .before .before .args .n) (c .before .loop .i) _ (c .before .loop .strip) (search needs)) ∙ c .before .loop .inv .2
+
+pub put-portals-spec : {M : Type 1} → statement M
+put-portals-spec =
+    tie.close
+    (tie.spec
+    Inv-loop
+    μ-loop
+    loop-holds
+    (λ c. search needs)
+    (λ c. search needs)
+    (λ c. search needs)
+    (λ c. search needs)
+    (λ c. search needs)
+    (λ c. search needs)
+    (λ c. search needs)
+    put-portal-requires
+    (λ c. search needs)
+    (λ c. search needs)
+    loop-again
+    same-length
+    returns)

@@ -1,0 +1,89 @@
+-- What each check of a reading says when it is passed, and when it passes. Assumes nothing.
+use Prim.Native.Nat.{ℕ, zero, suc, _*_, _%_, _^_, _<_}
+use native.Mathlib.Nat.{mul-zero, mul-suc}
+use native.Mathlib.Omega.{arith}
+use mathlib.Core.Path.{_≡_, refl, ap}
+use mathlib.Core.Bool.{Bool, true, false, _&&_, and-eq-true-iff}
+use mathlib.Core.List.{List}
+use lib.Dec.{ltb}
+use lib.ListN.{length}
+use borrow.Author.Tests.{ltb-true, lt-ltb}
+use Rattle.resource.specs.Section.{resolved}
+use Rattle.strip.specs.Cell.{Vec3, Head, Cell}
+use Rattle.grammar.specs.Parts.{Good, cut, Array, none, some}
+use Rattle.grammar.specs.Derives.{AllFinite}
+use Rattle.lists.specs.declared.ListAnswer.{ListAnswer}
+use Rattle.lists.specs.declared.ListAnswer.the-variants.{Items, Refused}
+use Rattle.lists.specs.Lists.{whole}
+use Rattle.lists.proofs.Lists.{whole-of, length-whole}
+use Rattle.polygons.specs.declared.Tally.{Tally}
+use Rattle.polygons.specs.declared.Tally.the-variants.{Words}
+use Rattle.polygons.specs.declared.Tally.the-variants.{Refused as Stopped}
+use Rattle.sector_tree.specs.Walk.{Walked}
+use Rattle.sector_tree.specs.Walk as Walk
+use Rattle.ynv_read.specs.Reading.{Reading, made, refused, check, onList, onWalk, finiteVec, finiteBox, onTally}
+
+refused-made : {number place k : ℕ} {c : Cell} → refused number place ≡ made c k → ⊥
+refused-made e = let z : _≡_ {A = ℕ} 0 1 = cc in omega arith
+
+pub check-in : (b : Bool) (number : ℕ) (rest : Reading) {c : Cell} {k : ℕ} → check b number rest ≡ made c k → (b ≡ true) × (rest ≡ made c k)
+check-in true number rest e = (refl, e)
+check-in false number rest e = absurd (refused-made e)
+
+pub list-in : (a : ListAnswer) (rest : Reading) {c : Cell} {k : ℕ} → onList a rest ≡ made c k → (n : ℕ) × (a ≡ Items n) × (rest ≡ made c k)
+list-in (Items n) rest e = (n, refl, e)
+list-in (Refused r) rest e = absurd (refused-made e)
+
+pub walk-in : (w : Walked) (rest : List (List ℕ) → ℕ → Reading) {c : Cell} {k : ℕ} → onWalk w rest ≡ made c k
+    → (left : ℕ) × (points : List (List ℕ)) × (w ≡ Walk.done left points) × (onWalk (Walk.done left points) rest ≡ made c k)
+walk-in (Walk.done left points) rest e = (left, points, refl, e)
+walk-in (Walk.refused number) rest e = absurd (refused-made e)
+
+-- ---- the box
+
+module _ (v : Vec3) where
+  finite-in : finiteVec v ≡ true → AllFinite v
+  finite-in e =
+      let (f, g) = and-eq-true-iff (ltb (v .x % 2 ^ 31) 0x7F80_0000) (ltb (v .y % 2 ^ 31) 0x7F80_0000 && ltb (v .z % 2 ^ 31) 0x7F80_0000) .0 e in
+      let (h, i) = and-eq-true-iff (ltb (v .y % 2 ^ 31) 0x7F80_0000) (ltb (v .z % 2 ^ 31) 0x7F80_0000) .0 g in
+      record { x = ltb-true (v .x % 2 ^ 31) 0x7F80_0000 f; y = ltb-true (v .y % 2 ^ 31) 0x7F80_0000 h; z = ltb-true (v .z % 2 ^ 31) 0x7F80_0000 i }
+
+  finite-out : AllFinite v → finiteVec v ≡ true
+  finite-out f =
+      rw (lt-ltb (v .x % 2 ^ 31) 0x7F80_0000 (f .x), lt-ltb (v .y % 2 ^ 31) 0x7F80_0000 (f .y), lt-ltb (v .z % 2 ^ 31) 0x7F80_0000 (f .z))
+
+module _ (h : Head) where
+  pub box-in : finiteBox h ≡ true → AllFinite (h .bb-min) × AllFinite (h .bb-max) × AllFinite (h .bb-size)
+  unfolding finiteBox
+  box-in e =
+      let (f, g) = and-eq-true-iff (finiteVec (h .bb-min)) (finiteVec (h .bb-max) && finiteVec (h .bb-size)) .0 e in
+      let (i, j) = and-eq-true-iff (finiteVec (h .bb-max)) (finiteVec (h .bb-size)) .0 g in
+      (finite-in (h .bb-min) f, finite-in (h .bb-max) i, finite-in (h .bb-size) j)
+
+  pub box-out : AllFinite (h .bb-min) → AllFinite (h .bb-max) → AllFinite (h .bb-size) → finiteBox h ≡ true
+  unfolding finiteBox
+  box-out a b c = rw (finite-out (h .bb-min) a, finite-out (h .bb-max) b, finite-out (h .bb-size) c)
+
+-- ---- good parts
+
+module _ (S G : List ℕ) where
+  pub good-in : (va n : ℕ) → 0 < n → whole S G va n ≡ true → Good S G va n (resolved S G va n)
+  good-in va n h e = record { some = h; there = refl; whole = length-whole S G va n e }
+
+  pub good-out : (va n : ℕ) {b : List ℕ} → Good S G va n b → whole S G va n ≡ true
+  good-out va n g = whole-of S G va n (omega (arith, ap length (g .there), g .whole))
+
+  pub array-in : (w va n : ℕ) → whole S G va (w * n) ≡ true → 0 < w → Array S G w va n (cut w n (resolved S G va (w * n)))
+  unfolding cut
+  array-in w va zero e h = none
+  array-in w va (suc n) e h = some (good-in va (w * suc n) (omega (arith, mul-suc w n)) e)
+
+  pub array-out : {w va n : ℕ} {xs : List (List ℕ)} → Array S G w va n xs → whole S G va (w * n) ≡ true
+  array-out {w} {va} none = whole-of S G va (w * 0) (omega (arith, mul-zero w))
+  array-out {w} {va} (some {n = n} g) = good-out va (w * suc n) g
+
+-- ---- polygons
+
+pub tally-in : (t : Tally) (rest : Reading) {c : Cell} {k : ℕ} → onTally t rest ≡ made c k → (n : ℕ) × (t ≡ Words n) × (rest ≡ made c k)
+tally-in (Words n) rest e = (n, refl, e)
+tally-in (Stopped r) rest e = absurd (refused-made e)

@@ -1,0 +1,257 @@
+-- Pass one: what the checks after the walk come to, by what was called. Assumes nothing.
+use Prim.Native.Nat.{ℕ, _+_, _*_, _/_, _^_, _≤_, _<_}
+use native.Mathlib.Omega.{arith}
+use mathlib.Core.Path.{_≡_, refl, sym, ap, subst, _∙_}
+use mathlib.Core.Bool.{Bool, true, false, cond}
+use mathlib.Core.List.{List, [], _∷_}
+use lib.ListN.{length}
+use Rattle.fields.specs.Bytes.{le}
+use Rattle.resource.specs.Section.{resolved}
+use Rattle.strip.specs.declared.Refusal.{Refusal}
+use Rattle.grammar.proofs.Parts.{cut-length}
+use Rattle.lists.specs.declared.ListAnswer.{ListAnswer}
+use Rattle.lists.specs.declared.ListAnswer.the-variants.{Items, Refused}
+use Rattle.lists.specs.Lists.{total, tableOf, listBytes, listed, Readable}
+use Rattle.polygon_words.proofs.Words.{links-are, length-links}
+use Rattle.polygons.specs.declared.Limits.{Limits}
+use Rattle.polygons.specs.declared.ListsAnswer.{ListsAnswer}
+use Rattle.polygons.specs.declared.ListsAnswer.the-variants.{Lists}
+use Rattle.polygons.specs.declared.ListsAnswer.the-variants.{Refused as Turned}
+use Rattle.polygons.specs.declared.Tally.{Tally}
+use Rattle.polygons.specs.declared.Tally.the-variants.{Words}
+use Rattle.polygons.specs.declared.Tally.the-variants.{Refused as Stopped}
+use Rattle.polygons.specs.Polygons.{limitsOf, tallyFrom}
+use Rattle.polygons.specs.Passes.{itemsIn, Small}
+use Rattle.polygons.specs.Listed.{listsOf, ListsRead, Counts}
+use Rattle.polygons.specs.Listed as Listed
+use Rattle.polygons.proofs.Exact.{tally-made}
+use Rattle.lists.proofs.Lists.{whole-of, not-whole}
+use Rattle.strip.specs.Cell.{encode}
+use Rattle.ynv_read.specs.declared.Addresses.{Addresses}
+use Rattle.ynv_read.specs.declared.Parsed.{Parsed}
+use Rattle.ynv_read.specs.declared.ParseAnswer.the-variants as ParseAnswer
+use Rattle.ynv_read.specs.declared.ListsCheck.{ListsCheck}
+use Rattle.ynv_read.specs.declared.ListsCheck.the-variants as ListsCheck
+use Rattle.ynv_read.specs.Reading.{Reading, made, refused, onList, onTally, header, source, polygons, portalCount, portals, rootAt, cellOf, onWalk, onHead, onLists, afterWalk, readCell}
+use Rattle.strip.specs.Outcome.{shown, refusalOf}
+use Rattle.lists.specs.Lists.{whole}
+use Rattle.sector_tree.specs.declared.Tree.{Tree}
+use Rattle.sector_tree.specs.declared.TreeAnswer.{TreeAnswer}
+use Rattle.sector_tree.specs.declared.TreeAnswer.the-variants as TreeAnswer
+use Rattle.sector_tree.specs.Walk.{Walked, walk}
+use Rattle.sector_tree.specs.Walk as Walk
+use Rattle.sector_tree.specs.Answer as Tree
+use Rattle.sector_tree.specs.Answer.{paper, outcomeOf, treeOutcome}
+use Rattle.sector_tree.proofs.Answers.{by-walk, accepted}
+use Rattle.ynv_read.specs.declared.ParseAnswer.{ParseAnswer}
+use Rattle.ynv_read.specs.declared.Check.{Check}
+use Rattle.ynv_read.specs.declared.Check.the-variants as Check
+use Rattle.ynv_read.specs.Parse.{countsOf}
+use Rattle.ynv_read.specs.Passes.{answerOf, after, addresses, linkBytes, polysWords, ListsReady, Tallied, ListsChecked}
+use Rattle.ynv_read.proofs.Lengths.{polys-count, portals-count, points-count, encode-length}
+
+-- ---- the four lists
+
+refused-of : {q r : Refusal} → Turned q ≡ Turned r → refused (q .number) (q .place) ≡ refused (r .number) (r .place)
+refused-of {q} {r} e = let s : q ≡ r = cc in ap (λ (x : Refusal). refused (x .number) (x .place)) s
+
+never : {l : Limits} {n : ℕ} {r : Refusal} → Lists l n ≡ Turned r → ⊥
+never e = let z : _≡_ {A = ℕ} 0 1 = cc in omega arith
+
+-- the four in turn, before the rest
+abbrev inTurn : ListAnswer → ListAnswer → ListAnswer → ListAnswer → Reading → Reading
+inTurn a b c d rest = onList a (onList b (onList c (onList d rest)))
+
+module _ (links : ℕ) where
+  -- the answer on four lists, by theirs
+  four : ListAnswer → ListAnswer → ListAnswer → ListAnswer → ListsAnswer
+  four a b c d =
+      Listed.onList a (λ v. Listed.onList b (λ i. Listed.onList c (λ e. Listed.onList d (λ p. Lists (record { vertices = v; indices = i; edges = e; links = links }) p))))
+
+  turned : (a b c d : ListAnswer) (rest : Reading) {r : Refusal} → four a b c d ≡ Turned r → inTurn a b c d rest ≡ refused (r .number) (r .place)
+  unfolding four
+  turned (Refused q) b c d rest e = refused-of e
+  turned (Items v) (Refused q) c d rest e = refused-of e
+  turned (Items v) (Items i) (Refused q) d rest e = refused-of e
+  turned (Items v) (Items i) (Items j) (Refused q) rest e = refused-of e
+  turned (Items v) (Items i) (Items j) (Items p) rest e = absurd (never e)
+
+  taken : (a b c d : ListAnswer) (rest : Reading) {l : Limits} {n : ℕ} → four a b c d ≡ Lists l n → inTurn a b c d rest ≡ rest
+  unfolding four
+  taken (Refused q) b c d rest e = absurd (never (sym e))
+  taken (Items v) (Refused q) c d rest e = absurd (never (sym e))
+  taken (Items v) (Items i) (Refused q) d rest e = absurd (never (sym e))
+  taken (Items v) (Items i) (Items j) (Refused q) rest e = absurd (never (sym e))
+  taken (Items v) (Items i) (Items j) (Items p) rest e = refl
+
+pub length-items : (S G : List ℕ) (w : ℕ) (t : List ℕ) → length (itemsIn S G w t) ≡ total t
+unfolding itemsIn
+length-items S G w t = cut-length w (total t) (listBytes S G w t)
+
+module _ (S G : List ℕ) where
+  -- what the list at one of the header's addresses answers
+  abbrev answer : ℕ → ℕ → ℕ → ListAnswer
+  answer w off place = listed S G w (le 8 (header S G) off) place
+
+  links-count : length (linkBytes S G) / 2 ≡ length (source S G .links)
+  unfolding linkBytes source
+  links-count =
+      sym (ap length (links-are S G (le 8 (header S G) 0x130) (le 4 (header S G) 0x150)) ∙ length-links (resolved S G (le 8 (header S G) 0x130) (2 * le 4 (header S G) 0x150)))
+
+module _ (S G : List ℕ) {a : Addresses} (ea : a ≡ addresses (header S G)) {ls : List ℕ} (el : ls ≡ linkBytes S G)
+    {r : ListsAnswer} (er : (r ≡ listsOf S G (a .vertices) (a .indices) (a .edges) (a .polygons) (length ls / 2)) × ListsRead S G (a .vertices) (a .indices) (a .edges) (a .polygons) (length ls / 2) r) where
+  by-header : (r ≡ listsOf S G (le 8 (header S G) 0x70) (le 8 (header S G) 0x80) (le 8 (header S G) 0x88) (le 8 (header S G) 0x118) (length (linkBytes S G) / 2))
+      × ListsRead S G (le 8 (header S G) 0x70) (le 8 (header S G) 0x80) (le 8 (header S G) 0x88) (le 8 (header S G) 0x118) (length (linkBytes S G) / 2) r
+  unfolding addresses
+  by-header = rw (ea, el) at er
+
+  pub stopped-by-list : {q : Refusal} → r ≡ Turned q → (rest : Reading) → onLists S G rest ≡ refused (q .number) (q .place)
+  unfolding onLists listsOf four
+  stopped-by-list e rest =
+      turned (length (linkBytes S G) / 2) (answer S G 6 0x70 1) (answer S G 2 0x80 2) (answer S G 8 0x88 3) (answer S G 48 0x118 4)
+      (onTally (tallyFrom (limitsOf (source S G)) (source S G .indices) 0 (polygons S G)) rest) (sym (by-header .0) ∙ e)
+
+  module _ {l : Limits} {n : ℕ} (found : r ≡ Lists l n) where
+    all-taken : (rest : Reading) → inTurn (answer S G 6 0x70 1) (answer S G 2 0x80 2) (answer S G 8 0x88 3) (answer S G 48 0x118 4) rest ≡ rest
+    unfolding listsOf four
+    all-taken rest =
+        taken (length (linkBytes S G) / 2) (answer S G 6 0x70 1) (answer S G 2 0x80 2) (answer S G 8 0x88 3) (answer S G 48 0x118 4) rest (sym (by-header .0) ∙ found)
+
+    counts : Counts S G (le 8 (header S G) 0x70) (le 8 (header S G) 0x80) (le 8 (header S G) 0x88) (le 8 (header S G) 0x118) (length (linkBytes S G) / 2) l n
+    counts = rw found at (by-header .1)
+
+    all-ready : ListsReady S G
+    all-ready = record { vertices = counts .vertices .readable; indices = counts .indices .readable; edges = counts .edges .readable; polygons = counts .polys .readable }
+
+    limits-are : l ≡ limitsOf (source S G)
+    unfolding source
+    limits-are =
+        let s = source S G in
+        let make : ℕ → ℕ → ℕ → ℕ → Limits = λ a b c d. record { vertices = a; indices = b; edges = c; links = d } in
+        let v : l .vertices ≡ length (s .vertices) = counts .vertices .count ∙ sym (length-items S G 6 (tableOf S G (le 8 (header S G) 0x70))) in
+        let i : l .indices ≡ length (s .indices) = counts .indices .count ∙ sym (length-items S G 2 (tableOf S G (le 8 (header S G) 0x80))) in
+        let e : l .edges ≡ length (s .edges) = counts .edges .count ∙ sym (length-items S G 8 (tableOf S G (le 8 (header S G) 0x88))) in
+        let k : l .links ≡ length (s .links) = counts .link-count ∙ links-count S G in
+        let whole : make (l .vertices) (l .indices) (l .edges) (l .links) ≡ make (length (s .vertices)) (length (s .indices)) (length (s .edges)) (length (s .links)) = rw (v, i, e, k) in
+        whole
+
+    module _ {it pt : List ℕ} (ei : it ≡ tableOf S G (a .indices)) (ep : pt ≡ tableOf S G (a .polygons)) where
+      index-table : it ≡ tableOf S G (le 8 (header S G) 0x80)
+      unfolding addresses
+      index-table = rw ea at ei
+
+      polygon-table : pt ≡ tableOf S G (le 8 (header S G) 0x118)
+      unfolding addresses
+      polygon-table = rw ea at ep
+
+      -- pass one over the polygons may be called
+      pub may-check : Readable S G 2 it × Readable S G 48 pt × (l .indices ≡ total it) × (n ≡ total pt)
+      may-check = rw (index-table, polygon-table) (counts .indices .readable, counts .polys .readable, counts .indices .count, counts .polys .count)
+
+      module _ {t : Tally} (et : (t ≡ tallyFrom l (itemsIn S G 2 it) 0 (itemsIn S G 48 pt)) × Small (18434 * n) t) where
+        tally-is : tallyFrom (limitsOf (source S G)) (source S G .indices) 0 (polygons S G) ≡ t
+        unfolding source
+        tally-is = sym (et .0 ∙ rw (limits-are, index-table, polygon-table))
+
+        pub stopped-by-polygon : {q : Refusal} → t ≡ Stopped q → (rest : Reading) → onLists S G rest ≡ refused (q .number) (q .place)
+        unfolding onLists
+        stopped-by-polygon e rest = all-taken (onTally (tallyFrom (limitsOf (source S G)) (source S G .indices) 0 (polygons S G)) rest) ∙ rw (tally-is, e)
+
+        pub all-tallied : {w : ℕ} → t ≡ Words w → Tallied S G w n
+        unfolding onLists polysWords
+        all-tallied {w} e =
+            record {
+              passes = λ rest. all-taken (onTally (tallyFrom (limitsOf (source S G)) (source S G .indices) 0 (polygons S G)) rest) ∙ rw (tally-is, e);
+              ready = all-ready;
+              count-is = counts .polys .count ∙ sym (length-items S G 48 (tableOf S G (le 8 (header S G) 0x118)));
+              words-are = tally-made (source S G) 0 (polygons S G) (tally-is ∙ e) .1;
+              few = omega (arith, counts .polys .readable .few, counts .polys .count);
+              small = rw e at (et .1);
+            }
+
+-- ---- after the walk
+
+module _ (S G : List ℕ) {r : ListsCheck} (er : ListsChecked S G r) where
+  pub rest-stopped : {q : Refusal} → r ≡ ListsCheck.Refused q → (points : List (List ℕ)) (k : ℕ) → ParseAnswer.Refused q ≡ answerOf (afterWalk S G points k)
+  unfolding afterWalk
+  rest-stopped {q} e points k =
+      let stops : (rest : Reading) → onLists S G rest ≡ refused (q .number) (q .place) = subst (ListsChecked S G) e er in
+      ap answerOf (sym (stops _))
+
+  module _ {w n : ℕ} (e : r ≡ ListsCheck.Polys w n) where
+    pub tallied : Tallied S G w n
+    tallied = subst (ListsChecked S G) e er
+
+    module _ {pc : ℕ} (ec : (pc ≡ portalCount S G) × (pc < 2 ^ 32)) {ps : List ℕ} (ep : ps ≡ portals S G) where
+      pub portals-stop : length ps < 28 * pc → (points : List (List ℕ)) (k : ℕ) → ParseAnswer.Refused (record { number = 39; place = 0 }) ≡ answerOf (afterWalk S G points k)
+      unfolding afterWalk portals
+      portals-stop h points k =
+          let short = rw (ep, ec .0) at h in
+          let is : afterWalk S G points k ≡ refused 39 0 = tallied .passes _ ∙ rw (not-whole S G (le 8 (header S G) 0x128) (28 * portalCount S G) short) in
+          sym (ap answerOf is)
+
+      pub parsed : 28 * pc ≤ length ps → (points : List (List ℕ)) (k : ℕ) {pn : ℕ} → length points ≡ pn
+          → ParseAnswer.Parsed (record { words = 14 + w + 11 * pc + 4 * pn + 1; polys = n; portals = pc; points = pn; sectors = k }) ≡ answerOf (afterWalk S G points k)
+      unfolding afterWalk portals cellOf
+      parsed h points k {pn} en =
+          let long = rw (ep, ec .0) at h in
+          let is : afterWalk S G points k ≡ made (cellOf S G points) k = tallied .passes _ ∙ rw (whole-of S G (le 8 (header S G) 0x128) (28 * portalCount S G) long) in
+          let make : ℕ → ℕ → ℕ → ℕ → Parsed = λ a b c d. record { words = a; polys = b; portals = c; points = d; sectors = k } in
+          let words : 14 + w + 11 * pc + 4 * pn + 1 ≡ length (encode (cellOf S G points)) = omega (arith, encode-length S G points, tallied .words-are, ec .0) in
+          let polys : n ≡ length (cellOf S G points .polys) = tallied .count-is ∙ sym (polys-count S G) in
+          let ports : pc ≡ length (cellOf S G points .portals) = ec .0 ∙ sym (portals-count S G) in
+          let pts : pn ≡ length (cellOf S G points .points) = sym en ∙ sym (points-count S G points) in
+          let same : make (14 + w + 11 * pc + 4 * pn + 1) n pc pn ≡ countsOf (cellOf S G points) k =
+          ap (λ (a : ℕ). make a n pc pn) words ∙ ap (λ (a : ℕ). make (length (encode (cellOf S G points))) a pc pn) polys
+          ∙ ap (λ (a : ℕ). make (length (encode (cellOf S G points))) (length (cellOf S G points .polys)) a pn) ports
+          ∙ ap (λ (a : ℕ). make (length (encode (cellOf S G points))) (length (cellOf S G points .polys)) (length (cellOf S G points .portals)) a) pts in
+          ap ParseAnswer.Parsed same ∙ sym (ap answerOf is)
+
+-- ---- the walk
+
+-- a root that passed isn't 0
+pub passed-far : (S G : List ℕ) → ((rest : Reading) → onHead S G rest ≡ rest) → rootAt S G ≡ 0 → ⊥
+unfolding onHead
+passed-far S G passes z = by (whole S G 0x5000_0000 368) (rw z at (passes (refused 0 0)))
+  where
+    by : (b : Bool) → cond b (refused 31 0) (refused 30 0) ≡ refused 0 0 → ⊥
+    by true e = let n : _≡_ {A = ℕ} 31 0 = cc in omega arith
+    by false e = let n : _≡_ {A = ℕ} 30 0 = cc in omega arith
+
+module _ (S G : List ℕ) {x : Check} (ex : (rest : Reading) → onHead S G rest ≡ after x rest) where
+  pub head-stopped : {q : Refusal} → x ≡ Check.Refused q → ParseAnswer.Refused q ≡ answerOf (readCell S G)
+  unfolding readCell
+  head-stopped {q} e =
+      let is : readCell S G ≡ refused (q .number) (q .place) = ex _ ∙ rw e in
+      sym (ap answerOf is)
+
+  module _ (e : x ≡ Check.Passed) {root : ℕ} (er : root ≡ rootAt S G) (a : TreeAnswer) (ea : (paper a ≡ shown (treeOutcome S G root)) × Tree.Small a) where
+    passes : (rest : Reading) → onHead S G rest ≡ rest
+    passes rest = ex rest ∙ rw e
+
+    at-root : paper a ≡ shown (treeOutcome S G (rootAt S G))
+    at-root = ea .0 ∙ ap (λ (n : ℕ). shown (treeOutcome S G n)) er
+
+    pub tree-stopped : {q : Refusal} → a ≡ TreeAnswer.Refused q → ParseAnswer.Refused q ≡ answerOf (readCell S G)
+    unfolding readCell
+    tree-stopped {q} f =
+        let w = walk S G 4096 (rootAt S G ∷ []) in
+        let says : refusalOf {A = Tree} q ≡ shown (outcomeOf w) = sym (ap paper f) ∙ at-root ∙ ap shown (by-walk S G (rootAt S G) (passed-far S G passes)) in
+        let is : readCell S G ≡ refused (q .number) (q .place) = passes (onWalk w (afterWalk S G)) ∙ by w says in
+        sym (ap answerOf is)
+      where
+        by : (w : Walked) → refusalOf {A = Tree} q ≡ shown (outcomeOf w) → onWalk w (afterWalk S G) ≡ refused (q .number) (q .place)
+        by (Walk.refused number) g = cc
+        by (Walk.done left points) g = let z : _≡_ {A = ℕ} 0 1 = cc in absurd (omega arith)
+
+    module _ {t : Tree} (f : a ≡ TreeAnswer.Tree t) where
+      pub few-points : t .points ≤ 65535 * 4096
+      few-points = let small : Tree.Small (TreeAnswer.Tree t) = rw f at (ea .1) in small
+
+      pub decided : {r : ParseAnswer} → ((points : List (List ℕ)) → length points ≡ t .points → r ≡ answerOf (afterWalk S G points (t .sectors))) → r ≡ answerOf (readCell S G)
+      unfolding readCell
+      decided {r} g =
+          let found = accepted S G (rootAt S G) (sym (ap paper f) ∙ at-root) in
+          let is : readCell S G ≡ afterWalk S G (found .points) (t .sectors) =
+          passes _ ∙ ap (λ (w : Walked). onWalk w (afterWalk S G)) (found .is) ∙ ap (afterWalk S G (found .points)) (sym (found .sectors-are)) in
+          g (found .points) (sym (found .points-are)) ∙ sym (ap answerOf is)

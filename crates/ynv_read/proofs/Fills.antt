@@ -1,0 +1,238 @@
+-- Pass two: what may be filled after pass one, and that the parts make the strip. Assumes nothing.
+use Prim.Native.Nat.{ℕ, _+_, _-_, _*_, _≤_, _<_}
+use native.Mathlib.Nat.{zero-add}
+use native.Mathlib.Omega.{arith}
+use mathlib.Core.Path.{_≡_, refl, sym, ap, subst, _∙_}
+use mathlib.Core.Bool.{true}
+use mathlib.Core.List.{List, [], _∷_, _++_, map}
+use lib.Dec.{ltb}
+use lib.ListN.{length, length-append, set}
+use borrow.Author.Tests.{le-leb, lt-leb}
+use Rattle.fields.specs.Bytes.{le, put}
+use Rattle.fields.specs.Rows.{pack}
+use Rattle.fields.proofs.Puts.{put-next, put-one, put-whole}
+use Rattle.strip.specs.Cell.{Vec3, Cell, headWords, polygonWords, endWords, encode, each}
+use Rattle.strip.specs.Outcome.{shown, left}
+use Rattle.strip.specs.Outcome as Outcome
+use Rattle.strip.specs.declared.Refusal.{Refusal}
+use Rattle.grammar.specs.Derives.{areaOf, backOf}
+use Rattle.lists.specs.Lists.{whole, total, tableOf, listed, Readable}
+use Rattle.lists.proofs.Lists.{length-whole}
+use Rattle.sector_tree.specs.Walk.{walk}
+use Rattle.sector_tree.specs.Walk as Walk
+use Rattle.sector_tree.specs.Write.{pointsIn, pointsWords, Fits}
+use Rattle.polygon_words.specs.Words.{linksOf}
+use Rattle.polygon_words.proofs.Words.{links-are}
+use Rattle.polygons.specs.declared.Tally.the-variants.{Words}
+use Rattle.polygons.specs.Polygons.{Source, limitsOf, polygonMade, tallyFrom}
+use Rattle.polygons.specs.Passes.{itemsIn, sourceOf, Passed}
+use Rattle.polygons.proofs.Exact.{tally-made}
+use Rattle.ynv_read.specs.declared.Addresses.{Addresses}
+use Rattle.ynv_read.specs.declared.Frame.{Frame}
+use Rattle.ynv_read.specs.declared.Parsed.{Parsed}
+use Rattle.ynv_read.specs.declared.ParseAnswer.{ParseAnswer}
+use Rattle.ynv_read.specs.declared.ParseAnswer.the-variants as ParseAnswer
+use Rattle.ynv_read.specs.Reading.{Reading, made, refused, check, onList, onTally, onWalk, finiteBox, header, rootAt, root, head, source, polygons, portalCount, portals, cellOf, onHead, onLists, afterWalk, readCell}
+use Rattle.ynv_read.specs.Parse.{countsOf, parseOutcome}
+use Rattle.ynv_read.specs.Passes.{paper, answerOf, addresses, frame, linkBytes, polysWords, portalsWords, ListsReady, ReadyFor, PolysFit, Fillable}
+use Rattle.ynv_read.proofs.Checks.{check-in, list-in, tally-in, walk-in}
+use Rattle.ynv_read.proofs.Decides.{length-items}
+use Rattle.ynv_read.proofs.Heads.{polygons-back}
+use Rattle.ynv_read.proofs.Lengths.{head-length, polys-count, portals-length, points-length, encode-is, encode-length}
+
+-- ---- polygons
+
+module _ (S G : List ℕ) {a : Addresses} (ea : a ≡ addresses (header S G)) {f : Frame} (ef : f ≡ frame (header S G) (root S G))
+    {vt it et pt lk hd : List ℕ} (ev : vt ≡ tableOf S G (a .vertices)) (ei : it ≡ tableOf S G (a .indices)) (ee : et ≡ tableOf S G (a .edges)) (ep : pt ≡ tableOf S G (a .polygons))
+    (el : lk ≡ linkBytes S G) (eh : hd ≡ header S G) where
+  abbrev given : Source
+  given = sourceOf S G vt it et lk hd (f .«bb_min») (f .«bb_size»)
+
+  source-is : given ≡ source S G
+  unfolding source addresses linkBytes
+  source-is =
+      let s = source S G in
+      let make : List (List ℕ) → List (List ℕ) → List (List ℕ) → List ℕ → (ℕ → ℕ) → (ℕ → ℕ → ℕ → Vec3) → Source =
+      λ v i e l area back. record { vertices = v; indices = i; edges = e; links = l; area = area; back = back } in
+      let v : itemsIn S G 6 vt ≡ s .vertices = ap (itemsIn S G 6) (rw ea at ev) in
+      let i : itemsIn S G 2 it ≡ s .indices = ap (itemsIn S G 2) (rw ea at ei) in
+      let e : itemsIn S G 8 et ≡ s .edges = ap (itemsIn S G 8) (rw ea at ee) in
+      let l : linksOf lk ≡ s .links = ap linksOf el ∙ sym (links-are S G (le 8 (header S G) 0x130) (le 4 (header S G) 0x150)) in
+      let area : areaOf hd ≡ areaOf (header S G) = ap areaOf eh in
+      let whole : make (itemsIn S G 6 vt) (itemsIn S G 2 it) (itemsIn S G 8 et) (linksOf lk) (areaOf hd) (given .back) ≡ make (s .vertices) (s .indices) (s .edges) (s .links) (s .area) (s .back) =
+      rw (v, i, e, l, area, polygons-back S G ef) in
+      whole
+
+  polys-are : itemsIn S G 48 pt ≡ polygons S G
+  unfolding addresses
+  polys-are = ap (itemsIn S G 48) (rw ea at ep)
+
+  pub may-put : {n len : ℕ} → ListsReady S G × (n ≡ length (polygons S G)) × PolysFit S G len
+      → (Readable S G 6 vt × Readable S G 2 it × Readable S G 8 et × Readable S G 48 pt × (n ≡ total pt))
+      × Passed (limitsOf given) (itemsIn S G 2 it) 0 (itemsIn S G 48 pt) 14 len
+  unfolding addresses
+  may-put {n} {len} (ready, count, fit) =
+      let fits : Passed (limitsOf given) (given .indices) 0 (itemsIn S G 48 pt) 14 len =
+      subst (λ (s : Source). Passed (limitsOf s) (s .indices) 0 (itemsIn S G 48 pt) 14 len) (sym source-is)
+      (subst (λ (l : List (List ℕ)). Passed (limitsOf (source S G)) (source S G .indices) 0 l 14 len) (sym polys-are) fit) in (
+        (
+          rw (rw ea at ev) (ready .vertices),
+          rw (rw ea at ei) (ready .indices),
+          rw (rw ea at ee) (ready .edges),
+          rw (rw ea at ep) (ready .polygons),
+          count ∙ ap length (sym polys-are) ∙ length-items S G 48 pt,
+        ),
+        fits,
+      )
+
+  pub polys-put : {r : ℕ} (old : List ℕ) {new : List ℕ} → (r ≡ 14 + length (each polygonWords (map (polygonMade given) (itemsIn S G 48 pt)))) × (new ≡ put 14 (each polygonWords (map (polygonMade given) (itemsIn S G 48 pt))) old)
+      → (r ≡ 14 + length (polysWords S G)) × (new ≡ put 14 (polysWords S G) old)
+  unfolding polysWords
+  polys-put old (e, g) =
+      let same : each polygonWords (map (polygonMade given) (itemsIn S G 48 pt)) ≡ polysWords S G = rw (source-is, polys-are) in
+      (e ∙ ap (λ (l : List ℕ). 14 + length l) same, g ∙ ap (λ (l : List ℕ). put 14 l old) same)
+
+-- ---- a cell that was accepted
+
+-- what its reading found
+pub record Found (S G : List ℕ) (c : Cell) : Type 0 where
+  pub left : ℕ
+  pub points : List (List ℕ)
+  pub walked : walk S G 4096 (rootAt S G ∷ []) ≡ Walk.done left points
+  pub is : c ≡ cellOf S G points
+  pub words : ℕ
+  pub tally : tallyFrom (limitsOf (source S G)) (source S G .indices) 0 (polygons S G) ≡ Words words
+  pub portals-whole : whole S G (le 8 (header S G) 0x128) (28 * portalCount S G) ≡ true
+
+module _ (S G : List ℕ) {c : Cell} {k : ℕ} where
+  pub found : readCell S G ≡ made c k → Found S G c
+  unfolding readCell onHead afterWalk onLists
+  found e =
+      let s = source S G in
+      let hh = header S G in
+      let w = walk S G 4096 (rootAt S G ∷ []) in
+      let o₄ = onWalk w (afterWalk S G) in
+      let o₃ = check (finiteBox (head S G)) 40 o₄ in
+      let o₂ = check (whole S G (rootAt S G) 96) 32 o₃ in
+      let o₁ = check (ltb 0 (rootAt S G)) 31 o₂ in
+      let e₁ = check-in (whole S G 0x5000_0000 368) 30 o₁ e .1 in
+      let e₂ = check-in (ltb 0 (rootAt S G)) 31 o₂ e₁ .1 in
+      let e₃ = check-in (whole S G (rootAt S G) 96) 32 o₃ e₂ .1 in
+      let e₄ = check-in (finiteBox (head S G)) 40 o₄ e₃ .1 in
+      let (l, points, walked, e₅) = walk-in w (afterWalk S G) e₄ in
+      let cell = made (cellOf S G points) (4096 - l) in
+      let p₅ = check (whole S G (le 8 hh 0x128) (28 * portalCount S G)) 39 cell in
+      let p₄ = onTally (tallyFrom (limitsOf s) (s .indices) 0 (polygons S G)) p₅ in
+      let p₃ = onList (listed S G 48 (le 8 hh 0x118) 4) p₄ in
+      let p₂ = onList (listed S G 8 (le 8 hh 0x88) 3) p₃ in
+      let p₁ = onList (listed S G 2 (le 8 hh 0x80) 2) p₂ in
+      let f₁ = list-in (listed S G 6 (le 8 hh 0x70) 1) p₁ e₅ .2 in
+      let f₂ = list-in (listed S G 2 (le 8 hh 0x80) 2) p₂ f₁ .2 in
+      let f₃ = list-in (listed S G 8 (le 8 hh 0x88) 3) p₃ f₂ .2 in
+      let f₄ = list-in (listed S G 48 (le 8 hh 0x118) 4) p₄ f₃ .2 in
+      let (n, t, f₅) = tally-in (tallyFrom (limitsOf s) (s .indices) 0 (polygons S G)) p₅ f₄ in
+      let (g, f₆) = check-in (whole S G (le 8 hh 0x128) (28 * portalCount S G)) 39 cell f₅ in
+      record { left = l; points = points; walked = walked; is = cc f₆; words = n; tally = t; portals-whole = g }
+
+-- room for each part, in a strip of n words that is long enough
+pub record Room (S G : List ℕ) (polys n : ℕ) : Type 0 where
+  pub points : List (List ℕ)
+  pub ready : ListsReady S G
+  pub polys-are : polys ≡ length (polygons S G)
+  pub polys-fit : (end : ℕ) → 14 + length (polysWords S G) ≤ end → PolysFit S G end
+  pub portals-there : 28 * portalCount S G ≤ length (portals S G)
+  pub points-are : pointsIn (walk S G 4096 (rootAt S G ∷ [])) ≡ points
+  pub points-fit : (at end : ℕ) → at + 4 * length points ≤ end → Fits (walk S G 4096 (rootAt S G ∷ [])) at end
+  pub all : 14 + length (polysWords S G) + 11 * portalCount S G + 4 * length points + 1 ≤ n
+
+pub room : (S G : List ℕ) {polys n : ℕ} → Fillable S G polys n → Room S G polys n
+unfolding cellOf portals polysWords
+room S G {polys} {n} f =
+    let e = found S G (f .is) in
+    let long : length (encode (cellOf S G (e .points))) ≤ n = rw (e .is) at (f .room) in
+    let all : 14 + length (polysWords S G) + 11 * portalCount S G + 4 * length (e .points) + 1 ≤ n = omega (arith, encode-length S G (e .points)) in
+    let words : e .words ≡ length (polysWords S G) = tally-made (source S G) 0 (polygons S G) (e .tally) .1 in
+    record {
+      points = e .points;
+      ready = f .ready;
+      polys-are = f .polys-are ∙ ap (λ (c : Cell). length (c .polys)) (e .is) ∙ polys-count S G;
+      polys-fit = λ end h. record { words = e .words; is = e .tally; room = omega arith };
+      portals-there = omega (arith, length-whole S G (le 8 (header S G) 0x128) (28 * portalCount S G) (e .portals-whole));
+      points-are = ap pointsIn (e .walked);
+      points-fit = λ at end h. record { left = e .left; points = e .points; is = e .walked; room = h };
+      all = all;
+    }
+
+-- ---- the parts make the strip
+
+behind : {n : ℕ} (bs cs xs : List ℕ) → n ≡ length bs → put n cs (put 0 bs xs) ≡ put 0 (bs ++ cs) xs
+behind {n} bs cs xs e = ap (λ (m : ℕ). put m cs (put 0 bs xs)) (sym (zero-add n)) ∙ put-next n 0 bs cs xs (sym e)
+
+pub filled : (S G : List ℕ) {c : Cell} {k : ℕ} → readCell S G ≡ made c k → (x₀ : List ℕ) {x₁ x₂ x₃ x₄ : List ℕ} {r₁ r₂ r₃ : ℕ}
+    → x₁ ≡ put 0 (headWords (head S G)) x₀
+    → (r₁ ≡ 14 + length (polysWords S G)) × (x₂ ≡ put 14 (polysWords S G) x₁)
+    → (r₂ ≡ r₁ + 11 * portalCount S G) × (x₃ ≡ put r₁ (portalsWords S G) x₂)
+    → (r₃ ≡ r₂ + 4 * length (pointsIn (walk S G 4096 (rootAt S G ∷ [])))) × (x₄ ≡ put r₂ (pointsWords (backOf (head S G)) (pointsIn (walk S G 4096 (rootAt S G ∷ [])))) x₃)
+    → set x₄ r₃ 0x5000_0000 ≡ put 0 (encode c) x₀
+unfolding pack
+filled S G e x₀ {x₁} {x₂} {x₃} {x₄} {r₁} {r₂} {r₃} e₁ (n₂, e₂) (n₃, e₃) (n₄, e₄) =
+    let f = found S G e in
+    let h = headWords (head S G) in
+    let p = polysWords S G in
+    let q = portalsWords S G in
+    let t = pointsWords (backOf (head S G)) (f .points) in
+    let ps : pointsIn (walk S G 4096 (rootAt S G ∷ [])) ≡ f .points = ap pointsIn (f .walked) in
+    let s₂ : x₂ ≡ put 0 (h ++ p) x₀ = e₂ ∙ ap (put 14 p) e₁ ∙ behind h p x₀ (sym (head-length (head S G))) in
+    let l₁ : r₁ ≡ length (h ++ p) = omega (arith, length-append h p, head-length (head S G)) in
+    let s₃ : x₃ ≡ put 0 (h ++ p ++ q) x₀ = e₃ ∙ ap (put r₁ q) s₂ ∙ behind (h ++ p) q x₀ l₁ in
+    let l₂ : r₂ ≡ length (h ++ p ++ q) = omega (arith, length-append (h ++ p) q, portals-length S G) in
+    let s₄ : x₄ ≡ put 0 (h ++ p ++ q ++ t) x₀ = e₄ ∙ ap (λ (l : List (List ℕ)). put r₂ (pointsWords (backOf (head S G)) l) x₃) ps ∙ ap (put r₂ t) s₃ ∙ behind (h ++ p ++ q) t x₀ l₂ in
+    let l₃ : r₃ ≡ length (h ++ p ++ q ++ t) = omega (arith, length-append (h ++ p ++ q) t, points-length S G (f .points), ap length ps) in
+    let whole-strip : encode _ ≡ h ++ p ++ q ++ t ++ endWords = ap encode (f .is) ∙ encode-is S G (f .points) in
+    sym (put-one r₃ 0x5000_0000 x₄) ∙ ap (put r₃ endWords) s₄ ∙ behind (h ++ p ++ q ++ t) endWords x₀ l₃ ∙ ap (λ (l : List ℕ). put 0 l x₀) (sym whole-strip)
+
+-- ---- the answer
+
+module _ (S G : List ℕ) {r : ParseAnswer} (er : (r ≡ answerOf (readCell S G)) × ReadyFor S G r) where
+  pub parse-stopped : {q : Refusal} → r ≡ ParseAnswer.Refused q → (old : List ℕ)
+      → (paper (ParseAnswer.Refused q) ≡ shown (parseOutcome S G (length old))) × (old ≡ left (parseOutcome S G (length old)) old)
+  unfolding parseOutcome
+  parse-stopped {q} e old =
+      let is : readCell S G ≡ refused (q .number) (q .place) = by (readCell S G) (sym (er .0) ∙ e) in
+      rw is (refl, refl)
+    where
+      by : (x : Reading) → answerOf x ≡ ParseAnswer.Refused q → x ≡ refused (q .number) (q .place)
+      by (refused number place) f = cc
+      by (made c k) f = let z : _≡_ {A = ℕ} 0 1 = cc in absurd (omega arith)
+
+  module _ {p : Parsed} (e : r ≡ ParseAnswer.Parsed p) where
+    made-of : (c : Cell) × (k : ℕ) × (readCell S G ≡ made c k) × (countsOf c k ≡ p)
+    made-of = by (readCell S G) refl (sym (er .0) ∙ e)
+      where
+        by : (x : Reading) → readCell S G ≡ x → answerOf x ≡ ParseAnswer.Parsed p → (c : Cell) × (k : ℕ) × (readCell S G ≡ made c k) × (countsOf c k ≡ p)
+        by (made c k) f g = (c, k, f, cc)
+        by (refused number place) f g = let z : _≡_ {A = ℕ} 0 1 = cc in absurd (omega arith)
+
+    pub parse-short : (old : List ℕ) → length old < p .words
+        → (paper (ParseAnswer.Refused (record { number = 2; place = 0 })) ≡ shown (parseOutcome S G (length old))) × (old ≡ left (parseOutcome S G (length old)) old)
+    unfolding parseOutcome
+    parse-short old h =
+        let (c, k, is, counts) = made-of in
+        let short : length old < length (encode c) = rw (← counts) at h in
+        rw (is, lt-leb (length (encode c)) (length old) short) (refl, refl)
+
+    pub may-fill : {n : ℕ} → p .words ≤ n → Fillable S G (p .polys) n
+    may-fill {n} h =
+        let (c, k, is, counts) = made-of in
+        let long : length (encode c) ≤ n = rw (← counts) at h in
+        let polys : p .polys ≡ length (c .polys) = ap (λ (x : Parsed). x .polys) (sym counts) in
+        let ready : ReadyFor S G (ParseAnswer.Parsed p) = rw e at (er .1) in
+        record { cell = c; sectors = k; is = is; polys-are = polys; room = long; ready = ready }
+
+    pub parse-done : (old : List ℕ) {new : List ℕ} → p .words ≤ length old → ((c : Cell) (k : ℕ) → readCell S G ≡ made c k → new ≡ put 0 (encode c) old)
+        → (paper (ParseAnswer.Parsed p) ≡ shown (parseOutcome S G (length old))) × (new ≡ left (parseOutcome S G (length old)) old)
+    unfolding parseOutcome
+    parse-done old {new} h fill =
+        let (c, k, is, counts) = made-of in
+        let long : length (encode c) ≤ length old = rw (← counts) at h in
+        rw (is, le-leb (length (encode c)) (length old) long) (ap Outcome.values (sym counts), fill c k is ∙ put-whole (encode c) old long)

@@ -1,0 +1,78 @@
+-- What the checks before the walk come to, in their order; and what shorts are turned back by. Assumes nothing.
+use Prim.Native.Nat.{ℕ, _≤_, _<_}
+use native.Mathlib.Nat.{pos-of-ne-zero}
+use mathlib.Core.Path.{_≡_, sym, ap, _∙_}
+use mathlib.Core.Bool.{Bool, true, false, not}
+use mathlib.Core.List.{List}
+use lib.Dec.{ltb}
+use lib.ListN.{length}
+use borrow.Author.Tests.{lt-ltb}
+use Rattle.math.specs.declared.vec3.Vec3.{Vec3 as Floats}
+use Rattle.strip.specs.Cell.{Vec3}
+use Rattle.grammar.specs.Derives.{vecOf, headOf, axis, backOf}
+use Rattle.lists.proofs.Lists.{whole-of, not-whole}
+use Rattle.records.specs.Back as records
+use Rattle.sector_tree.specs.Write as points
+use Rattle.polygon_words.specs.Words as polygons
+use Rattle.ynv_read.specs.Reading.{Reading, refused, finiteBox, header, rootAt, root, head, onHead}
+use Rattle.ynv_read.specs.Passes.{frame}
+use Rattle.ynv_read.specs.declared.Frame.{Frame}
+
+module _ (S G : List ℕ) (rest : Reading) where
+  pub no-header : length (header S G) < 368 → onHead S G rest ≡ refused 30 0
+  unfolding onHead header
+  no-header h = rw (not-whole S G 0x5000_0000 368 h)
+
+  module _ (h : 368 ≤ length (header S G)) where
+    pub null-root : rootAt S G ≡ 0 → onHead S G rest ≡ refused 31 0
+    unfolding onHead header
+    null-root e = rw (whole-of S G 0x5000_0000 368 h, e)
+
+    module _ (far : rootAt S G ≡ 0 → ⊥) where
+      there : ltb 0 (rootAt S G) ≡ true
+      there = lt-ltb 0 (rootAt S G) (pos-of-ne-zero far)
+
+      pub no-root : length (root S G) < 96 → onHead S G rest ≡ refused 32 0
+      unfolding onHead header root
+      no-root r = rw (whole-of S G 0x5000_0000 368 h, there, not-whole S G (rootAt S G) 96 r)
+
+      module _ (r : 96 ≤ length (root S G)) where
+        pub no-box : finiteBox (head S G) ≡ false → onHead S G rest ≡ refused 40 0
+        unfolding onHead header root
+        no-box f = rw (whole-of S G 0x5000_0000 368 h, there, whole-of S G (rootAt S G) 96 r, f)
+
+        pub head-passed : finiteBox (head S G) ≡ true → onHead S G rest ≡ rest
+        unfolding onHead header root
+        head-passed f = rw (whole-of S G 0x5000_0000 368 h, there, whole-of S G (rootAt S G) 96 r, f)
+
+-- shorts are turned back in the cell's box
+module _ (S G : List ℕ) {f : Frame} (e : f ≡ frame (header S G) (root S G)) where
+  abbrev In : (Floats → Floats → ℕ → ℕ → ℕ → Vec3) → Frame → ℕ → ℕ → ℕ → Vec3
+  In back g = back (g .«bb_min») (g .«bb_size»)
+
+  pub portals-back : records.backBy (f .«bb_min») (f .«bb_size») ≡ backOf (head S G)
+  unfolding frame head records.backBy records.floatsAt backOf axis headOf vecOf
+  portals-back = ap (In records.backBy) e
+
+  pub points-back : points.backBy (f .«bb_min») (f .«bb_size») ≡ backOf (head S G)
+  unfolding frame head points.backBy points.axisBits records.floatsAt backOf axis headOf vecOf
+  points-back = ap (In points.backBy) e
+
+  pub polygons-back : polygons.backIn (f .«bb_min») (f .«bb_size») ≡ backOf (head S G)
+  unfolding frame head polygons.backIn records.floatsAt backOf axis headOf vecOf
+  polygons-back = ap (In polygons.backIn) e
+
+-- a test by what it answered
+pub failed : {x a : Bool} → x ≡ a → not x ≡ true → a ≡ false
+failed {x} p e = by x p e
+  where
+    by : (t : Bool) {a : Bool} → t ≡ a → not t ≡ true → a ≡ false
+    by false q f = sym q
+    by true q f = sym q ∙ sym f
+
+pub passed : {x a : Bool} → x ≡ a → not x ≡ false → a ≡ true
+passed {x} p e = by x p e
+  where
+    by : (t : Bool) {a : Bool} → t ≡ a → not t ≡ false → a ≡ true
+    by true q f = sym q
+    by false q f = sym q ∙ sym f

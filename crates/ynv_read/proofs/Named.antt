@@ -1,0 +1,140 @@
+-- The refusals of a reading, each with its number and place: all but 2, which is the lent strip's. Assumes nothing.
+use Prim.Native.Nat.{ℕ, zero, suc, _*_, _≤_}
+use native.Mathlib.Omega.{arith}
+use mathlib.Core.Path.{_≡_, refl}
+use mathlib.Core.Bool.{Bool, true, false}
+use mathlib.Core.List.{List, [], _∷_, _++_}
+use mathlib.Core.Logic.{⊎-elim}
+use lib.Dec.{ltb}
+use Rattle.fields.specs.Bytes.{le}
+use Rattle.resource.specs.Section.{good}
+use Rattle.grammar.specs.Trees.{subsTo}
+use Rattle.lists.specs.declared.ListAnswer.{ListAnswer}
+use Rattle.lists.specs.declared.ListAnswer.the-variants.{Items, Refused}
+use Rattle.lists.specs.Lists.{whole, listed}
+use Rattle.lists.proofs.Accepted.{listed-refused}
+use Rattle.sector_tree.specs.Sector.{goodData, pointsOf}
+use Rattle.sector_tree.specs.Walk.{Walked, walk, also, checked, sectorAt}
+use Rattle.sector_tree.specs.Walk as Walk
+use Rattle.polygons.specs.declared.Limits.{Limits}
+use Rattle.polygons.specs.declared.Tally.{Tally}
+use Rattle.polygons.specs.declared.Tally.the-variants.{Words}
+use Rattle.polygons.specs.declared.Tally.the-variants.{Refused as Stopped}
+use Rattle.polygons.specs.Polygons.{limitsOf, tallyFrom}
+use Rattle.polygons.proofs.Exact.{tally-refused}
+use Rattle.ynv_read.specs.Reading.{Reading, made, refused, check, onList, onTally, onWalk, finiteBox, header, rootAt, head, source, polygons, portalCount, cellOf, onHead, onLists, afterWalk, readCell}
+
+pub data Named : ℕ → ℕ → Type 0 where
+  bad-header : Named 30 0
+  no-root : Named 31 0
+  bad-sector : Named 32 0
+  many-sectors : Named 33 0
+  bad-data : Named 34 0
+  bad-box : Named 40 0
+  bad-list : {l : ℕ} → 1 ≤ l → l ≤ 4 → Named 35 l
+  bad-counts : {l : ℕ} → 1 ≤ l → l ≤ 4 → Named 36 l
+  bad-run : {p : ℕ} → Named 37 p
+  bad-index : {p : ℕ} → Named 38 p
+  bad-portals : Named 39 0
+
+abbrev pub AsNamed : Reading → Type 0
+AsNamed (made c k) = Unit
+AsNamed (refused number place) = Named number place
+
+-- none of them is 2
+pub late : {number place : ℕ} → Named number place → 30 ≤ number
+late bad-header = omega arith
+late no-root = omega arith
+late bad-sector = omega arith
+late many-sectors = omega arith
+late bad-data = omega arith
+late bad-box = omega arith
+late (bad-list h k) = omega arith
+late (bad-counts h k) = omega arith
+late bad-run = omega arith
+late bad-index = omega arith
+late bad-portals = omega arith
+
+named-at : {m n p q : ℕ} → m ≡ n → p ≡ q → Named n q → Named m p
+named-at e f h = rw (e, f) h
+
+checks : (b : Bool) (number : ℕ) (rest : Reading) → Named number 0 → AsNamed rest → AsNamed (check b number rest)
+checks true number rest h k = k
+checks false number rest h k = h
+
+module _ (S G : List ℕ) where
+  lists : (w va place : ℕ) (rest : Reading) → 1 ≤ place → place ≤ 4 → AsNamed rest → AsNamed (onList (listed S G w va place) rest)
+  lists w va place rest lo hi k = by (listed S G w va place) refl
+    where
+      by : (a : ListAnswer) → listed S G w va place ≡ a → AsNamed (onList a rest)
+      by (Items n) e = k
+      by (Refused r) e =
+          let (f, g) = listed-refused S G w va place e in
+          ⊎-elim (λ h. named-at h g (bad-list lo hi)) (λ h. named-at h g (bad-counts lo hi)) f
+
+  -- a walk's own: 32, 33, 34
+  abbrev WalkNamed : Walked → Type 0
+  WalkNamed (Walk.done left points) = Unit
+  WalkNamed (Walk.refused number) = Named number 0
+
+  walk-also : (ps : List (List ℕ)) (w : Walked) → WalkNamed w → WalkNamed (also ps w)
+  walk-also ps (Walk.done left points) h = tt
+  walk-also ps (Walk.refused number) h = h
+
+  walk-checked : (a b : Bool) (w : Walked) → WalkNamed w → WalkNamed (checked a b w)
+  walk-checked false b w h = bad-sector
+  walk-checked true false w h = bad-data
+  walk-checked true true w h = h
+
+  walks : (n : ℕ) (vas : List ℕ) → WalkNamed (walk S G n vas)
+  unfolding walk
+  walks zero [] = tt
+  walks zero (va ∷ vas) = many-sectors
+  walks (suc n) [] = tt
+  walks (suc n) (va ∷ vas) =
+      let s = sectorAt S G va in
+      let w = walk S G n (subsTo s 4 ++ vas) in
+      walk-checked (good S G va 96) (goodData S G s) (also (pointsOf S G s) w) (walk-also (pointsOf S G s) w (walks n (subsTo s 4 ++ vas)))
+
+  on-walk : (w : Walked) (rest : List (List ℕ) → ℕ → Reading) → WalkNamed w → ((ps : List (List ℕ)) (k : ℕ) → AsNamed (rest ps k)) → AsNamed (onWalk w rest)
+  on-walk (Walk.done left points) rest h f = f points _
+  on-walk (Walk.refused number) rest h f = h
+
+  tallies : (l : Limits) (is bs : List (List ℕ)) (rest : Reading) → AsNamed rest → AsNamed (onTally (tallyFrom l is 0 bs) rest)
+  tallies l is bs rest k = by (tallyFrom l is 0 bs) refl
+    where
+      by : (t : Tally) → tallyFrom l is 0 bs ≡ t → AsNamed (onTally t rest)
+      by (Words n) e = k
+      by (Stopped r) e =
+          let (f, lo, hi) = tally-refused l is 0 bs e in
+          ⊎-elim (λ h. named-at h refl bad-run) (λ h. named-at h refl bad-index) f
+
+  after-walk : (ps : List (List ℕ)) (k : ℕ) → AsNamed (afterWalk S G ps k)
+  unfolding afterWalk onLists
+  after-walk ps k =
+      let h = header S G in
+      let s = source S G in
+      let last = check (whole S G (le 8 h 0x128) (28 * portalCount S G)) 39 (made (cellOf S G ps) k) in
+      let o₅ = onTally (tallyFrom (limitsOf s) (s .indices) 0 (polygons S G)) last in
+      let o₄ = onList (listed S G 48 (le 8 h 0x118) 4) o₅ in
+      let o₃ = onList (listed S G 8 (le 8 h 0x88) 3) o₄ in
+      let o₂ = onList (listed S G 2 (le 8 h 0x80) 2) o₃ in
+      lists 6 (le 8 h 0x70) 1 o₂ (omega arith) (omega arith)
+      (lists 2 (le 8 h 0x80) 2 o₃ (omega arith) (omega arith)
+      (lists 8 (le 8 h 0x88) 3 o₄ (omega arith) (omega arith)
+      (lists 48 (le 8 h 0x118) 4 o₅ (omega arith) (omega arith)
+      (tallies (limitsOf s) (s .indices) (polygons S G) last
+      (checks (whole S G (le 8 h 0x128) (28 * portalCount S G)) 39 (made (cellOf S G ps) k) bad-portals tt)))))
+
+  pub named : AsNamed (readCell S G)
+  unfolding readCell onHead
+  named =
+      let w = walk S G 4096 (rootAt S G ∷ []) in
+      let o₄ = onWalk w (afterWalk S G) in
+      let o₃ = check (finiteBox (head S G)) 40 o₄ in
+      let o₂ = check (whole S G (rootAt S G) 96) 32 o₃ in
+      let o₁ = check (ltb 0 (rootAt S G)) 31 o₂ in
+      checks (whole S G 0x5000_0000 368) 30 o₁ bad-header
+      (checks (ltb 0 (rootAt S G)) 31 o₂ no-root
+      (checks (whole S G (rootAt S G) 96) 32 o₃ bad-sector
+      (checks (finiteBox (head S G)) 40 o₄ bad-box (on-walk w (afterWalk S G) (walks 4096 (rootAt S G ∷ [])) after-walk))))

@@ -1,0 +1,20 @@
+-- `list_addresses` meets its contract. Four fields of the header.
+use Rattle.ynv_read.specs.Passes.{addresses}
+use borrow.Author.Needs.{needs}
+use Rattle.ynv_read.proofs.list_addresses.Statement.{statement}
+use Rattle.ynv_read.proofs.list_addresses.Tie as tie
+
+returns : tie.Need-returns
+unfolding addresses
+returns c = rw (c .before .before .before .u64-le .ensures, c .before .before .u64-le2 .ensures, c .before .u64-le3 .ensures, c .u64-le4 .ensures, c .before .before .before .before .header-of .ensures)
+
+pub list-addresses-spec : {M : Type 1} → statement M
+list-addresses-spec =
+    tie.close
+    (tie.spec
+    (λ c κs. search needs)
+    (λ c κs. search needs)
+    (λ c κs. search needs)
+    (λ c κs. search needs)
+    (λ c κs. search needs)
+    returns)

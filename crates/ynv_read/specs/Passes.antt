@@ -1,0 +1,97 @@
+-- What the two passes hand on: answers, places in the pages, the parts of the strip, and what is known between the passes. Definitions only.
+use Prim.Native.Nat.{ℕ, _*_, _^_, _≤_, _<_}
+use mathlib.Core.Path.{_≡_}
+use mathlib.Core.List.{List, map}
+use lib.ListN.{length}
+use Rattle.fields.specs.Bytes.{le}
+use Rattle.resource.specs.Section.{resolved}
+use Rattle.strip.specs.Cell.{Cell, each, polygonWords, portalWords, encode}
+use Rattle.strip.specs.Outcome.{Paper, values, refusalOf}
+use Rattle.grammar.specs.Parts.{cut}
+use Rattle.grammar.specs.Derives.{backOf, portalOf}
+use Rattle.lists.specs.Lists.{tableOf, Readable}
+use Rattle.polygons.specs.Polygons.{limitsOf, polygonMade}
+use Rattle.polygons.specs.Passes.{Passed}
+use Rattle.records.specs.Back.{floatsAt}
+use Rattle.ynv_read.specs.declared.Parsed.{Parsed}
+use Rattle.ynv_read.specs.declared.ParseAnswer.{ParseAnswer}
+use Rattle.ynv_read.specs.declared.ParseAnswer.the-variants as ParseAnswer
+use Rattle.ynv_read.specs.declared.Addresses.{Addresses}
+use Rattle.ynv_read.specs.declared.Frame.{Frame}
+use Rattle.ynv_read.specs.declared.Check.{Check}
+use Rattle.ynv_read.specs.declared.Check.the-variants as Check
+use Rattle.ynv_read.specs.declared.ListsCheck.{ListsCheck}
+use Rattle.ynv_read.specs.declared.ListsCheck.the-variants as ListsCheck
+use Rattle.ynv_read.specs.Reading.{Reading, made, refused, header, head, source, polygons, portalCount, portals, onLists, readCell}
+use Rattle.ynv_read.specs.Parse.{countsOf}
+
+-- what each case of the answer says
+abbrev pub paper : ParseAnswer → Paper Parsed
+paper (ParseAnswer.Parsed p) = values p
+paper (ParseAnswer.Refused r) = refusalOf r
+
+-- the answer that a reading asks for, if the strip is long enough
+abbrev pub answerOf : Reading → ParseAnswer
+answerOf (made c sectors) = ParseAnswer.Parsed (countsOf c sectors)
+answerOf (refused number place) = ParseAnswer.Refused (record { number = number; place = place })
+
+-- a run of checks, before the rest
+abbrev pub after : Check → Reading → Reading
+after Check.Passed rest = rest
+after (Check.Refused r) rest = refused (r .number) (r .place)
+
+-- where the lists are, and the box
+unfoldable pub addresses : List ℕ → Addresses
+addresses h = record { vertices = le 8 h 0x70; indices = le 8 h 0x80; edges = le 8 h 0x88; polygons = le 8 h 0x118 }
+
+unfoldable pub frame : List ℕ → List ℕ → Frame
+frame h r = record { «bb_min» = floatsAt r 0; «bb_size» = floatsAt h 0x60 }
+
+module _ (system graphics : List ℕ) where
+  -- the bytes of the link table
+  unfoldable pub linkBytes : List ℕ
+  linkBytes = resolved system graphics (le 8 (header system graphics) 0x130) (2 * le 4 (header system graphics) 0x150)
+
+  -- the words of the polygons, and of the portals
+  unfoldable pub polysWords : List ℕ
+  polysWords = each polygonWords (map (polygonMade (source system graphics)) (polygons system graphics))
+
+  unfoldable pub portalsWords : List ℕ
+  portalsWords = each portalWords (map (portalOf (backOf (head system graphics))) (cut 28 (portalCount system graphics) (portals system graphics)))
+
+  -- the lists can be read by their part tables
+  pub record ListsReady : Type 0 where
+    pub vertices : Readable system graphics 6 (tableOf system graphics (le 8 (header system graphics) 0x70))
+    pub indices : Readable system graphics 2 (tableOf system graphics (le 8 (header system graphics) 0x80))
+    pub edges : Readable system graphics 8 (tableOf system graphics (le 8 (header system graphics) 0x88))
+    pub polygons : Readable system graphics 48 (tableOf system graphics (le 8 (header system graphics) 0x118))
+
+  abbrev pub ReadyFor : ParseAnswer → Type 0
+  ReadyFor (ParseAnswer.Parsed p) = ListsReady
+  ReadyFor (ParseAnswer.Refused r) = Unit {0}
+
+  -- lists and polygons passed their checks, with so many words and polygons
+  pub record Tallied (words count : ℕ) : Type 0 where
+    pub passes : (rest : Reading) → onLists system graphics rest ≡ rest
+    pub ready : ListsReady
+    pub count-is : count ≡ length (polygons system graphics)
+    pub words-are : words ≡ length polysWords
+    pub few : count < 2 ^ 32
+    pub small : words ≤ 18434 * count
+
+  abbrev pub ListsChecked : ListsCheck → Type 0
+  ListsChecked (ListsCheck.Polys words count) = Tallied words count
+  ListsChecked (ListsCheck.Refused r) = (rest : Reading) → onLists system graphics rest ≡ refused (r .number) (r .place)
+
+  -- polygons that passed have room behind the cell's record in n words
+  abbrev pub PolysFit : ℕ → Type 0
+  PolysFit n = Passed (limitsOf (source system graphics)) (source system graphics .indices) 0 (polygons system graphics) 14 n
+
+  -- a cell was accepted, with so many polygons, and a strip of n words is long enough
+  pub record Fillable (polys n : ℕ) : Type 0 where
+    pub cell : Cell
+    pub sectors : ℕ
+    pub is : readCell system graphics ≡ made cell sectors
+    pub polys-are : polys ≡ length (cell .polys)
+    pub room : length (encode cell) ≤ n
+    pub ready : ListsReady

@@ -1,0 +1,127 @@
+-- Reading as one decision: the scope document's checks in their order, each with its number and place, and then the cell. Definitions only.
+use Prim.Native.Nat.{ℕ, _-_, _*_, _%_, _^_}
+use mathlib.Core.Bool.{Bool, cond, _&&_}
+use mathlib.Core.List.{List, [], _∷_, map}
+use lib.Dec.{ltb}
+use Rattle.fields.specs.Bytes.{le}
+use Rattle.resource.specs.Section.{resolved}
+use Rattle.strip.specs.Cell.{Vec3, Head, Cell}
+use Rattle.grammar.specs.Parts.{cut}
+use Rattle.grammar.specs.Polygons.{linksAt}
+use Rattle.grammar.specs.Derives.{areaOf, backOf, headOf, portalOf, pointOf}
+use Rattle.lists.specs.declared.ListAnswer.{ListAnswer}
+use Rattle.lists.specs.declared.ListAnswer.the-variants.{Items, Refused}
+use Rattle.lists.specs.Lists.{whole, tableOf, listed}
+use Rattle.polygons.specs.declared.Tally.{Tally}
+use Rattle.polygons.specs.declared.Tally.the-variants.{Words}
+use Rattle.polygons.specs.declared.Tally.the-variants.{Refused as Stopped}
+use Rattle.polygons.specs.Polygons.{Source, limitsOf, polygonMade, tallyFrom}
+use Rattle.polygons.specs.Passes.{itemsIn}
+use Rattle.sector_tree.specs.Walk.{Walked, walk}
+use Rattle.sector_tree.specs.Walk as Walk
+
+-- the cell and the sectors visited, or a refusal's number and place
+pub data Reading : Type 0 where
+  made : Cell → ℕ → Reading
+  refused : ℕ → ℕ → Reading
+
+-- a check, whose refusal has a number and the place 0, before the rest
+abbrev pub check : Bool → ℕ → Reading → Reading
+check passed number rest = cond passed rest (refused number 0)
+
+-- a list, before the rest
+abbrev pub onList : ListAnswer → Reading → Reading
+onList (Items n) rest = rest
+onList (Refused r) rest = refused (r .number) (r .place)
+
+-- polygons, before the rest
+abbrev pub onTally : Tally → Reading → Reading
+onTally (Words n) rest = rest
+onTally (Stopped r) rest = refused (r .number) (r .place)
+
+-- the walk of the tree, before the rest, which goes by its points and the sectors visited
+abbrev pub onWalk : Walked → (List (List ℕ) → ℕ → Reading) → Reading
+onWalk (Walk.done left points) rest = rest points (4096 - left)
+onWalk (Walk.refused number) rest = refused number 0
+
+abbrev pub finite : ℕ → Bool
+finite bits = ltb (bits % 2 ^ 31) 0x7F80_0000
+
+abbrev pub finiteVec : Vec3 → Bool
+finiteVec v = finite (v .x) && (finite (v .y) && finite (v .z))
+
+-- min, max and bb_size
+unfoldable pub finiteBox : Head → Bool
+finiteBox h = finiteVec (h .bb-min) && (finiteVec (h .bb-max) && finiteVec (h .bb-size))
+
+-- what the pages hold, by the header's addresses and counts
+module _ (system graphics : List ℕ) where
+  unfoldable pub header : List ℕ
+  header = resolved system graphics 0x5000_0000 368
+
+  abbrev pub rootAt : ℕ
+  rootAt = le 8 header 0x120
+
+  unfoldable pub root : List ℕ
+  root = resolved system graphics rootAt 96
+
+  unfoldable pub head : Head
+  head = headOf header root
+
+  -- the items of a list, by its address
+  abbrev pub itemsAt : ℕ → ℕ → List (List ℕ)
+  itemsAt size va = itemsIn system graphics size (tableOf system graphics va)
+
+  -- what polygons are made from, and their bytes
+  unfoldable pub source : Source
+  source =
+      record {
+        vertices = itemsAt 6 (le 8 header 0x70);
+        indices = itemsAt 2 (le 8 header 0x80);
+        edges = itemsAt 8 (le 8 header 0x88);
+        links = linksAt system graphics (le 8 header 0x130) (le 4 header 0x150);
+        area = areaOf header;
+        back = backOf head;
+      }
+
+  abbrev pub polygons : List (List ℕ)
+  polygons = itemsAt 48 (le 8 header 0x118)
+
+  abbrev pub portalCount : ℕ
+  portalCount = le 4 header 0x14C
+
+  unfoldable pub portals : List ℕ
+  portals = resolved system graphics (le 8 header 0x128) (28 * portalCount)
+
+  -- the cell, with a tree of these points
+  unfoldable pub cellOf : List (List ℕ) → Cell
+  cellOf points =
+      record {
+        head = head;
+        polys = map (polygonMade source) polygons;
+        portals = map (portalOf (backOf head)) (cut 28 portalCount portals);
+        points = map (pointOf (backOf head)) points;
+      }
+
+  -- before the walk: 30, 31, 32 for the root, 40
+  unfoldable pub onHead : Reading → Reading
+  onHead rest =
+      check (whole system graphics 0x5000_0000 368) 30
+      (check (ltb 0 rootAt) 31 (check (whole system graphics rootAt 96) 32 (check (finiteBox head) 40 rest)))
+
+  -- after it: lists 1 to 4, then polygons
+  unfoldable pub onLists : Reading → Reading
+  onLists rest =
+      onList (listed system graphics 6 (le 8 header 0x70) 1)
+      (onList (listed system graphics 2 (le 8 header 0x80) 2)
+      (onList (listed system graphics 8 (le 8 header 0x88) 3)
+      (onList (listed system graphics 48 (le 8 header 0x118) 4)
+      (onTally (tallyFrom (limitsOf source) (source .indices) 0 polygons) rest))))
+
+  -- and portals: so many, 28 bytes each
+  unfoldable pub afterWalk : List (List ℕ) → ℕ → Reading
+  afterWalk points sectors =
+      onLists (check (whole system graphics (le 8 header 0x128) (28 * portalCount)) 39 (made (cellOf points) sectors))
+
+  unfoldable pub readCell : Reading
+  readCell = onHead (onWalk (walk system graphics 4096 (rootAt ∷ [])) afterWalk)

@@ -1,0 +1,378 @@
+// The reader of a cell's pages. It decides first: every check in the scope document's order, and how many words the cell makes. Then it fills
+// the lent strip, where nothing can fail.
+ghost use mathlib.Core.Path.{_≡_};
+ghost use mathlib.Core.Bool.{true};
+ghost use mathlib.Core.List.{List, [], _∷_};
+ghost use Prim.Native.Nat.{ℕ, _+_, _*_, _/_, _^_, _≤_, _<_};
+ghost use lib.ListN.{length};
+ghost use Rattle.fields.specs.Bytes.{le, put};
+ghost use Rattle.resource.specs.Section.{resolved};
+ghost use Rattle.strip.specs.Cell.{Cell, headWords, encode};
+ghost use Rattle.strip.specs.Outcome.{shown, left};
+ghost use Rattle.grammar.specs.Derives.{vecOf, headOf};
+ghost use Rattle.lists.specs.Lists.{whole};
+ghost use Rattle.sector_tree.specs.Walk.{walk};
+ghost use Rattle.sector_tree.specs.Write.{pointsIn, pointsWords, Fits};
+ghost use Rattle.grammar.specs.Derives.{backOf};
+ghost use Rattle.ynv_read.specs.Reading.{Reading, made, finite, finiteVec, finiteBox, header, rootAt, root, head, polygons, portalCount, portals, onHead, afterWalk, readCell};
+ghost use Rattle.ynv_read.specs.Parse.{parseOutcome};
+ghost use Rattle.ynv_read.specs.Passes.{paper, answerOf, after, addresses, frame, linkBytes, polysWords, portalsWords, ListsReady, ReadyFor, ListsChecked, PolysFit, Fillable};
+use fields::u32_le;
+use fields::u64_le;
+use lists::list_table;
+use math::vec3::Vec3;
+use polygons::ListsAnswer;
+use polygons::Tally;
+use polygons::check_polygons;
+use polygons::put_polygons;
+use polygons::read_lists;
+use records::cell::put_cell;
+use records::cell::read_vec3;
+use records::portal::put_portals;
+use resource::SYSTEM_BASE;
+use resource::resolve;
+use sector_tree::Tree;
+use sector_tree::TreeAnswer;
+use sector_tree::put_tree_points;
+use sector_tree::read_sector_tree;
+use strip::Refusal;
+
+// How much an accepted cell has: words of the strip, polygons, portals, points, and the sectors visited.
+pub struct Parsed {
+    pub words: usize,
+    pub polys: usize,
+    pub portals: usize,
+    pub points: usize,
+    pub sectors: usize,
+}
+
+pub enum ParseAnswer {
+    Parsed(Parsed),
+    Refused(Refusal),
+}
+
+// What a run of checks answers.
+enum Check {
+    Passed,
+    Refused(Refusal),
+}
+
+// What the checks of lists and polygons answer: the words of the polygons, and how many they are.
+enum ListsCheck {
+    Polys(usize, usize),
+    Refused(Refusal),
+}
+
+// The addresses of the four lists.
+struct Addresses {
+    vertices: u64,
+    indices: u64,
+    edges: u64,
+    polygons: u64,
+}
+
+// The box that shorts are turned back in.
+struct Frame {
+    bb_min: Vec3,
+    bb_size: Vec3,
+}
+
+// Where things are in the pages. What isn't good is empty.
+fn header_of<'a>(system: &'a [u8], graphics: &'a [u8]) -> &'a [u8]
+    ensures { λ r. ⌜ now r ≡ header (now (system .entry)) (now (graphics .entry)) ⌝ }
+{
+    resolve(system, graphics, SYSTEM_BASE, 368)
+}
+
+fn root_address<'a>(system: &'a [u8], graphics: &'a [u8]) -> u64
+    ensures { λ r. ⌜ r ≡ rootAt (now (system .entry)) (now (graphics .entry)) ⌝ }
+{
+    u64_le(header_of(system, graphics), 0x120)
+}
+
+fn root_of<'a>(system: &'a [u8], graphics: &'a [u8]) -> &'a [u8]
+    ensures { λ r. ⌜ now r ≡ root (now (system .entry)) (now (graphics .entry)) ⌝ }
+{
+    resolve(system, graphics, root_address(system, graphics), 96)
+}
+
+fn list_addresses<'a>(system: &'a [u8], graphics: &'a [u8]) -> Addresses
+    ensures { λ r. ⌜ r ≡ addresses (header (now (system .entry)) (now (graphics .entry))) ⌝ }
+{
+    let h = header_of(system, graphics);
+    Addresses {
+        vertices: u64_le(h, 0x70),
+        indices: u64_le(h, 0x80),
+        edges: u64_le(h, 0x88),
+        polygons: u64_le(h, 0x118),
+    }
+}
+
+fn portal_count<'a>(system: &'a [u8], graphics: &'a [u8]) -> usize
+    ensures { λ r. ⌜ (r ≡ portalCount (now (system .entry)) (now (graphics .entry))) × (r < 2 ^ 32) ⌝ }
+{
+    u32_le(header_of(system, graphics), 0x14C) as usize
+}
+
+fn portals_of<'a>(system: &'a [u8], graphics: &'a [u8]) -> &'a [u8]
+    ensures { λ r. ⌜ now r ≡ portals (now (system .entry)) (now (graphics .entry)) ⌝ }
+{
+    let address = u64_le(header_of(system, graphics), 0x128);
+    resolve(
+        system,
+        graphics,
+        address,
+        28 * portal_count(system, graphics),
+    )
+}
+
+fn links_of<'a>(system: &'a [u8], graphics: &'a [u8]) -> &'a [u8]
+    ensures { λ r. ⌜ now r ≡ linkBytes (now (system .entry)) (now (graphics .entry)) ⌝ }
+{
+    let h = header_of(system, graphics);
+    let address = u64_le(h, 0x130);
+    let count = u32_le(h, 0x150) as usize;
+    resolve(system, graphics, address, 2 * count)
+}
+
+fn frame_of<'a>(system: &'a [u8], graphics: &'a [u8]) -> Frame
+    ensures { λ r. ⌜ r ≡ frame (header (now (system .entry)) (now (graphics .entry))) (root (now (system .entry)) (now (graphics .entry))) ⌝ }
+{
+    let bb_min = read_vec3(root_of(system, graphics), 0);
+    let bb_size = read_vec3(header_of(system, graphics), 0x60);
+    Frame { bb_min, bb_size }
+}
+
+// Deciding.
+
+// Neither an infinity nor a NaN, by its bits.
+fn is_finite(bits: u32) -> bool
+    ensures { λ r. ⌜ r ≡ finite bits ⌝ }
+{
+    bits % 0x8000_0000 < 0x7F80_0000
+}
+
+// Whether the three floats of b from off on are finite.
+fn finite_vec(b: &[u8], off: usize) -> bool
+    requires { ⌜ off ≤ 65536 ⌝ }
+    ensures { λ r. ⌜ r ≡ finiteVec (vecOf (now (b .entry)) off) ⌝ }
+{
+    if !is_finite(u32_le(b, off)) {
+        return false;
+    }
+    if !is_finite(u32_le(b, off + 4)) {
+        return false;
+    }
+    is_finite(u32_le(b, off + 8))
+}
+
+fn finite_box<'a>(header: &'a [u8], root: &'a [u8]) -> bool
+    ensures { λ r. ⌜ r ≡ finiteBox (headOf (now (header .entry)) (now (root .entry))) ⌝ }
+{
+    if !finite_vec(root, 0) {
+        return false;
+    }
+    if !finite_vec(root, 16) {
+        return false;
+    }
+    finite_vec(header, 0x60)
+}
+
+fn refuse(number: u32) -> Check
+    ensures { λ r. ⌜ r ≡ Check.Refused (record { number = number; place = 0 }) ⌝ }
+{
+    Check::Refused(Refusal { number, place: 0 })
+}
+
+// Header, root and box.
+fn check_head<'a>(system: &'a [u8], graphics: &'a [u8]) -> Check
+    ensures { λ r. ⌜ ((rest : Reading) → onHead (now (system .entry)) (now (graphics .entry)) rest ≡ after r rest) ⌝ }
+{
+    let header = header_of(system, graphics);
+    if header.len() < 368 {
+        return refuse(30);
+    }
+    if root_address(system, graphics) == 0 {
+        return refuse(31);
+    }
+    let root = root_of(system, graphics);
+    if root.len() < 96 {
+        return refuse(32);
+    }
+    if finite_box(header, root) {
+        return Check::Passed;
+    }
+    refuse(40)
+}
+
+// The four lists and their polygons.
+fn check_lists<'a>(system: &'a [u8], graphics: &'a [u8]) -> ListsCheck
+    ensures { λ r. ⌜ ListsChecked (now (system .entry)) (now (graphics .entry)) r ⌝ }
+{
+    let a = list_addresses(system, graphics);
+    let links = links_of(system, graphics);
+    match read_lists(
+        system,
+        graphics,
+        a.vertices,
+        a.indices,
+        a.edges,
+        a.polygons,
+        links.len() / 2,
+    ) {
+        ListsAnswer::Refused(r) => ListsCheck::Refused(r),
+        ListsAnswer::Lists(limits, n) => {
+            let indices = list_table(system, graphics, a.indices);
+            let polygons = list_table(system, graphics, a.polygons);
+            match check_polygons(system, graphics, polygons, n, limits, indices) {
+                Tally::Refused(q) => ListsCheck::Refused(q),
+                Tally::Words(words) => ListsCheck::Polys(words, n),
+            }
+        }
+    }
+}
+
+// What follows the walk: lists, polygons, portals. The cell's record has 14 words, a portal's 11, a point's 4, the end 1.
+fn decide_rest<'a>(system: &'a [u8], graphics: &'a [u8], tree: Tree) -> ParseAnswer
+    requires { ⌜ tree .points ≤ 65535 * 4096 ⌝ }
+    ensures { λ r. ⌜ ((points : List (List ℕ)) → length points ≡ tree .points → r ≡ answerOf (afterWalk (now (system .entry)) (now (graphics .entry)) points (tree .sectors))) × ReadyFor (now (system .entry)) (now (graphics .entry)) r ⌝ }
+{
+    match check_lists(system, graphics) {
+        ListsCheck::Refused(r) => ParseAnswer::Refused(r),
+        ListsCheck::Polys(words, polys) => {
+            let n = portal_count(system, graphics);
+            if portals_of(system, graphics).len() < 28 * n {
+                return ParseAnswer::Refused(Refusal {
+                    number: 39,
+                    place: 0,
+                });
+            }
+            ParseAnswer::Parsed(Parsed {
+                words: 14 + words + 11 * n + 4 * tree.points + 1,
+                polys,
+                portals: n,
+                points: tree.points,
+                sectors: tree.sectors,
+            })
+        }
+    }
+}
+
+// All checks but the last: whether the strip is long enough.
+fn decide<'a>(system: &'a [u8], graphics: &'a [u8]) -> ParseAnswer
+    ensures { λ r. ⌜ (r ≡ answerOf (readCell (now (system .entry)) (now (graphics .entry)))) × ReadyFor (now (system .entry)) (now (graphics .entry)) r ⌝ }
+{
+    match check_head(system, graphics) {
+        Check::Refused(r) => ParseAnswer::Refused(r),
+        Check::Passed => match read_sector_tree(system, graphics, root_address(system, graphics)) {
+            TreeAnswer::Refused(q) => ParseAnswer::Refused(q),
+            TreeAnswer::Tree(tree) => decide_rest(system, graphics, tree),
+        },
+    }
+}
+
+// Filling.
+
+fn fill_head<'a>(system: &'a [u8], graphics: &'a [u8], strip: &mut [u32])
+    requires { ⌜ 14 ≤ length (now strip) ⌝ }
+    ensures { λ _. ⌜ now (strip .exit) ≡ put 0 (headWords (head (now (system .entry)) (now (graphics .entry)))) (now (strip .entry)) ⌝ }
+{
+    let header = header_of(system, graphics);
+    let root = root_of(system, graphics);
+    put_cell(header, root, strip);
+}
+
+// Each of these goes on from the word `at`, and answers the word after what it stored.
+fn fill_portals<'a>(system: &'a [u8], graphics: &'a [u8], strip: &mut [u32], at: usize) -> usize
+    requires { ⌜ (28 * portalCount (now system) (now graphics) ≤ length (portals (now system) (now graphics))) × (at + 11 * portalCount (now system) (now graphics) ≤ length (now strip)) ⌝ }
+    ensures { λ r. ⌜ (r ≡ at + 11 * portalCount (now (system .entry)) (now (graphics .entry))) × (now (strip .exit) ≡ put at (portalsWords (now (system .entry)) (now (graphics .entry))) (now (strip .entry))) ⌝ }
+{
+    let f = frame_of(system, graphics);
+    let bb_min = f.bb_min;
+    let bb_size = f.bb_size;
+    let n = portal_count(system, graphics);
+    put_portals(portals_of(system, graphics), n, bb_min, bb_size, strip, at);
+    at + 11 * n
+}
+
+fn fill_points<'a>(system: &'a [u8], graphics: &'a [u8], strip: &mut [u32], at: usize) -> usize
+    requires { ⌜ Fits (walk (now system) (now graphics) 4096 (rootAt (now system) (now graphics) ∷ [])) at (length (now strip)) ⌝ }
+    ensures { λ r. ⌜ (r ≡ at + 4 * length (pointsIn (walk (now (system .entry)) (now (graphics .entry)) 4096 (rootAt (now (system .entry)) (now (graphics .entry)) ∷ []))))
+        × (now (strip .exit) ≡ put at (pointsWords (backOf (head (now (system .entry)) (now (graphics .entry)))) (pointsIn (walk (now (system .entry)) (now (graphics .entry)) 4096 (rootAt (now (system .entry)) (now (graphics .entry)) ∷ [])))) (now (strip .entry))) ⌝ }
+{
+    let f = frame_of(system, graphics);
+    let bb_min = f.bb_min;
+    let bb_size = f.bb_size;
+    put_tree_points(
+        system,
+        graphics,
+        root_address(system, graphics),
+        bb_min,
+        bb_size,
+        strip,
+        at,
+    )
+}
+
+fn fill_polygons<'a>(system: &'a [u8], graphics: &'a [u8], n: usize, strip: &mut [u32]) -> usize
+    requires { ⌜ ListsReady (now system) (now graphics) × (n ≡ length (polygons (now system) (now graphics))) × PolysFit (now system) (now graphics) (length (now strip)) ⌝ }
+    ensures { λ r. ⌜ (r ≡ 14 + length (polysWords (now (system .entry)) (now (graphics .entry)))) × (now (strip .exit) ≡ put 14 (polysWords (now (system .entry)) (now (graphics .entry))) (now (strip .entry))) ⌝ }
+{
+    let a = list_addresses(system, graphics);
+    let f = frame_of(system, graphics);
+    let bb_min = f.bb_min;
+    let bb_size = f.bb_size;
+    let vertices = list_table(system, graphics, a.vertices);
+    let indices = list_table(system, graphics, a.indices);
+    let edges = list_table(system, graphics, a.edges);
+    let polys = list_table(system, graphics, a.polygons);
+    let links = links_of(system, graphics);
+    let header = header_of(system, graphics);
+    put_polygons(
+        system,
+        graphics,
+        vertices,
+        indices,
+        edges,
+        links,
+        header,
+        bb_min,
+        bb_size,
+        polys,
+        n,
+        strip,
+        14,
+    )
+}
+
+// All the words of a cell that was accepted.
+fn fill<'a>(system: &'a [u8], graphics: &'a [u8], polys: usize, strip: &mut [u32])
+    requires { ⌜ Fillable (now system) (now graphics) polys (length (now strip)) ⌝ }
+    ensures { λ _. ⌜ ((c : Cell) (k : ℕ) → readCell (now (system .entry)) (now (graphics .entry)) ≡ made c k → now (strip .exit) ≡ put 0 (encode c) (now (strip .entry))) ⌝ }
+{
+    fill_head(system, graphics, strip);
+    let portals_at = fill_polygons(system, graphics, polys, strip);
+    let points_at = fill_portals(system, graphics, strip, portals_at);
+    let end = fill_points(system, graphics, strip, points_at);
+    strip[end] = 0x5000_0000;
+}
+
+// Reads the cell of two lent sections into the lent strip. A refusal leaves the strip as it was.
+pub fn parse_ynv<'a>(system: &'a [u8], graphics: &'a [u8], strip: &mut [u32]) -> ParseAnswer
+    ensures answer { λ r. ⌜ paper r ≡ shown (parseOutcome (now (system .entry)) (now (graphics .entry)) (length (now (strip .entry)))) ⌝ }
+    ensures strip { λ _. ⌜ now (strip .exit) ≡ left (parseOutcome (now (system .entry)) (now (graphics .entry)) (length (now (strip .entry)))) (now (strip .entry)) ⌝ }
+{
+    match decide(system, graphics) {
+        ParseAnswer::Refused(r) => ParseAnswer::Refused(r),
+        ParseAnswer::Parsed(p) => {
+            if strip.len() < p.words {
+                return ParseAnswer::Refused(Refusal {
+                    number: 2,
+                    place: 0,
+                });
+            }
+            fill(system, graphics, p.polys, strip);
+            ParseAnswer::Parsed(p)
+        }
+    }
+}
