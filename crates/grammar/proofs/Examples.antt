@@ -59,9 +59,10 @@ module _ (graphics : List ℕ) where
       some {va = 0x5000_0000 + off} (omega arith)
       (record { header = emptyList vft off; parts = []; bytes = []; header-good = g; parts-good = no-table; items-good = no-part; adds-up = sym (mul-zero w); are = refl })
 
-  makes : Makes vehiclePages graphics 1 vehicleCell
+  -- its cell and its one sector
+  pub p12-makes : Makes vehiclePages graphics 1 vehicleCell
   unfolding vehicleCell vehicleHeader vehicleSector rowBytes leBytes cat le vecOf headOf
-  makes = record {
+  p12-makes = record {
     header = vehicleHeader;
     root = vehicleSector;
     vertices = [];
@@ -91,4 +92,4 @@ module _ (graphics : List ℕ) where
   -- P12's vehicle derives its strip, whatever the graphics section
   pub p12-derives : Derives vehiclePages graphics vehicleStrip
   unfolding vehicleCell encodeAs headWords vecWords each pack
-  p12-derives = record { sectors = 1; cell = vehicleCell; makes = makes; strip = refl }
+  p12-derives = record { sectors = 1; cell = vehicleCell; makes = p12-makes; strip = refl }

@@ -1,0 +1,46 @@
+-- The line that `cellsum` prints of a cell's system pages. Definitions only.
+use Prim.Native.Nat.{ℕ, _+_}
+use mathlib.Core.Path.{_≡_}
+use mathlib.Core.Bool.{cond}
+use mathlib.Core.List.{List, [], _∷_, _++_}
+use lib.Dec.{leb}
+use lib.ListN.{length, getD}
+use Rattle.fields.specs.Bytes.{cat, put}
+use Rattle.strip.specs.Outcome.{Outcome, refused, done}
+use Rattle.decimal.specs.Text.{ascii, decimal}
+use Rattle.ynv_read.specs.declared.Parsed.{Parsed}
+use Rattle.ynv_read.specs.Parse.{parseOutcome}
+
+-- what reading the input into a strip of n words comes to: there are no graphics, and an input above 65,536 bytes is refused before anything else
+unfoldable pub cellOutcome : List ℕ → ℕ → Outcome Parsed
+cellOutcome input n = cond (leb (length input) 65536) (parseOutcome input [] n) (refused 4 0)
+
+-- a text with a number behind it
+abbrev pub named : List ℕ → ℕ → List ℕ
+named name n = name ++ decimal n
+
+-- the counts of a cell
+unfoldable pub countsText : Parsed → List ℕ
+countsText p =
+    cat
+    (named (ascii " polys ") (p .polys)
+    ∷ named (ascii " portals ") (p .portals)
+    ∷ named (ascii " points ") (p .points)
+    ∷ named (ascii " sectors ") (p .sectors)
+    ∷ [])
+
+unfoldable pub acceptedText : ℕ → Parsed → List ℕ
+acceptedText area p = cat (named (ascii "cell ") area ∷ countsText p ∷ ascii "\n" ∷ [])
+
+unfoldable pub refusedText : ℕ → ℕ → List ℕ
+refusedText number place = cat (named (ascii "refused ") number ∷ named (ascii " ") place ∷ ascii "\n" ∷ [])
+
+-- the area id is word 2 of a strip
+abbrev pub cellText : Outcome Parsed → List ℕ
+cellText (done p words) = acceptedText (getD words 2 0) p
+cellText (refused number place) = refusedText number place
+
+-- a text that was stored in a line from a place on, and the place behind it
+pub record Stored (at : ℕ) (text old new : List ℕ) (next : ℕ) : Type 0 where
+  pub line : new ≡ put at text old
+  pub place : next ≡ at + length text
