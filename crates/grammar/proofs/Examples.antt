@@ -59,7 +59,6 @@ module _ (graphics : List ℕ) where
       some {va = 0x5000_0000 + off} (omega arith)
       (record { header = emptyList vft off; parts = []; bytes = []; header-good = g; parts-good = no-table; items-good = no-part; adds-up = sym (mul-zero w); are = refl })
 
-  -- its cell and its one sector
   pub p12-makes : Makes vehiclePages graphics 1 vehicleCell
   unfolding vehicleCell vehicleHeader vehicleSector rowBytes leBytes cat le vecOf headOf
   p12-makes = record {

@@ -1,11 +1,12 @@
 -- The refusals of a reading, each with its number and place: all but 2, which is the lent strip's. Assumes nothing.
-use Prim.Native.Nat.{ℕ, zero, suc, _*_, _≤_}
+use Prim.Native.Nat.{ℕ, zero, suc, _*_, _≤_, _<_}
 use native.Mathlib.Omega.{arith}
 use mathlib.Core.Path.{_≡_, refl}
 use mathlib.Core.Bool.{Bool, true, false}
 use mathlib.Core.List.{List, [], _∷_, _++_}
 use mathlib.Core.Logic.{⊎-elim}
 use lib.Dec.{ltb}
+use lib.ListN.{length}
 use Rattle.fields.specs.Bytes.{le}
 use Rattle.resource.specs.Section.{good}
 use Rattle.grammar.specs.Trees.{subsTo}
@@ -24,25 +25,26 @@ use Rattle.polygons.specs.Polygons.{limitsOf, tallyFrom}
 use Rattle.polygons.proofs.Exact.{tally-refused}
 use Rattle.ynv_read.specs.Reading.{Reading, made, refused, check, onList, onTally, onWalk, finiteBox, header, rootAt, head, source, polygons, portalCount, cellOf, onHead, onLists, afterWalk, readCell}
 
-pub data Named : ℕ → ℕ → Type 0 where
-  bad-header : Named 30 0
-  no-root : Named 31 0
-  bad-sector : Named 32 0
-  many-sectors : Named 33 0
-  bad-data : Named 34 0
-  bad-box : Named 40 0
-  bad-list : {l : ℕ} → 1 ≤ l → l ≤ 4 → Named 35 l
-  bad-counts : {l : ℕ} → 1 ≤ l → l ≤ 4 → Named 36 l
-  bad-run : {p : ℕ} → Named 37 p
-  bad-index : {p : ℕ} → Named 38 p
-  bad-portals : Named 39 0
+-- for pages with so many polygons
+pub data Named (polys : ℕ) : ℕ → ℕ → Type 0 where
+  bad-header : Named polys 30 0
+  no-root : Named polys 31 0
+  bad-sector : Named polys 32 0
+  many-sectors : Named polys 33 0
+  bad-data : Named polys 34 0
+  bad-box : Named polys 40 0
+  bad-list : {l : ℕ} → 1 ≤ l → l ≤ 4 → Named polys 35 l
+  bad-counts : {l : ℕ} → 1 ≤ l → l ≤ 4 → Named polys 36 l
+  bad-run : {p : ℕ} → p < polys → Named polys 37 p
+  bad-index : {p : ℕ} → p < polys → Named polys 38 p
+  bad-portals : Named polys 39 0
 
-abbrev pub AsNamed : Reading → Type 0
-AsNamed (made c k) = Unit
-AsNamed (refused number place) = Named number place
+abbrev pub AsNamed : ℕ → Reading → Type 0
+AsNamed polys (made c k) = Unit
+AsNamed polys (refused number place) = Named polys number place
 
 -- none of them is 2
-pub late : {number place : ℕ} → Named number place → 30 ≤ number
+pub late : {polys number place : ℕ} → Named polys number place → 30 ≤ number
 late bad-header = omega arith
 late no-root = omega arith
 late bad-sector = omega arith
@@ -51,22 +53,25 @@ late bad-data = omega arith
 late bad-box = omega arith
 late (bad-list h k) = omega arith
 late (bad-counts h k) = omega arith
-late bad-run = omega arith
-late bad-index = omega arith
+late (bad-run h) = omega arith
+late (bad-index h) = omega arith
 late bad-portals = omega arith
 
-named-at : {m n p q : ℕ} → m ≡ n → p ≡ q → Named n q → Named m p
+named-at : {polys m n p q : ℕ} → m ≡ n → p ≡ q → Named polys n q → Named polys m p
 named-at e f h = rw (e, f) h
 
-checks : (b : Bool) (number : ℕ) (rest : Reading) → Named number 0 → AsNamed rest → AsNamed (check b number rest)
+checks : {polys : ℕ} (b : Bool) (number : ℕ) (rest : Reading) → Named polys number 0 → AsNamed polys rest → AsNamed polys (check b number rest)
 checks true number rest h k = k
 checks false number rest h k = h
 
 module _ (S G : List ℕ) where
-  lists : (w va place : ℕ) (rest : Reading) → 1 ≤ place → place ≤ 4 → AsNamed rest → AsNamed (onList (listed S G w va place) rest)
+  abbrev count : ℕ
+  count = length (polygons S G)
+
+  lists : (w va place : ℕ) (rest : Reading) → 1 ≤ place → place ≤ 4 → AsNamed count rest → AsNamed count (onList (listed S G w va place) rest)
   lists w va place rest lo hi k = by (listed S G w va place) refl
     where
-      by : (a : ListAnswer) → listed S G w va place ≡ a → AsNamed (onList a rest)
+      by : (a : ListAnswer) → listed S G w va place ≡ a → AsNamed count (onList a rest)
       by (Items n) e = k
       by (Refused r) e =
           let (f, g) = listed-refused S G w va place e in
@@ -75,7 +80,7 @@ module _ (S G : List ℕ) where
   -- a walk's own: 32, 33, 34
   abbrev WalkNamed : Walked → Type 0
   WalkNamed (Walk.done left points) = Unit
-  WalkNamed (Walk.refused number) = Named number 0
+  WalkNamed (Walk.refused number) = Named count number 0
 
   walk-also : (ps : List (List ℕ)) (w : Walked) → WalkNamed w → WalkNamed (also ps w)
   walk-also ps (Walk.done left points) h = tt
@@ -96,20 +101,21 @@ module _ (S G : List ℕ) where
       let w = walk S G n (subsTo s 4 ++ vas) in
       walk-checked (good S G va 96) (goodData S G s) (also (pointsOf S G s) w) (walk-also (pointsOf S G s) w (walks n (subsTo s 4 ++ vas)))
 
-  on-walk : (w : Walked) (rest : List (List ℕ) → ℕ → Reading) → WalkNamed w → ((ps : List (List ℕ)) (k : ℕ) → AsNamed (rest ps k)) → AsNamed (onWalk w rest)
+  on-walk : (w : Walked) (rest : List (List ℕ) → ℕ → Reading) → WalkNamed w → ((ps : List (List ℕ)) (k : ℕ) → AsNamed count (rest ps k)) → AsNamed count (onWalk w rest)
   on-walk (Walk.done left points) rest h f = f points _
   on-walk (Walk.refused number) rest h f = h
 
-  tallies : (l : Limits) (is bs : List (List ℕ)) (rest : Reading) → AsNamed rest → AsNamed (onTally (tallyFrom l is 0 bs) rest)
-  tallies l is bs rest k = by (tallyFrom l is 0 bs) refl
+  tallies : (l : Limits) (is : List (List ℕ)) (rest : Reading) → AsNamed count rest → AsNamed count (onTally (tallyFrom l is 0 (polygons S G)) rest)
+  tallies l is rest k = by (tallyFrom l is 0 (polygons S G)) refl
     where
-      by : (t : Tally) → tallyFrom l is 0 bs ≡ t → AsNamed (onTally t rest)
+      by : (t : Tally) → tallyFrom l is 0 (polygons S G) ≡ t → AsNamed count (onTally t rest)
       by (Words n) e = k
       by (Stopped r) e =
-          let (f, lo, hi) = tally-refused l is 0 bs e in
-          ⊎-elim (λ h. named-at h refl bad-run) (λ h. named-at h refl bad-index) f
+          let (f, lo, hi) = tally-refused l is 0 (polygons S G) e in
+          let inside : r .place < count = omega arith in
+          ⊎-elim (λ h. named-at h refl (bad-run inside)) (λ h. named-at h refl (bad-index inside)) f
 
-  after-walk : (ps : List (List ℕ)) (k : ℕ) → AsNamed (afterWalk S G ps k)
+  after-walk : (ps : List (List ℕ)) (k : ℕ) → AsNamed count (afterWalk S G ps k)
   unfolding afterWalk onLists
   after-walk ps k =
       let h = header S G in
@@ -123,10 +129,10 @@ module _ (S G : List ℕ) where
       (lists 2 (le 8 h 0x80) 2 o₃ (omega arith) (omega arith)
       (lists 8 (le 8 h 0x88) 3 o₄ (omega arith) (omega arith)
       (lists 48 (le 8 h 0x118) 4 o₅ (omega arith) (omega arith)
-      (tallies (limitsOf s) (s .indices) (polygons S G) last
+      (tallies (limitsOf s) (s .indices) last
       (checks (whole S G (le 8 h 0x128) (28 * portalCount S G)) 39 (made (cellOf S G ps) k) bad-portals tt)))))
 
-  pub named : AsNamed (readCell S G)
+  pub named : AsNamed count (readCell S G)
   unfolding readCell onHead
   named =
       let w = walk S G 4096 (rootAt S G ∷ []) in

@@ -4,18 +4,24 @@
 -- place (`refused-named`). Assumes nothing.
 use Prim.Native.Nat.{ℕ, _≤_, _<_}
 use native.Mathlib.Omega.{arith}
-use mathlib.Core.Path.{_≡_, refl, sym, subst, _∙_}
+use mathlib.Core.Path.{_≡_, refl, sym, ap, subst, _∙_}
 use mathlib.Core.Bool.{Bool, true, false, cond}
 use mathlib.Core.List.{List}
 use mathlib.Core.Logic.{_↔_, _⊎_, inl, inr, ⊎-elim}
 use lib.Dec.{leb}
 use lib.ListN.{length}
 use borrow.Author.Tests.{leb-true, leb-false, le-leb, lt-leb}
-use Rattle.strip.specs.Cell.{Cell, encode}
+use Rattle.fields.specs.Rows.{pack}
+use Rattle.strip.specs.Cell.{Cell, vecWords, headWords, encode, encodeAs, each}
+use Rattle.strip.specs.Scan.{Scanned, scan}
 use Rattle.strip.specs.Outcome as Outcome
 use Rattle.grammar.specs.Derives.{Derives}
+use Rattle.grammar.specs.Formed.{Bytes}
+use Rattle.grammar.specs.Vehicle.{vehiclePages, vehicleCell, vehicleStrip}
+use Rattle.grammar.proofs.Formed.{derived-scans}
+use Rattle.grammar.proofs.Examples.{p12-makes}
 use Rattle.ynv_read.specs.declared.Parsed.{Parsed}
-use Rattle.ynv_read.specs.Reading.{Reading, made, refused, readCell}
+use Rattle.ynv_read.specs.Reading.{Reading, made, refused, polygons, readCell}
 use Rattle.ynv_read.specs.Parse.{countsOf, fitted, parseOutcome}
 use Rattle.ynv_read.proofs.Exact.{accepted-made, made-accepted}
 use Rattle.ynv_read.proofs.Named.{Named, AsNamed, named, late}
@@ -74,7 +80,7 @@ module _ (S G : List ℕ) (n : ℕ) where
       there : parseOutcome S G n ≡ Outcome.refused 2 0 → (w : List ℕ) × Derives S G w × (n < length w)
       there e =
           ⊎-elim
-          (λ r. absurd (let m : 30 ≤ 2 = late (subst AsNamed r (named S G)) in omega arith))
+          (λ r. absurd (let m : 30 ≤ 2 = late (subst (AsNamed (length (polygons S G))) r (named S G)) in omega arith))
           (λ (c, k, r, long, a, b). (encode c, record { sectors = k; cell = c; makes = accepted-made S G r; strip = refl }, long))
           (fitted-refused (readCell S G) e)
 
@@ -93,7 +99,25 @@ module _ (S G : List ℕ) (n : ℕ) where
       (fitted-refused (readCell S G) e)
 
   -- and it has a number and a place of its own
-  pub refused-named : {number place : ℕ} → parseOutcome S G n ≡ Outcome.refused number place → ((number ≡ 2) × (place ≡ 0)) ⊎ Named number place
+  pub refused-named : {number place : ℕ} → parseOutcome S G n ≡ Outcome.refused number place → ((number ≡ 2) × (place ≡ 0)) ⊎ Named (length (polygons S G)) number place
   unfolding parseOutcome
   refused-named e =
-      ⊎-elim (λ r. inr (subst AsNamed r (named S G))) (λ (c, k, r, long, a, b). inl (a, b)) (fitted-refused (readCell S G) e)
+      ⊎-elim (λ r. inr (subst (AsNamed (length (polygons S G))) r (named S G))) (λ (c, k, r, long, a, b). inl (a, b)) (fitted-refused (readCell S G) e)
+
+  -- ---- what is read
+
+  -- a strip that was read is well formed, and stands for a cell with the parts that the answer counts
+  pub read-scans : Bytes S → Bytes G → {p : Parsed} {w : List ℕ} → parseOutcome S G n ≡ Outcome.done p w → (c : Cell) × (scan w ≡ Scanned.ok c) × (p ≡ countsOf c (p .sectors))
+  read-scans sb gb {p} {w} e =
+      let a = accepted-exactly p w .0 e in
+      let d = a .derived in
+      let sectors : p .sectors ≡ d .sectors = ap (λ (x : Parsed). x .sectors) (a .counts) in
+      (d .cell, derived-scans S G sb gb d, a .counts ∙ ap (countsOf (d .cell)) (sym sectors))
+
+-- P12's vehicle is read, into any strip of 15 words or more, whatever the graphics section
+pub p12-read : (G : List ℕ) (n : ℕ) → 15 ≤ n
+    → parseOutcome vehiclePages G n ≡ Outcome.done (record { words = 15; polys = 0; portals = 0; points = 0; sectors = 1 }) vehicleStrip
+unfolding vehicleCell encodeAs headWords vecWords each pack
+p12-read G n h =
+    accepted-exactly vehiclePages G n (record { words = 15; polys = 0; portals = 0; points = 0; sectors = 1 }) vehicleStrip .1
+    (record { derived = record { sectors = 1; cell = vehicleCell; makes = p12-makes G; strip = refl }; fits = h; counts = refl })

@@ -24,7 +24,7 @@ returns c =
     let start = call .before .before .before .before .before .before .args in
     let line = call .put-refusal .ensures in
     let strip = now (start .strip) in
-    (line .1, promised strip strip (long-input (now (start .input)) (length strip) (call .before .before .if1 .taken)) refl (line .0) refl)
+    (line .1, promised strip strip (long-input (now (start .input)) (length strip) (omega (arith, call .before .before .if1 .taken))) refl (line .0) refl)
 
 slice-aggregate-parse-ynv : tie.Need-slice-aggregate-parse-ynv
 slice-aggregate-parse-ynv c = refl

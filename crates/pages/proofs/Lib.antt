@@ -1,0 +1,5 @@
+pub mod Lists
+pub mod Sizes
+pub mod Accepted
+pub mod Placed
+pub mod Examples

@@ -1,0 +1,7 @@
+pub mod Items
+pub mod Optional
+pub mod Sectors
+pub mod Pages
+pub mod Checks
+pub mod Reread
+pub mod Accepted

@@ -1,0 +1,197 @@
+-- The pages of a cell. Sizes come from the cell alone, positions from sizes, contents from the cell and the positions. Document 01, 'Pages' and module 8.
+-- Definitions only.
+use Prim.Native.Nat.{ℕ, zero, suc, _+_, _*_}
+use mathlib.Core.List.{List, [], _∷_, _++_, map}
+use lib.ListN.{length}
+use Rattle.fields.specs.Bytes.{les, cat}
+use Rattle.fields.specs.Rows.{rowBytes, pack}
+use Rattle.math.specs.declared.vec3.Vec3.{Vec3 as Floats}
+use Rattle.quantise.specs.Short.{shorts}
+use Rattle.strip.specs.Cell.{Portal, Head, Cell}
+use Rattle.blocks.specs.Layout.{placeOf, behind, endOf, address, pagesOf}
+use Rattle.blocks.specs.Lists.{listSizes, listBlocks}
+use Rattle.pages.specs.Items.{floats, Corner, corners, vertexTable, areaTable, linksOf, vertexItems, indexItems, edgeItems, polygonItems}
+use Rattle.pages.specs.Optional.{blockOf, sizeOf, addressOf}
+use Rattle.pages.specs.Sectors as Sectors
+use Rattle.pages.specs.Sectors.{Sector, treeOf, treeBlocks, pointCount, byteCount, nanBits}
+
+-- ---- portals
+
+-- a portal, 28 bytes: kind, angle, flags_unk, six shorts, poly_from twice, poly_to twice, area_from (14 bits), area_to (14), area_unk (4)
+module _ (lo size : Floats) where
+  abbrev pub portalRow : Portal → List (ℕ × ℕ)
+  portalRow p =
+      (1, p .kind) ∷ (1, p .angle) ∷ (2, p .flags-unk)
+      ∷ (2, shorts (floats (p .from)) lo size .x) ∷ (2, shorts (floats (p .from)) lo size .y) ∷ (2, shorts (floats (p .from)) lo size .z)
+      ∷ (2, shorts (floats (p .to)) lo size .x) ∷ (2, shorts (floats (p .to)) lo size .y) ∷ (2, shorts (floats (p .to)) lo size .z)
+      ∷ (2, p .poly-from) ∷ (2, p .poly-from) ∷ (2, p .poly-to) ∷ (2, p .poly-to)
+      ∷ (4, pack ((14, p .area-from) ∷ (14, p .area-to) ∷ (4, p .area-unk) ∷ [])) ∷ []
+
+  unfoldable pub portalItems : List Portal → List (List ℕ)
+  portalItems ps = map (λ p. rowBytes (portalRow p)) ps
+
+-- ---- the header
+
+-- addresses: of the four lists, the root, portals and links
+pub record Places : Type 0 where
+  pub vertices : ℕ
+  pub indices : ℕ
+  pub edges : ℕ
+  pub polygons : ℕ
+  pub root : ℕ
+  pub portals : ℕ
+  pub links : ℕ
+
+pub record Counts : Type 0 where
+  pub vertices : ℕ
+  pub indices : ℕ
+  pub areas : ℕ
+  pub polygons : ℕ
+  pub points : ℕ
+  pub portals : ℕ
+  pub links : ℕ
+  pub total : ℕ
+
+-- the bits of 1
+abbrev pub oneBits : ℕ
+oneBits = 0x3F80_0000
+
+-- a row of the matrix: column 3 is the NaN in every row
+abbrev pub matrixRow : ℕ → ℕ → ℕ → List (ℕ × ℕ)
+matrixRow x y z = (4, x) ∷ (4, y) ∷ (4, z) ∷ (4, nanBits) ∷ []
+
+abbrev pub matrix : List (ℕ × ℕ)
+matrix = matrixRow oneBits 0 0 ++ (matrixRow 0 oneBits 0 ++ (matrixRow 0 0 oneBits ++ matrixRow 0 0 0))
+
+-- from 0 to 0x98, where the areas are
+abbrev pub headerFirst : Head → Places → Counts → List (ℕ × ℕ)
+headerFirst h a n =
+    ((4, h .vft) ∷ (4, 1) ∷ (8, 0) ∷ (4, h .content) ∷ (4, 0x10011) ∷ (8, 0) ∷ [])
+    ++ (matrix
+    ++ ((4, h .bb-size .x) ∷ (4, h .bb-size .y) ∷ (4, h .bb-size .z) ∷ (4, 0x7F80_0001)
+    ∷ (8, a .vertices) ∷ (8, 0) ∷ (8, a .indices) ∷ (8, a .edges) ∷ (4, n .indices) ∷ (4, n .areas) ∷ []))
+
+-- 32 areas: zeros behind those that there are
+unfoldable pub padded : ℕ → List ℕ → List ℕ
+padded zero l = []
+padded (suc n) [] = 0 ∷ padded n []
+padded (suc n) (x ∷ l) = x ∷ padded n l
+
+-- from 0x118 on
+abbrev pub headerLast : Head → Places → Counts → List (ℕ × ℕ)
+headerLast h a n =
+    (8, a .polygons) ∷ (8, a .root) ∷ (8, a .portals) ∷ (8, a .links) ∷ (4, n .vertices) ∷ (4, n .polygons) ∷ (4, h .area) ∷ (4, n .total)
+    ∷ (4, n .points) ∷ (4, n .portals) ∷ (4, n .links) ∷ (12, 0) ∷ (4, h .version) ∷ (12, 0) ∷ []
+
+-- the header, 368 bytes
+unfoldable pub headerBytes : Head → Places → Counts → List ℕ → List ℕ
+headerBytes h a n areas = rowBytes (headerFirst h a n) ++ (les 4 (padded 32 areas) ++ rowBytes (headerLast h a n))
+
+-- ---- what there is of a cell
+
+module _ (c : Cell) where
+  -- bb_min and bb_size
+  abbrev pub loOf : Floats
+  loOf = floats (c .head .bb-min)
+
+  abbrev pub extentOf : Floats
+  extentOf = floats (c .head .bb-size)
+
+  abbrev pub allCorners : List Corner
+  allCorners = corners loOf extentOf (c .polys)
+
+  unfoldable pub vertices : List ℕ
+  vertices = vertexTable allCorners
+
+  unfoldable pub areas : List ℕ
+  areas = areaTable (c .head .area) allCorners
+
+  unfoldable pub links : List ℕ
+  links = linksOf (c .polys)
+
+  unfoldable pub sectors : Sector
+  sectors = treeOf (c .head) (c .polys) (c .points)
+
+  unfoldable pub counts : Counts
+  counts = record {
+    vertices = length vertices;
+    indices = length allCorners;
+    areas = length areas;
+    polygons = length (c .polys);
+    points = pointCount sectors;
+    portals = length (c .portals);
+    links = length links;
+    -- 96 per sector, 32 per leaf, 2 per polygon id in a leaf, 8 per point stored, 28 per portal, and the four lists' items
+    total = byteCount sectors + 28 * length (c .portals) + 6 * length vertices + 2 * length allCorners + 8 * length allCorners + 48 * length (c .polys);
+  }
+
+-- ---- sizes and positions, from the counts and the tree alone
+
+-- the blocks' sizes: header; lists in the order vertices, indices, edges, polygons; sectors; portals; links
+unfoldable pub sizesOf : Counts → Sector → List ℕ
+sizesOf n t =
+    368
+    ∷ (listSizes 6 (n .vertices)
+    ++ (listSizes 2 (n .indices)
+    ++ (listSizes 8 (n .indices)
+    ++ (listSizes 48 (n .polygons)
+    ++ (Sectors.sizes t
+    ++ (sizeOf (28 * n .portals)
+    ++ sizeOf (2 * n .links)))))))
+
+-- the end behind each part
+module _ (n : Counts) (t : Sector) where
+  unfoldable pub endHeader : ℕ
+  endHeader = behind 0 368
+
+  unfoldable pub endVertices : ℕ
+  endVertices = endOf endHeader (listSizes 6 (n .vertices))
+
+  unfoldable pub endIndices : ℕ
+  endIndices = endOf endVertices (listSizes 2 (n .indices))
+
+  unfoldable pub endEdges : ℕ
+  endEdges = endOf endIndices (listSizes 8 (n .indices))
+
+  unfoldable pub endPolygons : ℕ
+  endPolygons = endOf endEdges (listSizes 48 (n .polygons))
+
+  unfoldable pub endSectors : ℕ
+  endSectors = endOf endPolygons (Sectors.sizes t)
+
+  unfoldable pub endPortals : ℕ
+  endPortals = endOf endSectors (sizeOf (28 * n .portals))
+
+  unfoldable pub placesOf : Places
+  placesOf = record {
+    vertices = address (placeOf endHeader 48);
+    indices = address (placeOf endVertices 48);
+    edges = address (placeOf endIndices 48);
+    polygons = address (placeOf endEdges 48);
+    root = address (placeOf endPolygons 96);
+    portals = addressOf endSectors (28 * n .portals);
+    links = addressOf endPortals (2 * n .links);
+  }
+
+-- ---- the pages
+
+module _ (c : Cell) where
+  unfoldable pub sizes : List ℕ
+  sizes = sizesOf (counts c) (sectors c)
+
+  unfoldable pub header : List ℕ
+  header = headerBytes (c .head) (placesOf (counts c) (sectors c)) (counts c) (areas c)
+
+  unfoldable pub blocks : List (List ℕ)
+  blocks =
+      header
+      ∷ (listBlocks (endHeader (counts c) (sectors c)) 1080158456 6 (vertexItems (vertices c))
+      ++ (listBlocks (endVertices (counts c) (sectors c)) 1080158424 2 (indexItems (vertices c) (allCorners c))
+      ++ (listBlocks (endIndices (counts c) (sectors c)) 1080158440 8 (edgeItems (areas c) (allCorners c))
+      ++ (listBlocks (endEdges (counts c) (sectors c)) 1080158408 48 (polygonItems (c .head .area) 0 0 0 (c .polys))
+      ++ (treeBlocks (loOf c) (extentOf c) (endPolygons (counts c) (sectors c)) 0 (sectors c)
+      ++ (blockOf (cat (portalItems (loOf c) (extentOf c) (c .portals)))
+      ++ blockOf (les 2 (links c))))))))
+
+  unfoldable pub pages : List ℕ
+  pages = pagesOf blocks

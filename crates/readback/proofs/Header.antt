@@ -1,0 +1,134 @@
+-- The fields of the written header are read back, a line each. Assumes nothing.
+use mathlib.Core.Path.{_≡_, refl, sym, ap, subst, _∙_}
+use mathlib.Core.List.{List, [], _∷_, _++_}
+use Prim.Native.Nat.{ℕ, zero, suc, _+_, _*_, _%_, _^_, _≤_, _<_}
+use native.Mathlib.Nat.{zero-add, add-zero, mul-zero, mul-suc, mod-eq-of-lt}
+use native.Mathlib.Omega.{arith}
+use lib.ListN.{length, getD}
+use borrow.Author.Tests.{lt-ltb}
+use Rattle.fields.specs.Bytes.{le, leBytes, les}
+use Rattle.fields.specs.Rows.{rowBytes, rowAt}
+use Rattle.fields.proofs.Bytes.{length-bytes, length-les}
+use Rattle.fields.proofs.Holds.{Holds, all-held, held-first, held-second, held-value}
+use Rattle.fields.proofs.Rows.{length-rows, field-in}
+use Rattle.strip.specs.Cell.{Head, All}
+use Rattle.grammar.specs.Derives.{areaOf}
+use Rattle.pages.specs.Pages.{padded, Places, Counts, headerFirst, headerLast, headerBytes}
+use Rattle.pages.proofs.Sizes.{length-padded}
+
+-- number i of a row of numbers
+pub number-in : (s : List ℕ) (at w : ℕ) (xs : List ℕ) (i : ℕ) → i < length xs → Holds s at (les w xs) → le w s (at + w * i) ≡ getD xs i 0 % 256 ^ w
+unfolding les
+number-in s at w [] i h held = absurd (omega arith)
+number-in s at w (x ∷ xs) zero h held =
+    rw (mul-zero, add-zero) (held-value w x (held-first (leBytes w x) (les w xs) held))
+number-in s at w (x ∷ xs) (suc i) h held =
+    let rest : Holds s (at + w) (les w xs) = subst (λ (j : ℕ). Holds s (at + j) (les w xs)) (length-bytes w x) (held-second (leBytes w x) (les w xs) held) in
+    let e : at + w * suc i ≡ at + w + w * i = rw (mul-suc w i) (omega arith) in
+    rw e (number-in s (at + w) w xs i (omega arith) rest)
+
+getD-padded : (n : ℕ) (l : List ℕ) (i : ℕ) → i < n → i < length l → getD (padded n l) i 0 ≡ getD l i 0
+unfolding padded
+getD-padded zero l i h k = absurd (omega arith)
+getD-padded (suc n) [] i h k = absurd (omega arith)
+getD-padded (suc n) (x ∷ l) zero h k = refl
+getD-padded (suc n) (x ∷ l) (suc i) h k = getD-padded n l i (omega arith) (omega arith)
+
+below-at : (m : ℕ) (l : List ℕ) (i : ℕ) → i < length l → All (λ x. x < m) l → getD l i 0 < m
+below-at m [] i h k = absurd (omega arith)
+below-at m (x ∷ l) zero h k = k .0
+below-at m (x ∷ l) (suc i) h k = below-at m l i (omega arith) (k .1)
+
+module _ (h : Head) (a : Places) (n : Counts) (areas : List ℕ) where
+  abbrev H : List ℕ
+  H = headerBytes h a n areas
+
+  abbrev middle : List ℕ
+  middle = les 4 (padded 32 areas)
+
+  middle-length : length middle ≡ 128
+  middle-length = length-les 4 (padded 32 areas) ∙ ap (λ (j : ℕ). 4 * j) (length-padded 32 areas)
+
+  first-held : Holds H 0 (rowBytes (headerFirst h a n))
+  unfolding headerBytes
+  first-held = held-first (rowBytes (headerFirst h a n)) (middle ++ rowBytes (headerLast h a n)) (all-held H)
+
+  behind-first : Holds H 0x98 (middle ++ rowBytes (headerLast h a n))
+  unfolding headerBytes
+  behind-first =
+      subst (λ (j : ℕ). Holds H (0 + j) (middle ++ rowBytes (headerLast h a n))) (length-rows (headerFirst h a n))
+      (held-second (rowBytes (headerFirst h a n)) (middle ++ rowBytes (headerLast h a n)) (all-held H))
+
+  middle-held : Holds H 0x98 middle
+  middle-held = held-first middle (rowBytes (headerLast h a n)) behind-first
+
+  last-held : Holds H 0x118 (rowBytes (headerLast h a n))
+  last-held = subst (λ (j : ℕ). Holds H (0x98 + j) (rowBytes (headerLast h a n))) middle-length (held-second middle (rowBytes (headerLast h a n)) behind-first)
+
+  -- a field before the areas, and one behind them
+  first-field : (off w v : ℕ) → 0 < w → rowAt (headerFirst h a n) off ≡ (w, v) → v < 256 ^ w → le w H off ≡ v
+  first-field off w v some e small = ap (le w H) (sym (zero-add off)) ∙ field-in (headerFirst h a n) off w v some e first-held ∙ mod-eq-of-lt small
+
+  last-field : (off w v : ℕ) → 0 < w → rowAt (headerLast h a n) off ≡ (w, v) → v < 256 ^ w → le w H (0x118 + off) ≡ v
+  last-field off w v some e small = field-in (headerLast h a n) off w v some e last-held ∙ mod-eq-of-lt small
+
+  pub vft-back : h .vft < 2 ^ 32 → le 4 H 0 ≡ h .vft
+  vft-back s = first-field 0 4 (h .vft) (omega arith) refl s
+
+  pub content-back : h .content < 2 ^ 32 → le 4 H 0x10 ≡ h .content
+  content-back s = first-field 0x10 4 (h .content) (omega arith) refl s
+
+  pub size-x-back : h .bb-size .x < 2 ^ 32 → le 4 H 0x60 ≡ h .bb-size .x
+  size-x-back s = first-field 0x60 4 (h .bb-size .x) (omega arith) refl s
+
+  pub size-y-back : h .bb-size .y < 2 ^ 32 → le 4 H 0x64 ≡ h .bb-size .y
+  size-y-back s = first-field 0x64 4 (h .bb-size .y) (omega arith) refl s
+
+  pub size-z-back : h .bb-size .z < 2 ^ 32 → le 4 H 0x68 ≡ h .bb-size .z
+  size-z-back s = first-field 0x68 4 (h .bb-size .z) (omega arith) refl s
+
+  pub vertices-back : a .vertices < 2 ^ 64 → le 8 H 0x70 ≡ a .vertices
+  vertices-back s = first-field 0x70 8 (a .vertices) (omega arith) refl s
+
+  pub indices-back : a .indices < 2 ^ 64 → le 8 H 0x80 ≡ a .indices
+  indices-back s = first-field 0x80 8 (a .indices) (omega arith) refl s
+
+  pub edges-back : a .edges < 2 ^ 64 → le 8 H 0x88 ≡ a .edges
+  edges-back s = first-field 0x88 8 (a .edges) (omega arith) refl s
+
+  pub area-count-back : n .areas < 2 ^ 32 → le 4 H 0x94 ≡ n .areas
+  area-count-back s = first-field 0x94 4 (n .areas) (omega arith) refl s
+
+  pub polygons-back : a .polygons < 2 ^ 64 → le 8 H 0x118 ≡ a .polygons
+  polygons-back s = last-field 0 8 (a .polygons) (omega arith) refl s
+
+  pub root-back : a .root < 2 ^ 64 → le 8 H 0x120 ≡ a .root
+  root-back s = last-field 8 8 (a .root) (omega arith) refl s
+
+  pub portals-back : a .portals < 2 ^ 64 → le 8 H 0x128 ≡ a .portals
+  portals-back s = last-field 0x10 8 (a .portals) (omega arith) refl s
+
+  pub links-back : a .links < 2 ^ 64 → le 8 H 0x130 ≡ a .links
+  links-back s = last-field 0x18 8 (a .links) (omega arith) refl s
+
+  pub area-back : h .area < 2 ^ 32 → le 4 H 0x140 ≡ h .area
+  area-back s = last-field 0x28 4 (h .area) (omega arith) refl s
+
+  pub portal-count-back : n .portals < 2 ^ 32 → le 4 H 0x14C ≡ n .portals
+  portal-count-back s = last-field 0x34 4 (n .portals) (omega arith) refl s
+
+  pub link-count-back : n .links < 2 ^ 32 → le 4 H 0x150 ≡ n .links
+  link-count-back s = last-field 0x38 4 (n .links) (omega arith) refl s
+
+  pub version-back : h .version < 2 ^ 32 → le 4 H 0x160 ≡ h .version
+  version-back s = last-field 0x48 4 (h .version) (omega arith) refl s
+
+  -- the area of each index of the table
+  pub areas-back : n .areas ≡ length areas → length areas ≤ 32 → All (λ x. x < 2 ^ 32) areas → (i : ℕ) → i < length areas → areaOf H i ≡ getD areas i 0
+  unfolding areaOf
+  areas-back e few small i k =
+      let count : le 4 H 0x94 ≡ length areas = area-count-back (omega arith) ∙ e in
+      let value : le 4 H (0x98 + 4 * i) ≡ getD areas i 0 =
+      number-in H 0x98 4 (padded 32 areas) i (omega (arith, length-padded 32 areas)) middle-held
+      ∙ ap (λ (x : ℕ). x % 2 ^ 32) (getD-padded 32 areas i (omega arith) k) ∙ mod-eq-of-lt (below-at (2 ^ 32) areas i k small) in
+      rw (count, lt-ltb i (length areas) k, value)

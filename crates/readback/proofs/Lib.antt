@@ -1,0 +1,12 @@
+pub mod Formed
+pub mod Lists
+pub mod Header
+pub mod Polygons
+pub mod Portals
+pub mod Tables
+pub mod Trees
+pub mod Root
+pub mod Whole
+pub mod Kept
+pub mod Theorem
+pub mod Examples

@@ -1,0 +1,182 @@
+-- The root of a written tree: the first of its blocks, with the cell's box as it stands in the strip; and how many sectors a tree has. Assumes nothing.
+use mathlib.Core.Path.{_≡_, refl, sym, ap, _∙_}
+use mathlib.Core.Bool.{Bool, true, false, not, cond, _||_, true≢false}
+use mathlib.Core.List.{List, [], _∷_, _++_}
+use Prim.Native.Nat.{ℕ, zero, suc, _+_, _*_, _/_, _%_, _^_, _≤_, _<_}
+use native.Mathlib.Nat.{mod-eq-of-lt}
+use native.Mathlib.Omega.{arith}
+use lib.ListN.{length}
+use lib.Dec.{T, ltb, eqb}
+use lib.Ieee.{Float, nan, inf, fin, binary32, ofBits, toBits, isNan}
+use lib.Ieee.Scale.{finite}
+use lib.Ieee.Bits.{toBits-ofBits}
+use borrow.Author.Tests.{ltb-true, not-false, lt-ltb}
+use Rattle.fields.specs.Rows.{rowBytes}
+use Rattle.fields.proofs.Holds.{Holds}
+use Rattle.fields.proofs.Rows.{length-rows, field-back}
+use Rattle.math.specs.declared.vec3.Vec3.{Vec3 as Floats}
+use Rattle.math.proofs.Finite.{finite-bits}
+use Rattle.quantise.specs.declared.quarter.QuarterBox.{QuarterBox}
+use Rattle.quantise.specs.declared.bounds.Aabb.{Aabb}
+use Rattle.strip.specs.Cell.{Vec3, Point, Head, Cell, All}
+use Rattle.blocks.specs.Layout.{placeOf, address}
+use Rattle.blocks.proofs.Standing.{Stand}
+use Rattle.grammar.specs.Derives.{vecOf, Finite, AllFinite}
+use Rattle.grammar.proofs.Runs.{all-append}
+use Rattle.pages.specs.Items.{floats}
+use Rattle.pages.specs.Sectors.{Sector, sectorCount, sub0, sub1, sub2, sub3, depthBy, depthOf, rootBox, leaves, leafOf, pointsOf, grown, treeOf, preorder, sectorRow, dataFrom, from0, from1, from2, from3, sectorAddress, leafBlocks, treeBlocks}
+use Rattle.pages.specs.Sectors.Sector.{leaf, node}
+use Rattle.pages.specs.Pages.{sectors}
+use Rattle.pages.specs.Checks.{endless, endlessVec, endlessBox}
+use Rattle.pages.proofs.Accepted.{or-false}
+use Rattle.readback.proofs.Formed.{WordVec}
+use Rattle.readback.proofs.Trees.{first-held}
+
+-- ---- 10: a box that is finite
+
+finite-word : (w : ℕ) → endless w ≡ false → Finite w
+finite-word w e = ltb-true (w % 2 ^ 31) 0x7F80_0000 (not-false (ltb (w % 2 ^ 31) 0x7F80_0000) e)
+
+finite-vec : (v : Vec3) → endlessVec v ≡ false → AllFinite v
+finite-vec v e =
+    let h = or-false (endless (v .x)) (endless (v .y) || endless (v .z)) e in
+    let k = or-false (endless (v .y)) (endless (v .z)) (h .1) in
+    record { x = finite-word (v .x) (h .0); y = finite-word (v .y) (k .0); z = finite-word (v .z) (k .1) }
+
+pub record FiniteBox (h : Head) : Type 0 where
+  pub min : AllFinite (h .bb-min)
+  pub max : AllFinite (h .bb-max)
+  pub extent : AllFinite (h .bb-size)
+
+pub finite-box : (h : Head) → endlessBox h ≡ false → FiniteBox h
+finite-box h e =
+    let k = or-false (endlessVec (h .bb-min)) (endlessVec (h .bb-max) || endlessVec (h .bb-size)) e in
+    let l = or-false (endlessVec (h .bb-max)) (endlessVec (h .bb-size)) (k .1) in
+    record { min = finite-vec (h .bb-min) (k .0); max = finite-vec (h .bb-max) (l .0); extent = finite-vec (h .bb-size) (l .1) }
+
+finite-number : (x : Float) → finite x ≡ true → T (not (isNan x))
+unfolding isNan
+finite-number nan e = absurd (true≢false (sym e))
+finite-number (inf s) e = tt
+finite-number (fin s m k) e = tt
+
+-- the bits of a finite float pass
+float-back : (w : ℕ) → w < 2 ^ 32 → Finite w → toBits binary32 (ofBits binary32 w) % 256 ^ 4 ≡ w
+float-back w h f =
+    let number : T (not (isNan (ofBits binary32 w))) = finite-number (ofBits binary32 w) (finite-bits w ∙ lt-ltb (w % 2 ^ 31) 0x7F80_0000 f) in
+    ap (λ (x : ℕ). x % 256 ^ 4) (toBits-ofBits binary32 w h number) ∙ mod-eq-of-lt h
+
+-- ---- the root
+
+abbrev pub boxAt : Sector → Aabb
+boxAt (leaf b is ts) = b
+boxAt (node b t0 t1 t2 t3) = b
+
+-- the bits of a float, as 4 bytes hold them
+abbrev word : Float → ℕ
+word x = toBits binary32 x % 256 ^ 4
+
+abbrev words : Floats → Vec3
+words v = record { x = word (v .x); y = word (v .y); z = word (v .z) }
+
+pub record Root (P : List ℕ) (end : ℕ) (b : Aabb) : Type 0 where
+  pub bytes : List ℕ
+  pub long : length bytes ≡ 96
+  pub held : Holds P (placeOf end 96) bytes
+  pub min : vecOf bytes 0 ≡ words (b .min)
+  pub max : vecOf bytes 16 ≡ words (b .max)
+
+sector-root : (P : List ℕ) (end : ℕ) (b : Aabb) (d s0 s1 s2 s3 : ℕ) → Holds P (placeOf end (length (rowBytes (sectorRow b d s0 s1 s2 s3)))) (rowBytes (sectorRow b d s0 s1 s2 s3)) → Root P end b
+unfolding vecOf
+sector-root P end b d s0 s1 s2 s3 h =
+    let row = sectorRow b d s0 s1 s2 s3 in
+    record {
+      bytes = rowBytes row;
+      long = length-rows row;
+      held = first-held P end 96 (rowBytes row) (length-rows row) h;
+      min = rw (
+        field-back row 0 4 (toBits binary32 (b .min .x)) (omega arith) refl,
+        field-back row 4 4 (toBits binary32 (b .min .y)) (omega arith) refl,
+        field-back row 8 4 (toBits binary32 (b .min .z)) (omega arith) refl,
+      );
+      max = rw (
+        field-back row 16 4 (toBits binary32 (b .max .x)) (omega arith) refl,
+        field-back row 20 4 (toBits binary32 (b .max .y)) (omega arith) refl,
+        field-back row 24 4 (toBits binary32 (b .max .z)) (omega arith) refl,
+      );
+    }
+
+pub tree-root : (P : List ℕ) (lo size : Floats) (end first : ℕ) (t : Sector) → Stand P end (treeBlocks lo size end first t) → Root P end (boxAt t)
+unfolding treeBlocks leafBlocks
+tree-root P lo size end first (leaf b is ts) h = sector-root P end b (address (placeOf (dataFrom end (length is) (length ts)) 32)) 0 0 0 0 (h .0)
+tree-root P lo size end first (node b t0 t1 t2 t3) h =
+    sector-root P end b 0 (sectorAddress (from0 end)) (sectorAddress (from1 end t0)) (sectorAddress (from2 end t0 t1)) (sectorAddress (from3 end t0 t1 t2)) (h .0)
+
+vec-back : (v : Vec3) → WordVec v → AllFinite v → words (floats v) ≡ v
+vec-back v w f = rw (float-back (v .x) (w .x) (f .x), float-back (v .y) (w .y) (f .y), float-back (v .z) (w .z) (f .z))
+
+-- ---- a grown tree
+
+-- sectors of a tree of depth d
+abbrev full : ℕ → ℕ
+full zero = 1
+full (suc d) = 1 + 4 * full d
+
+module _ (ids : QuarterBox → List ℕ) (stored : ℕ → List Point) where
+  grown-box : (d k : ℕ) (b : Aabb) → boxAt (grown ids stored d k b) ≡ b
+  unfolding grown
+  grown-box zero k b = refl
+  grown-box (suc d) k b = refl
+
+  grown-count : (d k : ℕ) (b : Aabb) → sectorCount (grown ids stored d k b) ≡ full d
+  unfolding grown sectorCount
+  grown-count zero k b = refl
+  grown-count (suc d) k b =
+      omega (arith, grown-count d k (sub0 b), grown-count d (k + 4 ^ d) (sub1 b), grown-count d (k + 2 * 4 ^ d) (sub2 b), grown-count d (k + 3 * 4 ^ d) (sub3 b))
+
+  grown-points : (P : Point → Type 0) → ((k : ℕ) → All P (stored k)) → (d k : ℕ) (b : Aabb) → All P (preorder (grown ids stored d k b))
+  unfolding grown preorder
+  grown-points P h zero k b = h k
+  grown-points P h (suc d) k b =
+      let p0 = preorder (grown ids stored d k (sub0 b)) in
+      let p1 = preorder (grown ids stored d (k + 4 ^ d) (sub1 b)) in
+      let p2 = preorder (grown ids stored d (k + 2 * 4 ^ d) (sub2 b)) in
+      let p3 = preorder (grown ids stored d (k + 3 * 4 ^ d) (sub3 b)) in
+      all-append P p3 (p2 ++ (p1 ++ p0)) (grown-points P h d (k + 3 * 4 ^ d) (sub3 b))
+      (all-append P p2 (p1 ++ p0) (grown-points P h d (k + 2 * 4 ^ d) (sub2 b))
+      (all-append P p1 p0 (grown-points P h d (k + 4 ^ d) (sub1 b)) (grown-points P h d k (sub0 b))))
+
+leaf-points : (P : Point → Type 0) (boxes : List Aabb) (k : ℕ) (ts : List Point) → All P ts → All P (pointsOf boxes k ts)
+unfolding pointsOf
+leaf-points P boxes k [] h = tt
+leaf-points P boxes k (t ∷ ts) h = by (eqb (leafOf boxes (floats (t .position))) k) (leaf-points P boxes k ts (h .1))
+  where
+    by : (b : Bool) → All P (pointsOf boxes k ts) → All P (cond b (t ∷ pointsOf boxes k ts) (pointsOf boxes k ts))
+    by true rest = (h .0, rest)
+    by false rest = rest
+
+few-full : (n : ℕ) → full (depthBy n) ≤ 21
+few-full zero = omega arith
+few-full (suc n) = omega arith
+
+module _ (c : Cell) where
+  pub sectors-box : boxAt (sectors c) ≡ rootBox (c .head)
+  unfolding sectors treeOf
+  sectors-box = grown-box _ _ (depthOf (c .head)) 0 (rootBox (c .head))
+
+  pub sectors-count : sectorCount (sectors c) ≤ 21
+  unfolding sectors treeOf
+  sectors-count =
+      let e : sectorCount (sectors c) ≡ full (depthOf (c .head)) = grown-count _ _ (depthOf (c .head)) 0 (rootBox (c .head)) in
+      omega (arith, few-full (c .head .content / 2 ^ 2 % 2))
+
+  pub sectors-points : (P : Point → Type 0) → All P (c .points) → All P (preorder (sectors c))
+  unfolding sectors treeOf
+  sectors-points P h = grown-points _ _ P (λ k. leaf-points P (leaves (depthOf (c .head)) (rootBox (c .head))) k (c .points) h) (depthOf (c .head)) 0 (rootBox (c .head))
+
+  module _ (P : List ℕ) (end : ℕ) (r : Root P end (boxAt (sectors c))) (f : FiniteBox (c .head)) where
+    pub root-min : WordVec (c .head .bb-min) → vecOf (r .bytes) 0 ≡ c .head .bb-min
+    root-min w = r .min ∙ ap (λ (b : Aabb). words (b .min)) sectors-box ∙ vec-back (c .head .bb-min) w (f .min)
+
+    pub root-max : WordVec (c .head .bb-max) → vecOf (r .bytes) 16 ≡ c .head .bb-max
+    root-max w = r .max ∙ ap (λ (b : Aabb). words (b .max)) sectors-box ∙ vec-back (c .head .bb-max) w (f .max)
