@@ -1,4 +1,4 @@
--- Pass one accepts polygons exactly when the grammar makes them, and counts their words. Helpers of reading cite these.
+-- Pass one accepts polygons exactly when the grammar makes them, and counts their words.
 use Prim.Native.Nat.{ℕ, _+_, _≤_, _<_}
 use native.Mathlib.Omega.{arith}
 use mathlib.Core.Path.{_≡_, refl, sym, ap, _∙_}

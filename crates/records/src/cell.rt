@@ -15,14 +15,14 @@ use math::num::float_of_bits;
 use math::vec3::Vec3;
 
 // The three floats that stand in b from off on.
-pub fn read_vec3(b: &[u8], off: usize) -> Vec3
-    requires { ⌜ off ≤ 65536 ⌝ }
+pub fn read_vec3(b: &[u8], off: u16) -> Vec3
     ensures { λ r. ⌜ r ≡ floatsAt (now (b .entry)) off ⌝ }
 {
+    let at = off as usize;
     Vec3 {
-        x: float_of_bits(u32_le(b, off)),
-        y: float_of_bits(u32_le(b, off + 4)),
-        z: float_of_bits(u32_le(b, off + 8)),
+        x: float_of_bits(u32_le(b, at)),
+        y: float_of_bits(u32_le(b, at + 4)),
+        z: float_of_bits(u32_le(b, at + 8)),
     }
 }
 

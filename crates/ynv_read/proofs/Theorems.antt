@@ -1,6 +1,6 @@
 -- The reader's theorems, on what `parse_ynv` decides. It accepts exactly when the grammar derives a strip that fits, with that strip and with
 -- as many sectors as the grammar's tree has (`accepted-exactly`); 2 comes exactly when the derived strip is longer than the lent one
--- (`too-short-exactly`); with any other refusal nothing is derived (`refused-none`); and each refusal is one that is named for reading, with its
+-- (`too-short-exactly`); with any other refusal nothing is derived, and the other way round (`refused-none`, `none-refused`); each refusal is one that is named for reading, with its
 -- place (`refused-named`). Assumes nothing.
 use Prim.Native.Nat.{ℕ, _≤_, _<_}
 use native.Mathlib.Omega.{arith}
@@ -98,7 +98,16 @@ module _ (S G : List ℕ) (n : ℕ) where
       (λ (c, k, r, long, two, b). other two)
       (fitted-refused (readCell S G) e)
 
-  -- and it has a number and a place of its own
+  -- and where nothing is derived there is such a refusal
+  pub none-refused : ((w : List ℕ) → Derives S G w → ⊥) → (number : ℕ) × (place : ℕ) × (parseOutcome S G n ≡ Outcome.refused number place) × Named (length (polygons S G)) number place
+  unfolding parseOutcome
+  none-refused nothing = by (readCell S G) refl
+    where
+      by : (r : Reading) → readCell S G ≡ r → (number : ℕ) × (place : ℕ) × (fitted n (readCell S G) ≡ Outcome.refused number place) × Named (length (polygons S G)) number place
+      by (made c k) e = absurd (nothing (encode c) (record { sectors = k; cell = c; makes = accepted-made S G e; strip = refl }))
+      by (refused number place) e = (number, place, ap (fitted n) e, subst (AsNamed (length (polygons S G))) e (named S G))
+
+  -- a refusal has a number and a place of its own
   pub refused-named : {number place : ℕ} → parseOutcome S G n ≡ Outcome.refused number place → ((number ≡ 2) × (place ≡ 0)) ⊎ Named (length (polygons S G)) number place
   unfolding parseOutcome
   refused-named e =

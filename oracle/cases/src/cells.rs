@@ -137,6 +137,20 @@ pub fn valid(rng: &mut Rng) -> Ynv {
     cell
 }
 
+/// A small cell of one sector that the writer accepts.
+pub fn small_vehicle(rng: &mut Rng) -> Ynv {
+    let mut cell = valid(rng);
+    cell.content_flags |= 4;
+    cell.polys.truncate(rng.below(4));
+    for p in &mut cell.polys {
+        p.vertices.truncate(3 + rng.below(3));
+        p.edges.truncate(5);
+    }
+    cell.portals.truncate(rng.below(3));
+    cell.points.truncate(rng.below(4));
+    cell
+}
+
 fn any_vec3(rng: &mut Rng) -> Vec3 {
     vec3(floats::any(rng), floats::any(rng), floats::any(rng))
 }

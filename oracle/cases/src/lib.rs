@@ -6,5 +6,6 @@ pub mod floats;
 pub mod limits;
 pub mod pages;
 mod rng;
+pub mod sizes;
 
 pub use rng::Rng;

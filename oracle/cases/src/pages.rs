@@ -1,4 +1,5 @@
-//! Pages: what the Rust writes, damaged; odd part tables; shared and cyclic sectors.
+//! Pages: what the Rust writes, damaged; odd part tables; shared and cyclic sectors;
+//! tables that lie across each other.
 
 use rage::ynv::{serialize_ynv, Ynv};
 
@@ -163,7 +164,17 @@ fn fields(pages: &Pages) -> Vec<(usize, usize)> {
 /// The Rust's pages of a random cell with nothing to a few things damaged.
 pub fn damaged(rng: &mut Rng) -> Pages {
     let cell = cells::valid(rng);
-    let mut pages = Pages::written(&cell);
+    damaged_of(rng, &cell)
+}
+
+/// The same of a small cell with one sector.
+pub fn damaged_vehicle(rng: &mut Rng) -> Pages {
+    let cell = cells::small_vehicle(rng);
+    damaged_of(rng, &cell)
+}
+
+fn damaged_of(rng: &mut Rng, cell: &Ynv) -> Pages {
+    let mut pages = Pages::written(cell);
     if rng.once_in(3) {
         // Part of the addresses moved to a graphics section with the same bytes.
         pages.graphics = pages.system.clone();
@@ -368,13 +379,69 @@ pub fn trees(rng: &mut Rng) -> Pages {
     pages
 }
 
-/// Any of these.
-pub fn any(rng: &mut Rng) -> Pages {
-    match rng.below(5) {
-        0 => trees(rng),
-        1 | 2 => odd_lists(rng),
-        _ => damaged(rng),
+/// Words of tangled pages: zeros, small numbers, addresses in either section.
+fn tangle(rng: &mut Rng, words: usize, lengths: (usize, usize)) -> Vec<u8> {
+    let mut out = Vec::new();
+    while out.len() < 4 * words {
+        match rng.below(12) {
+            0..=4 => out.extend([0; 4]),
+            5..=7 => out.extend((rng.below(4) as u32).to_le_bytes()),
+            8 => out.extend((rng.u32() & 0x0003_0023).to_le_bytes()),
+            _ => out.extend(inside(rng, lengths).to_le_bytes()),
+        }
     }
+    out.truncate(4 * words);
+    out
+}
+
+/// An address in sections of so many words.
+fn inside(rng: &mut Rng, (system, graphics): (usize, usize)) -> u64 {
+    if rng.once_in(4) {
+        GRAPHICS + 4 * rng.below(graphics + 1) as u64
+    } else {
+        SYSTEM + 4 * rng.below(system) as u64
+    }
+}
+
+/// Sections of such words: tables lie across each other and across the header.
+pub fn tangled(rng: &mut Rng) -> Pages {
+    let lengths = (92 + rng.below(120), rng.below(80));
+    let mut pages = Pages { system: tangle(rng, lengths.0, lengths), graphics: tangle(rng, lengths.1, lengths) };
+    for axis in 0..3 {
+        let side = if rng.once_in(60) { floats::any(rng) } else { floats::usual(rng) };
+        pages.put(0x60 + 4 * axis, &side.to_le_bytes());
+    }
+    let root = 4 * rng.below(lengths.0 - 23);
+    for at in (0x2C..0x54).step_by(8) {
+        let to = if rng.once_in(4) { inside(rng, lengths) } else { 0 };
+        pages.put_u64(root + at, to);
+    }
+    for (list, _) in LISTS {
+        let to = if rng.once_in(3) { inside(rng, lengths) } else { 0 };
+        pages.put_u64(list, to);
+    }
+    if !rng.once_in(8) {
+        pages.put_u32(0x14C, rng.below(4) as u32);
+    }
+    pages.put_u64(0x120, SYSTEM + root as u64);
+    pages
+}
+
+/// A generator and its name.
+pub type Shape = (&'static str, fn(&mut Rng) -> Pages);
+
+pub const SHAPES: [Shape; 5] = [
+    ("trees", trees),
+    ("odd part tables", odd_lists),
+    ("damaged cells", damaged),
+    ("damaged small cells", damaged_vehicle),
+    ("tangled tables", tangled),
+];
+
+/// Pages of any shape.
+pub fn any(rng: &mut Rng) -> Pages {
+    let (_, shape) = rng.pick(&SHAPES);
+    shape(rng)
 }
 
 pub struct Fixed {
@@ -398,12 +465,37 @@ pub fn sample() -> Ynv {
     }
 }
 
+/// The same with one sector, and not much of it.
+pub fn vehicle_sample() -> Ynv {
+    let mut cell = sample();
+    cell.content_flags = 4;
+    cell.polys.sort_by_key(|p| (p.portal_links.is_empty(), p.vertices.len()));
+    cell.polys.truncate(2);
+    cell.portals.truncate(1);
+    cell.points.truncate(2);
+    cell
+}
+
 /// A chain of sectors, each the sub 0 of the one before.
 pub fn chain(sectors: usize) -> Pages {
     let mut pages = header(SYSTEM + 368);
     for n in 0..sectors {
         let next = if n + 1 < sectors { SYSTEM + 368 + 96 * (n as u64 + 1) } else { 0 };
         pages.block(&sector(0, [next, 0, 0, 0]));
+    }
+    pages
+}
+
+/// Each of `subs` is a list of sub 0, 1 and so on by sector number; sector 0 is the root.
+fn shared(subs: &[&[usize]]) -> Pages {
+    let at = |n: usize| SYSTEM + 368 + 96 * n as u64;
+    let mut pages = header(at(0));
+    for of in subs {
+        let mut addresses = [0; 4];
+        for (to, &n) in addresses.iter_mut().zip(*of) {
+            *to = at(n);
+        }
+        pages.block(&sector(0, addresses));
     }
     pages
 }
@@ -443,7 +535,12 @@ fn repeated_polygon() -> Pages {
 
 /// Pages for each refusal of reading, and for what is close to it.
 pub fn fixed() -> Vec<Fixed> {
-    let written = Pages::written(&sample());
+    fixed_of(&sample())
+}
+
+/// The same from a cell with a link, a portal and two polygons.
+pub fn fixed_of(cell: &Ynv) -> Vec<Fixed> {
+    let written = Pages::written(cell);
     let at = |field: usize| written.offset(field).unwrap();
     let root = at(0x120);
     let with = |edits: &[(usize, u64, usize)]| {
@@ -483,6 +580,12 @@ pub fn fixed() -> Vec<Fixed> {
     );
     add("33: 4,096 sectors", chain(4096), None);
     add("33: a 4,097th sector", chain(4097), Some((33, 0)));
+    // Sector 1's tree has 1,365 sectors, each reached by one path.
+    let four: [&[usize]; 6] = [&[2; 4], &[3; 4], &[4; 4], &[5; 4], &[6; 4], &[]];
+    let under = |root| shared(&[&[root], &four[..]].concat());
+    add("4,096 sectors by sharing", under(&[1, 1, 1]), None);
+    add("33: a 4,097th sector by sharing", under(&[1, 1, 1, 6]), Some((33, 0)));
+    add("33: a 4,097th sector by sharing, in sub 0", under(&[6, 1, 1, 1]), Some((33, 0)));
 
     let lists: Vec<usize> = LISTS.iter().map(|&(field, _)| at(field)).collect();
     for (n, &list) in lists.iter().enumerate() {

@@ -38,7 +38,7 @@ fn cells() {
 
 #[test]
 fn fixed_pages() {
-    for case in pages::fixed() {
+    for case in pages::fixed().into_iter().chain(pages::fixed_of(&pages::vehicle_sample())) {
         let pages = &case.pages;
         let wanted = case.refused.map(|(number, place)| Refusal { number, place });
         assert_eq!(derive(&pages.system, &pages.graphics).err(), wanted, "{}", case.name);

@@ -1,8 +1,11 @@
-//! What the programs share: the library's entries, the functions under test, the
-//! Rust's own values, and the list of vectors.
+//! What the programs share: the libraries' entries, the functions under test, the
+//! Rust's own values, and the lists of vectors.
 
 #[cfg(feature = "lib")]
 pub mod ffi;
+#[cfg(feature = "ynv")]
+pub mod ffi_ynv;
+pub mod reading;
 pub mod reference;
 pub mod under_test;
 pub mod vectors;

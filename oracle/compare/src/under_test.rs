@@ -1,5 +1,6 @@
-//! The leaf functions that are compared: the library's with the feature `lib`, else
-//! the judge's own. Floats and numbers as the C entries have them.
+//! The functions that are compared: the leaves of libleaves.a with the feature `lib`, the
+//! reader of libynv.a with the feature `ynv`, else the judge's own. Floats, numbers and
+//! answers as the C entries have them.
 
 #[cfg(feature = "lib")]
 pub use crate::ffi::{areas, back, check_strip, place, quarter, short};
@@ -44,3 +45,32 @@ mod own {
 
 #[cfg(not(feature = "lib"))]
 pub use own::*;
+
+#[cfg(feature = "ynv")]
+pub use crate::ffi_ynv::parse;
+
+pub const READER: &str = if cfg!(feature = "ynv") {
+    "the library (libynv.a)"
+} else {
+    "the judge's own derivation (the library with --features ynv)"
+};
+
+/// The reader's call by the judge's derivation, without the Rust.
+#[cfg(not(feature = "ynv"))]
+pub fn parse(system: &[u8], graphics: &[u8], strip: &mut [u32], answer: &mut [u64; 8]) -> u32 {
+    let derived = match strips::derive(system, graphics) {
+        Ok(derived) => derived,
+        Err(refusal) => {
+            answer[0] = refusal.place as u64;
+            return refusal.number;
+        }
+    };
+    let words = strips::encode(&derived.cell);
+    if strip.len() < words.len() {
+        answer[0] = 0;
+        return 2;
+    }
+    strip[..words.len()].copy_from_slice(&words);
+    *answer = crate::reading::values(words.len(), strips::counts(&derived.cell), derived.sectors);
+    0
+}

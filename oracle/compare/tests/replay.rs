@@ -1,6 +1,7 @@
-//! The list of vectors, replayed as a program without Rust would.
+//! The lists of vectors, replayed as a program without Rust would.
 
 use compare::{under_test, vectors};
+use vectors::reading;
 
 fn words(bytes: &[u8]) -> Vec<u32> {
     bytes.chunks_exact(4).map(|c| u32::from_le_bytes(c.try_into().unwrap())).collect()
@@ -45,4 +46,40 @@ fn replay() {
         at += 3 + inputs + outputs;
     }
     assert_eq!(words[at..], [0, 0, 0]);
+}
+
+/// The bytes of so many words, without their padding.
+fn section(words: &[u32], length: usize) -> Vec<u8> {
+    let bytes: Vec<u8> = words.iter().flat_map(|w| w.to_le_bytes()).collect();
+    assert!(bytes[length..].iter().all(|&byte| byte == 0), "padding");
+    bytes[..length].to_vec()
+}
+
+#[test]
+fn replay_reading() {
+    let list = reading::all();
+    let bytes = list.bytes();
+    assert!(bytes.len() <= reading::MOST_BYTES);
+    assert_eq!(bytes, reading::all().bytes(), "the list is the same each time");
+    assert!([0, 2].into_iter().chain(30..=40).all(|number| list.counts[&number] >= 8));
+    assert!(list.counts.values().sum::<usize>() >= 300);
+
+    let words = words(&bytes);
+    let mut at = 0;
+    while words[at] != 0 {
+        let record: [u32; 10] = words[at..at + 10].try_into().unwrap();
+        let [7, system, graphics, lent, number, values @ ..] = record else { panic!("no record at {at}") };
+        let (system, graphics) = (system as usize, graphics as usize);
+        let (first, rest) = words[at + 10..].split_at(system.div_ceil(4));
+        let (second, rest) = rest.split_at(graphics.div_ceil(4));
+        let (system, graphics) = (section(first, system), section(second, graphics));
+        let (mut strip, mut answer) = (vec![0xDEAD_BEEF; lent as usize], [0; 8]);
+        assert_eq!(under_test::parse(&system, &graphics, &mut strip, &mut answer), number, "at word {at}");
+        assert_eq!(answer[..5], values.map(u64::from), "at word {at}");
+        let filled = if number == 0 { values[0] as usize } else { 0 };
+        assert_eq!(strip[..filled], rest[..filled], "at word {at}");
+        assert!(strip[filled..].iter().all(|&word| word == 0xDEAD_BEEF), "at word {at}");
+        at += 10 + first.len() + second.len() + filled;
+    }
+    assert_eq!(words[at..], [0]);
 }

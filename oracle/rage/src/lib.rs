@@ -19,8 +19,9 @@ pub mod resource {
         out
     }
 
-    /// Hands over the two sections of a container.
-    pub fn prepare_rsc7(data: &[u8]) -> Result<(Vec<u8>, Vec<u8>)> {
+    /// Hands over the two sections of a container, without a copy: times of `parse_ynv`
+    /// are its own.
+    pub fn prepare_rsc7(data: &[u8]) -> Result<(&[u8], &[u8])> {
         if data.len() < 8 {
             bail!("container too short");
         }
@@ -29,8 +30,7 @@ pub mod resource {
         if length > body.len() as u64 {
             bail!("container too short for its system section");
         }
-        let (system, graphics) = body.split_at(length as usize);
-        Ok((system.to_vec(), graphics.to_vec()))
+        Ok(body.split_at(length as usize))
     }
 
     /// Returns the block bytes as they are.

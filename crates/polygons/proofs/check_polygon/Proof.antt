@@ -46,7 +46,9 @@ add-t24 : tie.Need-add-t24
 add-t24 c = search needs
 
 returns-3 : tie.Need-returns-3
-returns-3 c = (all-well _ _ _ _ (c .before .before .before .before .before .before .before .before .before .u16-le .ensures) refl (c .before .before .before .before .before .before .before .before .u16-le2 .ensures) (c .before .before .before .before .before .before .if1 .left) (c .before .before .before .before .if2 .left) (c .before .before .before .run-below .ensures .0) (c .before .before .if3 .taken) (c .link-count .ensures .0), c .before .before .before .run-below .ensures .1, omega (arith, c .link-count .ensures .1))
+returns-3 c =
+    let run-below = c .before .before .before .run-below in
+    (all-well _ _ _ _ (c .before .before .before .before .before .before .before .before .before .u16-le .ensures) refl (c .before .before .before .before .before .before .before .before .u16-le2 .ensures) (c .before .before .before .before .before .before .if1 .left) (c .before .before .before .before .if2 .left) (run-below .ensures .0) (c .before .before .if3 .taken) (c .link-count .ensures .0), run-below .ensures .1, omega (arith, c .link-count .ensures .1))
 
 returns-4 : tie.Need-returns-4
 returns-4 c = index-out _ _ _ _ (c .before .before .before .before .before .before .before .u16-le .ensures) refl (c .before .before .before .before .before .before .u16-le2 .ensures) (c .before .before .before .before .if1 .left) (c .before .before .if2 .left) (c .before .run-below .ensures .0) (c .if3 .left)

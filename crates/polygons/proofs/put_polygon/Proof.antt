@@ -1,10 +1,11 @@
 -- `polygons::put_polygon` meets its contract.
-use Prim.Native.Nat.{ℕ, _/_, _%_}
+use Prim.Native.Nat.{ℕ, _/_, _%_, _+_, _≤_}
 use native.Mathlib.Omega.{arith}
 use mathlib.Core.Path.{ap, _∙_}
 use lib.ListN.{length}
 use borrow.Author.Needs.{needs}
 use Rattle.fields.proofs.Puts.{length-put}
+use Rattle.grammar.specs.Polygons.{startOf, countOf}
 use Rattle.polygon_words.specs.Words.{linksOf}
 use Rattle.polygons.specs.Passes.{sourceOf}
 use Rattle.polygons.proofs.Runs.{length-items}
@@ -67,7 +68,21 @@ returns c =
     let link-count = c .before .before .before .before .before .before .before .before .before .before .link-count in
     let u16-le = c .before .before .before .before .before .before .before .before .before .u16-le in
     let put-sides = c .before .before .put-sides in
-    let z = size-of (length (linksOf (start .args .links .now))) (start .args .rec .now) (link-count-is (start .args .links .now) (start .args .rec .now) (link-count .ensures .0)) (u16-le .ensures) in record { next = omega (arith, z, polygon-size (sourceOf (start .args .system .now) (start .args .graphics .now) (start .args .vertices .now) (start .args .indices .now) (start .args .edges .now) (start .args .links .now) (start .args .header .now) (start .args .bb-min) (start .args .bb-size)) (start .args .rec .now) (omega (arith, start .pre .1 .in-indices, length-items (start .args .system .now) (start .args .graphics .now) 2 (start .args .indices .now))) (omega (arith, start .pre .1 .in-edges, length-items (start .args .system .now) (start .args .graphics .now) 8 (start .args .edges .now)))); ready = put-sides .ensures .0; strip = put-sides .ensures .1 ∙ rw (c .before .before .before .before .before .before .put-front .ensures, c .before .before .before .before .before .before .before .before .u16-le2 .ensures, u16-le .ensures) (polygon-put (sourceOf (start .args .system .now) (start .args .graphics .now) (start .args .vertices .now) (start .args .indices .now) (start .args .edges .now) (start .args .links .now) (start .args .header .now) (start .args .bb-min) (start .args .bb-size)) (start .args .rec .now) (omega (arith, start .pre .1 .in-indices, length-items (start .args .system .now) (start .args .graphics .now) 2 (start .args .indices .now))) (omega (arith, start .pre .1 .in-edges, length-items (start .args .system .now) (start .args .graphics .now) 8 (start .args .edges .now))) (link-count-is (start .args .links .now) (start .args .rec .now) (link-count .ensures .0)) _ _) }
+    let args = start .args in
+    let s = sourceOf (args .system .now) (args .graphics .now) (args .vertices .now) (args .indices .now) (args .edges .now) (args .links .now) (args .header .now) (args .bb-min) (args .bb-size) in
+    let rec = args .rec .now in
+    let n = link-count-is (args .links .now) rec (link-count .ensures .0) in
+    let z = size-of (length (linksOf (args .links .now))) rec n (u16-le .ensures) in
+    let hi : startOf rec + countOf rec ≤ length (s .indices) = omega (arith, start .pre .1 .in-indices, length-items (args .system .now) (args .graphics .now) 2 (args .indices .now)) in
+    let he : startOf rec + countOf rec ≤ length (s .edges) = omega (arith, start .pre .1 .in-edges, length-items (args .system .now) (args .graphics .now) 8 (args .edges .now)) in
+    record {
+      next = omega (arith, z, polygon-size s rec hi he);
+      ready = put-sides .ensures .0;
+      strip =
+          put-sides .ensures .1
+          ∙ rw (c .before .before .before .before .before .before .put-front .ensures, c .before .before .before .before .before .before .before .before .u16-le2 .ensures, u16-le .ensures)
+          (polygon-put s rec hi he n _ _);
+    }
 
 pub put-polygon-spec : {M : Type 1} → statement M
 put-polygon-spec =

@@ -61,7 +61,17 @@ returns-4 c = (rw ((sym (c .before .before .before .before .before .before .befo
 
 returns-5 : tie.Need-returns-5
 unfolding listsOf
-returns-5 c = let r6 = readable _ _ 6 (c .before .before .before .before .before .before .before .before .before .before .before .before .before .before .before .before .before .before .args .va) 1 (omega arith) (c .before .before .before .before .before .before .before .before .before .before .before .before .before .before .before .read-list .ensures) (c .before .before .before .before .before .before .before .before .before .before .before .before .before .vertices .given .1) in let r2 = readable _ _ 2 (c .before .before .before .before .before .before .before .before .before .before .before .before .before .before .before .before .before .before .args .ia) 2 (omega arith) (c .before .before .before .before .before .before .before .before .before .before .before .read-list2 .ensures) (c .before .before .before .before .before .before .before .before .before .indices .given .1) in let r8 = readable _ _ 8 (c .before .before .before .before .before .before .before .before .before .before .before .before .before .before .before .before .before .before .args .ea) 3 (omega arith) (c .before .before .before .before .before .before .before .read-list3 .ensures) (c .before .before .before .before .before .edges .given .1) in let r48 = readable _ _ 48 (c .before .before .before .before .before .before .before .before .before .before .before .before .before .before .before .before .before .before .args .pa) 4 (omega arith) (c .before .before .before .read-list4 .ensures) (c .before .polys .given .1) in (rw ((sym (c .before .before .before .before .before .before .before .before .before .before .before .before .before .before .before .read-list .ensures .0) ∙ c .before .before .before .before .before .before .before .before .before .before .before .before .before .vertices .given .1), (sym (c .before .before .before .before .before .before .before .before .before .before .before .read-list2 .ensures .0) ∙ c .before .before .before .before .before .before .before .before .before .indices .given .1), (sym (c .before .before .before .before .before .before .before .read-list3 .ensures .0) ∙ c .before .before .before .before .before .edges .given .1), (sym (c .before .before .before .read-list4 .ensures .0) ∙ c .before .polys .given .1)), record { vertices = record { readable = r6 .0; count = r6 .1 }; indices = record { readable = r2 .0; count = r2 .1 }; edges = record { readable = r8 .0; count = r8 .1 }; polys = record { readable = r48 .0; count = r48 .1 }; link-count = refl })
+returns-5 c =
+    let start = c .before .before .before .before .before .before .before .before .before .before .before .before .before .before .before .before .before .before in
+    let read-list = c .before .before .before .before .before .before .before .before .before .before .before .before .before .before .before .read-list in
+    let vertices = c .before .before .before .before .before .before .before .before .before .before .before .before .before .vertices in
+    let read-list2 = c .before .before .before .before .before .before .before .before .before .before .before .read-list2 in
+    let indices = c .before .before .before .before .before .before .before .before .before .indices in
+    let read-list3 = c .before .before .before .before .before .before .before .read-list3 in
+    let edges = c .before .before .before .before .before .edges in
+    let read-list4 = c .before .before .before .read-list4 in
+    let polys = c .before .polys in
+    let r6 = readable _ _ 6 (start .args .va) 1 (omega arith) (read-list .ensures) (vertices .given .1) in let r2 = readable _ _ 2 (start .args .ia) 2 (omega arith) (read-list2 .ensures) (indices .given .1) in let r8 = readable _ _ 8 (start .args .ea) 3 (omega arith) (read-list3 .ensures) (edges .given .1) in let r48 = readable _ _ 48 (start .args .pa) 4 (omega arith) (read-list4 .ensures) (polys .given .1) in (rw ((sym (read-list .ensures .0) ∙ vertices .given .1), (sym (read-list2 .ensures .0) ∙ indices .given .1), (sym (read-list3 .ensures .0) ∙ edges .given .1), (sym (read-list4 .ensures .0) ∙ polys .given .1)), record { vertices = record { readable = r6 .0; count = r6 .1 }; indices = record { readable = r2 .0; count = r2 .1 }; edges = record { readable = r8 .0; count = r8 .1 }; polys = record { readable = r48 .0; count = r48 .1 }; link-count = refl })
 
 pub read-lists-spec : {M : Type 1} → statement M
 read-lists-spec =

@@ -1,10 +1,12 @@
-//! The list of vectors that a program without Rust replays: 32-bit little-endian words,
-//! records `[tag, n_in, n_out, in.., out..]`, the last one `[0, 0, 0]`. One module per
-//! group of tags; `all` names them in the list's order.
+//! The lists of vectors that a program without Rust replays, in 32-bit little-endian words.
+//! The leaves' list has records `[tag, n_in, n_out, in.., out..]`, the last one
+//! `[0, 0, 0]`; one module per group of tags; `all` names them in the list's order. The
+//! reader's list has a form of its own: `reading`.
 
 mod areas;
 mod places;
 mod quarters;
+pub mod reading;
 mod shorts;
 mod strip;
 

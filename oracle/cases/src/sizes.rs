@@ -1,0 +1,117 @@
+//! Cells of a given size, and their pages with part tables that cost the reader much.
+
+use rage::ynv::{NavEdge, NavPoint, NavPoly, NavPortal, Ynv};
+
+use crate::cells::{edge_end, empty_grid, vec3};
+use crate::pages::{part, Pages, LISTS};
+
+/// A grid cell of squares that share no vertex; the last polygon has what is left of the
+/// vertices. Every 16th has a link; there are 100 portals and 500 points.
+pub fn squares(polys: usize, vertices: usize) -> Ynv {
+    let mut cell = empty_grid();
+    if polys == 0 {
+        return cell;
+    }
+    let across = (polys as f64).sqrt().ceil() as usize;
+    let step = 150.0 / across as f32;
+    // Corner k of square n, and more corners further in.
+    let corner = |n: usize, k: usize| {
+        let inset = 0.1 + 0.1 * (k / 4) as f32;
+        let side = |far: bool| if far { 1.0 - inset } else { inset };
+        let (x, y) = ((n % across) as f32, (n / across) as f32);
+        vec3((x + side(k % 4 == 1 || k % 4 == 2)) * step, (y + side(k % 4 >= 2)) * step, 10.0)
+    };
+    let mut left = vertices;
+    for n in 0..polys {
+        let count = if n + 1 == polys { left } else { 4 };
+        left -= count;
+        let ahead = edge_end(cell.area_id, (n + 1) as u32);
+        let aside = edge_end(cell.area_id + 1, (n + across) as u32);
+        cell.polys.push(NavPoly {
+            vertices: (0..count).map(|k| corner(n, k)).collect(),
+            edges: vec![NavEdge { a: ahead, b: aside }; count],
+            flags0: n as u16,
+            flags1: n as u32,
+            flags2: 7,
+            portal_links: vec![n as u16; (n % 16 == 0) as usize],
+        });
+    }
+    let at = |n: usize| corner(n * polys / 500, 0);
+    cell.portals = (0..100)
+        .map(|n| NavPortal {
+            kind: 1,
+            angle: n as u8,
+            flags_unk: 3,
+            from: at(n),
+            to: at(n + 1),
+            poly_from: n as u16,
+            poly_to: n as u16 + 1,
+            area_from: 4040,
+            area_to: 4041,
+            area_unk: 2,
+        })
+        .collect();
+    cell.points = (0..500).map(|n| NavPoint { position: at(n), angle: n as u8, kind: 1 }).collect();
+    cell
+}
+
+/// A list's parts in written pages: addresses and counts.
+fn parts(pages: &Pages, list: usize) -> Vec<(u64, u32)> {
+    let table = pages.offset(list + 0x10).unwrap();
+    (0..pages.u32(list + 0x20) as usize).map(|n| (pages.u64(table + 16 * n), pages.u32(table + 16 * n + 8))).collect()
+}
+
+/// The pages with another part table for list 1, 2, 3 or 4, at the system section's end.
+fn with_parts(pages: &mut Pages, place: usize, change: impl FnOnce(Vec<(u64, u32)>, u64) -> Vec<(u64, u32)>) {
+    let (field, item_size) = LISTS[place - 1];
+    let list = pages.offset(field).unwrap();
+    let parts = change(parts(pages, list), item_size as u64);
+    let table: Vec<u8> = parts.iter().flat_map(|&(address, count)| part(address, count)).collect();
+    let address = pages.block(&table);
+    pages.put_u64(list + 0x10, address);
+    pages.put_u32(list + 0x20, parts.len() as u32);
+    pages.put_u32(list + 8, parts.iter().map(|&(_, count)| count).sum());
+}
+
+/// Lists whose parts have `most` items.
+pub fn divided(mut pages: Pages, places: &[usize], most: u32) -> Pages {
+    for &place in places {
+        with_parts(&mut pages, place, |parts, item_size| {
+            let pieces = |(address, count): (u64, u32)| {
+                let starts = (0..count).step_by(most as usize);
+                starts.map(move |at| (address + at as u64 * item_size, most.min(count - at)))
+            };
+            parts.into_iter().flat_map(pieces).collect()
+        });
+    }
+    pages
+}
+
+/// A list whose parts are named `times` over.
+pub fn repeated(mut pages: Pages, place: usize, times: usize) -> Pages {
+    with_parts(&mut pages, place, |parts, _| parts.repeat(times));
+    pages
+}
+
+/// Vertices with `count` empty parts between the first one and the rest.
+pub fn with_empty_parts(mut pages: Pages, count: usize) -> Pages {
+    with_parts(&mut pages, 1, |parts, _| {
+        let (first, rest) = parts.split_at(1);
+        [first, &vec![(0, 0); count], rest].concat()
+    });
+    pages
+}
+
+/// Indices that leap from the first vertex to the last and back.
+pub fn leaping(mut pages: Pages) -> Pages {
+    let list = pages.offset(LISTS[1].0).unwrap();
+    let last = (pages.u32(pages.offset(LISTS[0].0).unwrap() + 8) - 1) as u16;
+    let base = crate::pages::SYSTEM;
+    for (address, count) in parts(&pages, list) {
+        for n in 0..count as usize {
+            let index = if n % 2 == 0 { 0 } else { last };
+            pages.put((address - base) as usize + 2 * n, &index.to_le_bytes());
+        }
+    }
+    pages
+}

@@ -1,0 +1,96 @@
+//! Compares the reader with the Rust: the fixed pages, those of cells at the limits, and
+//! 200,000 seeded ones (or as many as the first argument says, from the case that the
+//! second says). Each with a strip exactly long enough, one word short, and longer; refused
+//! ones with three lengths. Prints how often each number was answered, by shape, and what
+//! differs; exits 1 if anything does.
+
+use std::collections::BTreeMap;
+use std::env;
+use std::process::exit;
+
+use cases::pages::{self, Pages, SHAPES};
+use cases::{limits, Rng};
+use compare::reading::{call, Read};
+use compare::under_test::READER;
+
+const CASES: u64 = 200_000;
+const MOST_PRINTED: u64 = 20;
+
+/// Cases by number answered when the strip is long enough, by shape; the calls with a
+/// strip too short stand under 2.
+#[derive(Default)]
+struct Tally {
+    seen: BTreeMap<&'static str, BTreeMap<u32, u64>>,
+    cases: u64,
+    calls: u64,
+    differences: u64,
+}
+
+impl Tally {
+    fn case(&mut self, shape: &'static str, name: &str, pages: &Pages, more: usize) {
+        let read = Read::of(pages);
+        let lengths = match &read {
+            Read::Refused(_) => [0, 1 + more, 15 + 3 * more],
+            Read::Strip { words, .. } => [words.len(), words.len() - 1, words.len() + 1 + more],
+        };
+        let seen = self.seen.entry(shape).or_default();
+        self.cases += 1;
+        for (n, length) in lengths.into_iter().enumerate() {
+            self.calls += 1;
+            match call(pages, &read, length) {
+                Ok(number) if n == 0 || number == 2 => *seen.entry(number).or_insert(0) += 1,
+                Ok(_) => {}
+                Err(text) => {
+                    self.differences += 1;
+                    if self.differences <= MOST_PRINTED {
+                        println!("DIFFERENT: {shape}, {name}, strip of {length} words: {text}");
+                    }
+                }
+            }
+        }
+    }
+
+    fn print(&self) {
+        for (shape, seen) in &self.seen {
+            let numbers: Vec<String> = seen.iter().map(|(number, count)| format!("{number}: {count}")).collect();
+            println!("{shape}: {}", numbers.join(", "));
+        }
+        let mut all = BTreeMap::new();
+        for (&number, &count) in self.seen.values().flatten() {
+            *all.entry(number).or_insert(0) += count;
+        }
+        println!("all, by number (0: accepted; 2: a strip one word short): {all:?}");
+        println!("{} cases, {} calls, {} differences", self.cases, self.calls, self.differences);
+    }
+}
+
+/// A number given as an argument.
+fn argument(n: usize, default: u64) -> u64 {
+    let Some(text) = env::args().nth(n) else { return default };
+    text.parse().unwrap_or_else(|_| {
+        eprintln!("usage: reading [COUNT [FIRST]]");
+        exit(2)
+    })
+}
+
+fn main() {
+    let (count, first) = (argument(1, CASES), argument(2, 0));
+    println!("{READER} against the Rust and document 01");
+    let mut tally = Tally::default();
+    for case in pages::fixed().into_iter().chain(pages::fixed_of(&pages::vehicle_sample())) {
+        tally.case("fixed", case.name, &case.pages, 3);
+    }
+    for limit in limits::all().into_iter().filter(|limit| limit.refused.is_none()) {
+        tally.case("cells at the limits", limit.name, &Pages::written(&limit.cell), 3);
+    }
+    for n in first..first + count {
+        let (shape, make) = SHAPES[n as usize % SHAPES.len()];
+        let mut rng = Rng::new(0x59_4E56 + (n << 32));
+        let pages = make(&mut rng);
+        tally.case(shape, &format!("case {n}"), &pages, rng.below(40));
+    }
+    tally.print();
+    if tally.differences != 0 {
+        exit(1);
+    }
+}
