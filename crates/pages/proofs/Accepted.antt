@@ -66,12 +66,15 @@ renamed f g h = (λ c. f (h .0 c), λ b. h .1 (g b))
 length-grows : (l xs : List ℕ) → length l ≤ length (distinctFrom l xs)
 length-grows l xs = let g = grows l xs in rw (g .1, length-append l (g .0)) (omega arith)
 
-distinct-append : (l xs ys : List ℕ) → distinctFrom l (xs ++ ys) ≡ distinctFrom (distinctFrom l xs) ys
+pub distinct-append : (l xs ys : List ℕ) → distinctFrom l (xs ++ ys) ≡ distinctFrom (distinctFrom l xs) ys
 unfolding distinctFrom
 distinct-append l [] ys = refl
 distinct-append l (x ∷ xs) ys = distinct-append (withNew l x) xs ys
 
-named-append : (ks ls : List Corner) → named (ks ++ ls) ≡ named ks ++ named ls
+pub triples-append : (ks ls : List Corner) → triples (ks ++ ls) ≡ triples ks ++ triples ls
+triples-append ks ls = map-append (λ (k : Corner). k .vertex) ks ls
+
+pub named-append : (ks ls : List Corner) → named (ks ++ ls) ≡ named ks ++ named ls
 unfolding named
 named-append [] ls = refl
 named-append (k ∷ ks) ls = ap (λ (l : List ℕ). k .edge .a .area ∷ k .edge .b .area ∷ l) (named-append ks ls)
@@ -82,7 +85,7 @@ abbrev Few : (ts us : List ℕ) → List Corner → Type 0
 Few ts us ks = (length (distinctFrom ts (triples ks)) ≤ 65536) × (length (distinctFrom us (named ks)) ≤ 32)
 
 few-append : (ts us : List ℕ) (ks ls : List Corner) → Few ts us (ks ++ ls) ≡ Few (distinctFrom ts (triples ks)) (distinctFrom us (named ks)) ls
-few-append ts us ks ls = rw (map-append (λ (k : Corner). k .vertex) ks ls, named-append ks ls, distinct-append ts (triples ks) (triples ls), distinct-append us (named ks) (named ls))
+few-append ts us ks ls = rw (triples-append ks ls, named-append ks ls, distinct-append ts (triples ks) (triples ls), distinct-append us (named ks) (named ls))
 
 corner-fine : (ts us : List ℕ) (k : Corner)
     → (cornerFault ts us k ≡ 0)

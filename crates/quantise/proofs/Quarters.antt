@@ -139,7 +139,7 @@ side-positive ceil (fin true m e) h =
 side-positive ceil (fin false m e) h = cut-pos (rounded ceil (4 * (m * up e)) (down e))
 
 -- ---- a side is a number of 16 signed bits, and the machine reads it back from its bits
-side-fits : (ceil : Bool) (x : Float) → mag (side ceil x) < 2 ^ 15
+pub side-fits : (ceil : Bool) (x : Float) → mag (side ceil x) < 2 ^ 15
 unfolding side
 side-fits ceil nan = lit< tt
 side-fits ceil (inf true) = lit< tt

@@ -1,0 +1,173 @@
+-- The checks before the polygons, and what the polygons' loop leaves, as `decide` promises it. Assumes nothing.
+use Prim.Native.Nat.{ℕ, _+_, _*_, _/_, _≤_, _<_}
+use native.Mathlib.Omega.{arith}
+use native.Mathlib.Nat.{zero-add}
+use mathlib.Core.Path.{_≡_, refl, ap, sym, _∙_}
+use mathlib.Core.List.{List, [], _∷_, map}
+use lib.ListN.{length, take, drop}
+use lib.Seq.{drop-drop}
+use lib.Dec.{ltb}
+use borrow.Author.Tests.{ltb-false}
+use Rattle.fields.specs.Bytes.{zeros}
+use Rattle.strip.specs.Cell.{Head}
+use Rattle.strip.specs.Reading.{polyAt, polygonAt, polygonsAt, portalAt, pointAt, afterPolygons, headAt}
+use Rattle.strip.specs.Scan.{Scanned, fault, scan}
+use Rattle.strip.specs.declared.Counts.{Counts}
+use Rattle.strip.proofs.Steps.{items-length}
+use Rattle.strip.proofs.Laid.{Well}
+use Rattle.strip.proofs.Faults.{scan-fault}
+use Rattle.distinct.specs.Distinct.{indexOf, distinctFrom, numbersFrom}
+use Rattle.distinct.proofs.Left.{drop-more}
+use Rattle.distinct.proofs.Final.{numbers-at-the-end}
+use Rattle.areas.specs.Areas.{stored, seeded}
+use Rattle.areas.specs.declared.Areas.{Areas}
+use Rattle.areas.proofs.Over.{length-over, take-over}
+use Rattle.areas.proofs.Seeds.{length-seeded}
+use Rattle.vertices.specs.Table.{met, cleared}
+use Rattle.vertices.proofs.Numbering.{table-cleared, length-cleared, drop-cleared}
+use Rattle.vertices.proofs.Enough.{chains-fit}
+use Rattle.pages.specs.Items.{floats, Corner, corners, triples}
+use Rattle.pages.specs.Checks.{Verdict, when, first, at, endlessBox}
+use Rattle.decide.specs.Steps.{Ready, PolygonsDone}
+use Rattle.decide.specs.Decide.{onPolygons, beforeLeaves, onScan, chains, most, indicesAt, tablesEnd, Tabled, WellDone, DecideDone}
+use Rattle.decide.specs.declared.polygons.Tables.{Tables}
+use Rattle.decide.specs.declared.polygons.Decided.{Decided}
+use Rattle.decide.specs.declared.Decision.{Decision}
+use Rattle.decide.proofs.Firsts.{passed, at-none, at-some}
+
+-- ---- the tables at the start
+
+pub seeds-long : (a : ℕ) (r : Areas) → r ≡ stored (seeded a) (zeros 32) → length (r .ids) ≡ 32
+seeds-long a r e = rw e (length-over (seeded a) (zeros 32))
+
+pub seeds-are : (a : ℕ) (r : Areas) → r ≡ stored (seeded a) (zeros 32) → take (r .len) (r .ids) ≡ seeded a
+seeds-are a r e = rw e (take-over (seeded a) (zeros 32) (omega (arith, length-seeded a)))
+
+-- the chains of a strip of so many words
+pub chains-in : (words : ℕ) → 14 ≤ words → (0 < chains words) × (chains words ≤ 65536) × (chains words ≤ words / 4)
+chains-in words h = chains-fit (words / 4) (chains words) (omega arith) refl
+
+module _ (s w wc : List ℕ) (l14 : 14 ≤ length s) (l4 : 4 * length s ≤ length w) (ec : wc ≡ cleared w (chains (length s))) where
+  within : chains (length s) ≤ length w
+  within = omega (arith, chains-in (length s) l14 .2)
+
+  cleared-long : length wc ≡ length w
+  cleared-long = rw ec (length-cleared w (chains (length s)) within)
+
+  pub ready : (ids : List ℕ) → length ids ≡ 32 → Ready wc ids (chains (length s)) (most (length s)) 0 0
+  ready ids li = record {
+    table = rw ec (table-cleared w (chains (length s)) within (chains-in (length s) l14 .0) (omega (arith, chains-in (length s) l14 .1)));
+    few = omega arith;
+    room = omega (arith, cleared-long, chains-in (length s) l14 .2);
+    areas = li;
+  }
+
+  same-behind : drop (tablesEnd (length s)) wc ≡ drop (tablesEnd (length s)) w
+  same-behind =
+      drop-more (indicesAt (length s)) (tablesEnd (length s)) (omega arith) wc w (rw ec (drop-cleared w (chains (length s)) within (most (length s))))
+
+-- ---- the tables at the end
+
+map-vertex : (f : ℕ → ℕ) (ks : List Corner) → map f (triples ks) ≡ map (λ k. f (k .vertex)) ks
+map-vertex f [] = refl
+map-vertex f (k ∷ ks) = ap (λ (l : List ℕ). f (k .vertex) ∷ l) (map-vertex f ks)
+
+module _ (s : List ℕ) (n : Counts) (h : Head) (w wc w' ids ids' : List ℕ) (t : Tables) (d : Decided)
+    (l14 : 14 ≤ length s) (l4 : 4 * length s ≤ length w) (ec : wc ≡ cleared w (chains (length s))) (ev : t .vertices ≡ 0) (ea : take (t .areas) ids ≡ seeded (h .area))
+    (p : PolygonsDone (floats (h .bb-min)) (floats (h .bb-size)) wc w' ids ids' (chains (length s)) (most (length s)) t 0 0 0 (polygonsAt s 14 (n .polys)) d) where
+  abbrev answer : Decision
+  answer = record {
+    counts = n;
+    areas = record { ids = ids'; len = d .tables .areas };
+    vertices = d .tables .vertices;
+    corners = d .corners;
+    links = d .links;
+    fault = d .fault;
+    place = d .place;
+  }
+
+  empty : met wc (chains (length s)) (t .vertices) ≡ []
+  unfolding met
+  empty = rw ev
+
+  tables-done : d .fault ≡ 0 → Tabled (length s) h (polygonsAt s 14 (n .polys)) w' answer
+  tables-done z =
+      let g = p .added z in
+      let ks = corners (floats (h .bb-min)) (floats (h .bb-size)) (polygonsAt s 14 (n .polys)) in
+      let count : d .corners ≡ length ks = p .corner-count z ∙ zero-add _ in
+      let numbers : take (d .corners) (drop (indicesAt (length s)) w') ≡ numbersFrom [] (triples ks) = rw (p .corner-count z) (g .indices ∙ rw empty) in
+      record {
+        vertices = g .now-met ∙ rw empty;
+        indices = numbers ∙ numbers-at-the-end [] (triples ks) ∙ map-vertex (indexOf (distinctFrom [] (triples ks))) ks;
+        areas = g .now-ids ∙ rw ea;
+        corner-count = count;
+        link-count = p .link-count z ∙ zero-add _;
+        few-vertices = p .ready z .few;
+        few-corners = p .few z;
+      }
+
+  pub polygons-done : WellDone s h n w w' answer
+  polygons-done =
+      let b = chains (length s) in
+      let m = most (length s) in
+      let same : drop (b + 2 * m + m) w' ≡ drop (b + 2 * m + m) wc = sym (drop-drop m (b + 2 * m) w') ∙ p .back ∙ drop-drop m (b + 2 * m) wc in
+      record {
+        verdict = λ rest. p .verdict rest ∙ rw (empty, ea);
+        long = p .long ∙ cleared-long s w wc l14 l4 ec;
+        beyond = same ∙ same-behind s w wc l14 l4 ec;
+        counts = refl;
+        tabled = λ z. tables-done z;
+      }
+
+-- ---- 3
+
+pub not-formed : (s w : List ℕ) (number place : ℕ) → scan s ≡ Scanned.fault number place → (r : Decision) → r .fault ≡ number → r .place ≡ place → DecideDone s w w r
+unfolding at
+not-formed s w number place k r e p =
+    let three : number ≡ 3 = scan-fault s number place .0 k .0 in
+    record {
+      verdict = λ rest. rw (k, e, p, three);
+      long = refl;
+      beyond = refl;
+      tabled = λ z. absurd (omega arith);
+      counts = λ z. absurd (omega arith);
+    }
+
+-- ---- 1, 10, 11
+
+module _ (s w : List ℕ) (n : Counts) (W : Well s (n .polys) (n .portals) (n .points)) (f : ℕ)
+    (ef : f ≡ first (when (ltb (length w / 4) (length s)) 1 ∷ when (endlessBox (headAt s 0)) 10 ∷ when (ltb 16383 (n .polys)) 11 ∷ [])) where
+  poly-count : length (W .cell .polys) ≡ n .polys
+  poly-count = rw (W .polys) (items-length (polygonAt s) (λ x. polyAt s x .next) (n .polys) 14)
+
+  front : (rest : Verdict) → onScan (beforeLeaves (length s) (length w) rest) (scan s) ≡ at 0 f (onPolygons (headAt s 0) (polygonsAt s 14 (n .polys)) rest)
+  unfolding beforeLeaves
+  front rest = rw (W .is, W .head, poly-count, ← ef, W .polys)
+
+  -- 1 passed
+  pub room : f ≡ 0 → 4 * length s ≤ length w
+  room none = omega (arith, ltb-false (length w / 4) (length s) (passed (ltb (length w / 4) (length s)) 0 _ (sym ef ∙ none)))
+
+  pub bad-front : (f ≡ 0 → ⊥) → (r : Decision) → r .fault ≡ f → r .place ≡ 0 → DecideDone s w w r
+  bad-front ne r e p = record {
+    verdict = λ rest. rw (e, p) (at-some 0 f rest _ ne ∙ sym (front rest));
+    long = refl;
+    beyond = refl;
+    tabled = λ z. absurd (ne (sym e ∙ z));
+    counts = λ z. absurd (ne (sym e ∙ z));
+  }
+
+  pub good-front : f ≡ 0 → (w' : List ℕ) (r : Decision) → WellDone s (headAt s 0) n w w' r → DecideDone s w w' r
+  good-front none w' r d = record {
+    verdict = λ rest. d .verdict rest ∙ sym (front rest ∙ at-none 0 f _ none);
+    long = d .long;
+    beyond = drop-more (tablesEnd (length s)) (2 * length s) (omega (arith, chains-in (length s) (W .long) .2)) w' w (d .beyond);
+    tabled = λ z c e.
+        let same : c ≡ W .cell = cc (e, W .is) in
+        rw (same, W .head, W .polys) (d .tabled z);
+    counts = λ z c e.
+        let same : c ≡ W .cell = cc (e, W .is) in
+        let qs : length (W .cell .portals) ≡ n .portals = rw (W .portals) (items-length (portalAt s) (λ x. x + 11) (n .portals) (afterPolygons s 14 (n .polys))) in
+        let ts : length (W .cell .points) ≡ n .points = rw (W .points) (items-length (pointAt s) (λ x. x + 4) (n .points) (afterPolygons s 14 (n .polys) + 11 * n .portals)) in
+        rw (same, poly-count, qs, ts) (d .counts);
+  }

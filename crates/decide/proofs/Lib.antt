@@ -1,0 +1,6 @@
+pub mod Firsts
+pub mod Behind
+pub mod Answers
+pub mod Corners
+pub mod Onward
+pub mod Fronts

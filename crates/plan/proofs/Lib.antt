@@ -1,0 +1,4 @@
+pub mod Stored
+pub mod Rest
+pub mod Whole
+pub mod Verdicts

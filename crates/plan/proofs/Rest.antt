@@ -1,0 +1,103 @@
+-- What stands behind the tables: there is room for it, and the tree by its words is the cell's. Assumes nothing.
+use Prim.Native.Nat.{ℕ, zero, suc, _+_, _*_, _/_, _%_, _^_, _≤_}
+use native.Mathlib.Omega.{arith}
+use native.Mathlib.Nat.{add-zero}
+use mathlib.Core.Path.{_≡_, refl, ap, sym, _∙_}
+use mathlib.Core.List.{List, [], _∷_, _++_, append-assoc}
+use lib.ListN.{length, getD, length-append}
+use lib.Seq.{getD-append-add}
+use Rattle.fields.specs.Bytes.{put}
+use Rattle.fields.proofs.Puts.{put-next}
+use Rattle.quantise.specs.declared.bounds.Aabb.{Aabb}
+use Rattle.strip.specs.Cell.{Polygon, Point}
+use Rattle.strip.specs.Reading.{word, after, polyAt, polygonAt, polygonsAt, afterPolygons, pointAt, pointsAt, headAt}
+use Rattle.strip.specs.declared.Counts.{Counts}
+use Rattle.strip.specs.declared.Refusal.{Refusal}
+use Rattle.strip.proofs.Steps.{items-length}
+use Rattle.strip.proofs.Judged.{poly-next}
+use Rattle.pages.specs.Items.{floats, boxOf, gather}
+use Rattle.pages.specs.Sectors.{Sector, leafOf, leaves, depthBy, depthOf, rootBox, leafCounts, treeOf}
+use Rattle.pages.specs.Checks.{Verdict, at, leavesVerdict}
+use Rattle.quadtree.specs.Work.{treeBy, Tells, BoxesHeld, LeavesHeld}
+use Rattle.quadtree.proofs.Held.{tree-held}
+use Rattle.decide.specs.Decide.{tablesEnd}
+use Rattle.decide.proofs.Fronts.{chains-in}
+use Rattle.plan.specs.Plan.{boxWords, boxes, leafWords, portalsEnd, pointsIn, restWords}
+
+-- ---- room: a polygon has four words or more, and a point four
+
+polygons-long : (n : ℕ) (s : List ℕ) (at : ℕ) → at + 4 * n ≤ afterPolygons s at n
+unfolding after
+polygons-long zero s at = omega arith
+polygons-long (suc n) s at = omega (arith, poly-next s at, polygons-long n s (polyAt s at .next))
+
+pub rest-fits : (s : List ℕ) (n : Counts) → 14 ≤ length s → length s ≡ portalsEnd s n + 4 * n .points + 1
+    → tablesEnd (length s) + 3 * n .polys + n .points ≤ 2 * length s
+rest-fits s n l e = omega (arith, chains-in (length s) l .2, polygons-long (n .polys) s 14)
+
+pub length-boxes : (ps : List Polygon) → length (boxes ps) ≡ 3 * length ps
+unfolding gather boxWords
+length-boxes [] = refl
+length-boxes (p ∷ ps) = omega (arith, length-boxes ps)
+
+pub length-leaves : (bs : List Aabb) (ts : List Point) → length (leafWords bs ts) ≡ length ts
+unfolding leafWords
+length-leaves bs [] = refl
+length-leaves bs (t ∷ ts) = ap suc (length-leaves bs ts)
+
+pub poly-count : (s : List ℕ) (n : ℕ) → length (polygonsAt s 14 n) ≡ n
+poly-count s n = items-length (polygonAt s) (λ x. polyAt s x .next) n 14
+
+pub point-count : (s : List ℕ) (n : Counts) → length (pointsIn s n) ≡ n .points
+point-count s n = items-length (pointAt s) (λ x. x + 4) (n .points) (portalsEnd s n)
+
+pub rest-stored : (s : List ℕ) (n : Counts) (w w1 w2 : List ℕ) (base first : ℕ) (b : Aabb)
+    → base ≡ tablesEnd (length s) → first ≡ portalsEnd s n → b ≡ rootBox (headAt s 0)
+    → w1 ≡ put base (boxes (polygonsAt s 14 (n .polys))) w
+    → w2 ≡ put (base + 3 * n .polys) (leafWords (leaves (depthBy (word s 1 / 2 ^ 2 % 2)) b) (pointsAt s first (n .points))) w1
+    → w2 ≡ put (tablesEnd (length s)) (restWords s n) w
+unfolding headAt
+rest-stored s n w w1 w2 base first b eb ef er e1 e2 =
+    let size : length (boxes (polygonsAt s 14 (n .polys))) ≡ 3 * n .polys = length-boxes (polygonsAt s 14 (n .polys)) ∙ ap (λ (k : ℕ). 3 * k) (poly-count s (n .polys)) in
+    e2 ∙ rw (e1, eb, ef, er) (put-next (3 * n .polys) (tablesEnd (length s)) (boxes (polygonsAt s 14 (n .polys))) _ w size)
+
+-- ---- the words hold boxes and leaves
+
+got : (pre : List ℕ) (i : ℕ) (xs : List ℕ) → getD (pre ++ xs) (length pre + i) 0 ≡ getD xs i 0
+got pre i xs = getD-append-add pre xs i 0
+
+boxes-in : (pre : List ℕ) (ps : List Polygon) → BoxesHeld (pre ++ boxes ps) (length pre) ps
+unfolding gather boxWords
+boxes-in pre [] = tt
+boxes-in pre (p ∷ ps) =
+    let three = boxWords (boxOf p) in
+    let next : length (pre ++ three) ≡ length pre + 3 = length-append pre three in
+    let zero' : getD (pre ++ (three ++ boxes ps)) (length pre) 0 ≡ getD (three ++ boxes ps) 0 0 = ap (λ (k : ℕ). getD (pre ++ (three ++ boxes ps)) k 0) (sym (add-zero (length pre))) ∙ got pre 0 (three ++ boxes ps) in
+    let rest : BoxesHeld ((pre ++ three) ++ boxes ps) (length (pre ++ three)) ps = boxes-in (pre ++ three) ps in
+    (record { x = zero'; y = got pre 1 (three ++ boxes ps); z = got pre 2 (three ++ boxes ps) }, rw (append-assoc, next) at rest)
+
+leaves-in : (bs : List Aabb) (pre : List ℕ) (ts : List Point) → LeavesHeld bs (pre ++ leafWords bs ts) (length pre) ts
+unfolding leafWords
+leaves-in bs pre [] = tt
+leaves-in bs pre (t ∷ ts) =
+    let one = leafOf bs (floats (t .position)) ∷ [] in
+    let next : length (pre ++ one) ≡ length pre + 1 = length-append pre one in
+    let zero' : getD (pre ++ (one ++ leafWords bs ts)) (length pre) 0 ≡ getD (one ++ leafWords bs ts) 0 0 = ap (λ (k : ℕ). getD (pre ++ (one ++ leafWords bs ts)) k 0) (sym (add-zero (length pre))) ∙ got pre 0 (one ++ leafWords bs ts) in
+    let rest : LeavesHeld bs ((pre ++ one) ++ leafWords bs ts) (length (pre ++ one)) ts = leaves-in bs (pre ++ one) ts in
+    (zero', rw (append-assoc, next) at rest)
+
+pub leaf-told : (s : List ℕ) (n : Counts) (bw lw : List ℕ) (b : Aabb) (r : Refusal)
+    → bw ≡ boxes (polygonsAt s 14 (n .polys)) → lw ≡ leafWords (leaves (depthOf (headAt s 0)) (rootBox (headAt s 0))) (pointsIn s n) → b ≡ rootBox (headAt s 0)
+    → ((ts : List Point) → length ts ≡ length lw → Tells r 0 (leafCounts (treeBy bw lw ts (depthBy (word s 1 / 2 ^ 2 % 2)) 0 b)))
+    → (rest : Verdict) → at (r .place) (r .number) rest ≡ leavesVerdict 0 (leafCounts (treeOf (headAt s 0) (polygonsAt s 14 (n .polys)) (pointsIn s n))) rest
+unfolding headAt
+leaf-told s n bw lw b r eb el er tells rest =
+    let ps = polygonsAt s 14 (n .polys) in
+    let ts = pointsIn s n in
+    let bs = leaves (depthOf (headAt s 0)) (rootBox (headAt s 0)) in
+    let many : length ts ≡ length lw = rw el (sym (length-leaves bs ts)) in
+    let held : BoxesHeld bw 0 ps = rw eb (boxes-in [] ps) in
+    let leafs : LeavesHeld bs lw 0 ts = rw el (leaves-in bs [] ts) in
+    let size : length bw ≡ 3 * length ps = rw eb (length-boxes ps) in
+    tells ts many rest ∙ ap (λ (c : Aabb). leavesVerdict 0 (leafCounts (treeBy bw lw ts (depthOf (headAt s 0)) 0 c)) rest) er
+    ∙ ap (λ (t : Sector). leavesVerdict 0 (leafCounts t) rest) (tree-held (headAt s 0) ps ts bw lw size held leafs)

@@ -1,0 +1,5 @@
+pub mod Widths
+pub mod Placing
+pub mod Picks
+pub mod Tellings
+pub mod Held

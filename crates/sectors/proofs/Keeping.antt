@@ -1,0 +1,67 @@
+-- Items that are stored where a test passes, one turn at a time; and a block where there is something. Assumes nothing.
+use Prim.Native.Nat.{ℕ, suc, _+_, _-_, _*_, _≤_, _<_}
+use mathlib.Core.Path.{_≡_, refl, sym, ap}
+use mathlib.Core.Bool.{Bool, true, false, cond}
+use mathlib.Core.List.{List, [], _∷_, _++_, append-nil}
+use native.Mathlib.Nat.{mul-zero}
+use native.Mathlib.Omega.{arith}
+use lib.Dec.{eqb}
+use lib.ListN.{length, getD}
+use Rattle.fields.specs.Bytes.{leBytes, les, cat, put, zeros}
+use Rattle.fields.specs.Rows.{rowBytes}
+use Rattle.fields.proofs.Bytes.{length-bytes}
+use Rattle.fields.proofs.Puts.{put-nil, put-next}
+use Rattle.fields.proofs.Rows.{length-rows}
+use Rattle.math.specs.declared.vec3.Vec3.{Vec3 as Floats}
+use Rattle.strip.specs.Cell.{Point}
+use Rattle.strip.specs.Reading.{itemsAt, pointAt, pointsAt}
+use Rattle.blocks.specs.declared.Layout.{Layout}
+use Rattle.blocks.specs.Layout.{placeOf, behind, Laid}
+use Rattle.blocks.proofs.Layouts.{laid-none, laid-block}
+use Rattle.pages.specs.Optional.{blockOf}
+use Rattle.pages.specs.Sectors.{pointRow, pointItems}
+use Rattle.quadtree.specs.Work.{pickedFrom}
+
+-- f stores items of w bytes in a row, g one
+module _ {A : Type 0} (w : ℕ) (f : List A → List ℕ) (g : A → List ℕ) (none : f [] ≡ []) (more : (x : A) (xs : List A) → f (x ∷ xs) ≡ g x ++ f xs)
+    (wide : (x : A) → length (g x) ≡ w) where
+  put-keep : (p : ℕ) (b : Bool) (x : A) (xs : List A) (out : List ℕ)
+      → put (p + w * cond b 1 0) (f xs) (put p (f (cond b (x ∷ []) [])) out) ≡ put p (f (cond b (x ∷ xs) xs)) out
+  put-keep p true x xs out =
+      let e : w * 1 ≡ w = omega arith in
+      rw (e, more x [], more x xs, none, append-nil (g x)) (put-next w p (g x) (f xs) out (wide x))
+  put-keep p false x xs out = rw (none, put-nil p out) (ap (λ (n : ℕ). put n (f xs) out) (omega (arith, mul-zero w)))
+
+pub put-id : (p : ℕ) (b : Bool) (x : ℕ) (xs out : List ℕ)
+    → put (p + 2 * cond b 1 0) (les 2 xs) (put p (les 2 (cond b (x ∷ []) [])) out) ≡ put p (les 2 (cond b (x ∷ xs) xs)) out
+unfolding les
+put-id = put-keep 2 (les 2) (leBytes 2) refl (λ x xs. refl) (length-bytes 2)
+
+module _ (lo size : Floats) where
+  pub put-point : (p : ℕ) (b : Bool) (t : Point) (ts : List Point) (out : List ℕ)
+      → put (p + 8 * cond b 1 0) (cat (pointItems lo size ts)) (put p (cat (pointItems lo size (cond b (t ∷ []) []))) out) ≡ put p (cat (pointItems lo size (cond b (t ∷ ts) ts))) out
+  unfolding pointItems cat
+  put-point = put-keep 8 (λ (ts : List Point). cat (pointItems lo size ts)) (λ (t : Point). rowBytes (pointRow lo size t)) refl (λ t ts. refl) (λ t. length-rows (pointRow lo size t))
+
+-- ---- the points with a leaf, i of them passed
+
+module _ (leafs s : List ℕ) (k : ℕ) where
+  pub points-turn : (at i n : ℕ) → i < n → pickedFrom leafs k i (pointsAt s at (n - i))
+      ≡ cond (eqb (getD leafs i 0) k) (pointAt s at ∷ pickedFrom leafs k (i + 1) (pointsAt s (at + 4) (n - (i + 1)))) (pickedFrom leafs k (i + 1) (pointsAt s (at + 4) (n - (i + 1))))
+  unfolding pickedFrom itemsAt
+  points-turn at i n h = let e : n - i ≡ suc (n - (i + 1)) = omega arith in rw e
+
+  pub points-end : (at i n : ℕ) → n ≤ i → pickedFrom leafs k i (pointsAt s at (n - i)) ≡ []
+  unfolding pickedFrom itemsAt
+  points-end at i n h = let e : n - i ≡ 0 = omega arith in rw e
+
+-- ---- a block where there is something
+
+pub laid-empty : (l : Layout) (b out : List ℕ) → length b ≡ 0 → Laid l (blockOf b) l out out
+laid-empty l [] out h = laid-none l out
+laid-empty l (x ∷ b) out h = absurd (omega arith)
+
+pub laid-some : {l r : Layout} {n start : ℕ} {xs ys zs : List ℕ} (b : List ℕ) → length b ≡ n → (n ≡ 0 → ⊥) → start ≡ placeOf (l .at) n
+    → ys ≡ put (l .at) (zeros (placeOf (l .at) n - l .at)) xs → zs ≡ put start b ys → r .at ≡ behind (l .at) n → Laid l (blockOf b) r xs zs
+laid-some [] e h p z q a = absurd (h (sym e))
+laid-some (x ∷ b) e h p z q a = laid-block e p z q a

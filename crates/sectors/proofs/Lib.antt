@@ -1,0 +1,5 @@
+pub mod Records
+pub mod Keeping
+pub mod Leaves
+pub mod Steps
+pub mod Cell

@@ -1,0 +1,336 @@
+// The sectors of the pages: a sector's block before its subs', a leaf's before its ids, points and data. A record that names what stands behind it is
+// stored last, at a place that is kept for it.
+ghost use mathlib.Core.Path.{_≡_};
+ghost use mathlib.Core.Bool.{cond};
+ghost use mathlib.Core.List.{[], _∷_};
+ghost use Prim.Native.Nat.{_+_, _*_, _^_, _≤_, _<_};
+ghost use lib.ListN.{length};
+ghost use Rattle.fields.specs.Bytes.{les, cat, put};
+ghost use Rattle.fields.specs.Rows.{rowBytes};
+ghost use Rattle.strip.specs.Reading.{vecAt, pointAt, pointsAt};
+ghost use Rattle.blocks.specs.Layout.{behind, endOf, address, Laid};
+ghost use Rattle.pages.specs.Items.{floats};
+ghost use Rattle.pages.specs.Optional.{blockOf, sizeOf, addressOf};
+ghost use Rattle.pages.specs.Sectors.{idsOf, sectorRow, dataRow, sectorAddress, pointRow, pointItems};
+ghost use Rattle.quadtree.specs.Work.{boxBy, boxesIn, pickedFrom};
+ghost use Rattle.sectors.specs.Written.{treeIn, Room, Wrote};
+use blocks::Layout;
+use math::num::bits_of_float;
+use math::num::float_of_bits;
+use math::vec3::Vec3;
+use quadtree::leaves::count_ids;
+use quadtree::leaves::count_points;
+use quadtree::leaves::meets_at;
+use quadtree::leaves::quarter_pair;
+use quantise::bounds::Aabb;
+
+const SYSTEM_BASE: usize = 0x5000_0000;
+
+const SECTOR_SIZE: usize = 96;
+
+const DATA_SIZE: usize = 32;
+
+const NAN: u32 = 0x7FC0_0000;
+
+// Where the writer stands: what is laid out so far, the next leaf's number, the next stored point's number.
+pub struct Spot {
+    pub layout: Layout,
+    pub leaf: u32,
+    pub first: u32,
+}
+
+// The points of a cell: where their records begin in the strip, and the box in which their shorts are measured, bb_min and bb_size.
+pub struct Points {
+    pub at: usize,
+    pub lo: Vec3,
+    pub size: Vec3,
+}
+
+// The address of a block of `size` bytes that is laid out next; 0 where there is none.
+fn address_of(l: Layout, size: usize) -> u32
+    requires { ⌜ endOf (l .at) (sizeOf size) < 2 ^ 28 ⌝ }
+    ensures { λ r. ⌜ r ≡ addressOf (l .at) size ⌝ }
+{
+    if size == 0 {
+        return 0;
+    }
+    (SYSTEM_BASE + l.start(size)) as u32
+}
+
+// A sector's record.
+fn put_sector(out: &mut [u8], at: usize, b: Aabb, data: u32, s0: u32, s1: u32, s2: u32, s3: u32)
+    ensures { λ _. ⌜ now (out .exit) ≡ put at (rowBytes (sectorRow b «data» s0 s1 s2 s3)) (now (out .entry)) ⌝ }
+{
+    let min = b.min;
+    let max = b.max;
+    let words = [
+        bits_of_float(min.x),
+        bits_of_float(min.y),
+        bits_of_float(min.z),
+        NAN,
+        bits_of_float(max.x),
+        bits_of_float(max.y),
+        bits_of_float(max.z),
+        NAN,
+        quarter_pair(min.x, max.x),
+        quarter_pair(min.y, max.y),
+        quarter_pair(min.z, max.z),
+        data,
+        0,
+        s0,
+        0,
+        s1,
+        0,
+        s2,
+        0,
+        s3,
+        0,
+        0,
+        0,
+        0,
+    ];
+    fields::put_all(out, at, 4, &words);
+}
+
+// The record of a sector whose subs are laid out from l0, l1, l2 and l3 on.
+fn put_node(out: &mut [u8], at: usize, b: Aabb, l0: Layout, l1: Layout, l2: Layout, l3: Layout)
+    requires { ⌜ (behind (l0 .at) 96 < 2 ^ 28) × (behind (l1 .at) 96 < 2 ^ 28) × (behind (l2 .at) 96 < 2 ^ 28) × (behind (l3 .at) 96 < 2 ^ 28) ⌝ }
+    ensures { λ _. ⌜ now (out .exit) ≡ put at (rowBytes (sectorRow b 0 (sectorAddress (l0 .at)) (sectorAddress (l1 .at)) (sectorAddress (l2 .at)) (sectorAddress (l3 .at)))) (now (out .entry)) ⌝ }
+{
+    let s0 = address_of(l0, SECTOR_SIZE);
+    let s1 = address_of(l1, SECTOR_SIZE);
+    let s2 = address_of(l2, SECTOR_SIZE);
+    let s3 = address_of(l3, SECTOR_SIZE);
+    put_sector(out, at, b, 0, s0, s1, s2, s3);
+}
+
+// The block of a leaf's data.
+fn lay_data(
+    out: &mut [u8],
+    l: Layout,
+    first: u32,
+    ids: u32,
+    points: u32,
+    id_count: u16,
+    point_count: u16,
+) -> Layout
+    requires { ⌜ behind (l .at) 32 < 2 ^ 28 ⌝ }
+    ensures { λ r. ⌜ Laid l (rowBytes (dataRow first ids points «id_count» «point_count») ∷ []) r (now (out .entry)) (now (out .exit)) ⌝ }
+{
+    let at = blocks::pad(out, l, DATA_SIZE);
+    let words = [
+        first,
+        0,
+        ids,
+        0,
+        points,
+        0,
+        fields::pair(id_count, point_count),
+        0,
+    ];
+    fields::put_all(out, at, 4, &words);
+    l.alloc(DATA_SIZE)
+}
+
+// The number of a polygon from p on, where the test passed. The answer is the place behind it.
+fn put_id_if(out: &mut [u8], p: usize, test: bool, id: usize) -> usize
+    requires { ⌜ p < 2 ^ 32 ⌝ }
+    ensures { λ r. ⌜ r ≡ p + 2 * cond test 1 0 ⌝ }
+    ensures { λ _. ⌜ now (out .exit) ≡ put p (les 2 (cond test (id ∷ []) [])) (now (out .entry)) ⌝ }
+{
+    if test {
+        fields::put_le(out, p, 2, id as u64);
+        return p + 2;
+    }
+    p
+}
+
+// The numbers of the polygons that meet the leaf whose sides are qx and qy.
+fn put_ids(out: &mut [u8], at: usize, boxes: &[u32], qx: u32, qy: u32)
+    requires { ⌜ at + 2 * length (idsOf (boxBy qx qy 0) 0 (boxesIn (now boxes))) < 2 ^ 32 ⌝ }
+    ensures { λ _. ⌜ now (out .exit) ≡ put at (les 2 (idsOf (boxBy qx qy 0) 0 (boxesIn (now (boxes .entry))))) (now (out .entry)) ⌝ }
+{
+    let polys = boxes.len() / 3;
+    let mut p = at;
+    let mut i = 0;
+    while i < polys {
+        p = put_id_if(out, p, meets_at(boxes, 3 * i, qx, qy), i);
+        i += 1;
+    }
+}
+
+// The block of a leaf's n ids, if there are any.
+fn lay_ids(out: &mut [u8], l: Layout, boxes: &[u32], qx: u32, qy: u32, n: usize) -> Layout
+    requires { ⌜ (n ≡ length (idsOf (boxBy qx qy 0) 0 (boxesIn (now boxes)))) × (n ≤ 8192) × (endOf (l .at) (sizeOf (2 * n)) < 2 ^ 28) ⌝ }
+    ensures { λ r. ⌜ Laid l (blockOf (les 2 (idsOf (boxBy qx qy 0) 0 (boxesIn (now (boxes .entry)))))) r (now (out .entry)) (now (out .exit)) ⌝ }
+{
+    if n == 0 {
+        return l;
+    }
+    let at = blocks::pad(out, l, 2 * n);
+    put_ids(out, at, boxes, qx, qy);
+    l.alloc(2 * n)
+}
+
+fn position_at(strip: &[u32], at: usize) -> Vec3
+    requires { ⌜ at + 3 ≤ length (now strip) ⌝ }
+    ensures { λ r. ⌜ r ≡ floats (vecAt (now (strip .entry)) at) ⌝ }
+{
+    let x = float_of_bits(strip[at]);
+    let y = float_of_bits(strip[at + 1]);
+    let z = float_of_bits(strip[at + 2]);
+    Vec3 { x, y, z }
+}
+
+// The point whose record stands at `at`: shorts, angle, kind.
+fn put_point(out: &mut [u8], p: usize, strip: &[u32], at: usize, lo: Vec3, size: Vec3)
+    requires { ⌜ at + 4 ≤ length (now strip) ⌝ }
+    ensures { λ _. ⌜ now (out .exit) ≡ put p (rowBytes (pointRow lo size (pointAt (now (strip .entry)) at))) (now (out .entry)) ⌝ }
+{
+    let position = position_at(strip, at + 1);
+    let q = quantise::short::quantise(position, lo, size);
+    let bytes = (strip[at] % 65536) as u16;
+    let words = [fields::pair(q.x, q.y), fields::pair(q.z, bytes)];
+    fields::put_all(out, p, 4, &words);
+}
+
+// The same, where the test passed. The answer is the place behind it.
+fn put_point_if(
+    out: &mut [u8],
+    p: usize,
+    test: bool,
+    strip: &[u32],
+    at: usize,
+    lo: Vec3,
+    size: Vec3,
+) -> usize
+    requires { ⌜ (p < 2 ^ 32) × (at + 4 ≤ length (now strip)) ⌝ }
+    ensures { λ r. ⌜ r ≡ p + 8 * cond test 1 0 ⌝ }
+    ensures { λ _. ⌜ now (out .exit) ≡ put p (cat (pointItems lo size (cond test (pointAt (now (strip .entry)) at ∷ []) []))) (now (out .entry)) ⌝ }
+{
+    if test {
+        put_point(out, p, strip, at, lo, size);
+        return p + 8;
+    }
+    p
+}
+
+// The points that have the leaf k.
+fn put_points<'a>(
+    out: &mut [u8],
+    at: usize,
+    leafs: &'a [u32],
+    strip: &'a [u32],
+    points: Points,
+    k: u32,
+)
+    requires { ⌜ (points .at + 4 * length (now leafs) ≤ length (now strip))
+        × (at + 8 * length (pickedFrom (now leafs) k 0 (pointsAt (now strip) (points .at) (length (now leafs)))) < 2 ^ 32) ⌝ }
+    ensures { λ _. ⌜ now (out .exit) ≡ put at (cat (pointItems (points .lo) (points .size) (pickedFrom (now (leafs .entry)) k 0 (pointsAt (now (strip .entry)) (points .at) (length (now (leafs .entry))))))) (now (out .entry)) ⌝ }
+{
+    let lo = points.lo;
+    let size = points.size;
+    let mut place = points.at;
+    let mut p = at;
+    let mut i = 0;
+    while i < leafs.len() {
+        p = put_point_if(out, p, leafs[i] == k, strip, place, lo, size);
+        place += 4;
+        i += 1;
+    }
+}
+
+// The block of the n points that have the leaf k, if there are any.
+fn lay_points<'a>(
+    out: &mut [u8],
+    l: Layout,
+    leafs: &'a [u32],
+    strip: &'a [u32],
+    points: Points,
+    k: u32,
+    n: usize,
+) -> Layout
+    requires { ⌜ (points .at + 4 * length (now leafs) ≤ length (now strip))
+        × (n ≡ length (pickedFrom (now leafs) k 0 (pointsAt (now strip) (points .at) (length (now leafs))))) × (n ≤ 2048) × (endOf (l .at) (sizeOf (8 * n)) < 2 ^ 28) ⌝ }
+    ensures { λ r. ⌜ Laid l (blockOf (cat (pointItems (points .lo) (points .size) (pickedFrom (now (leafs .entry)) k 0 (pointsAt (now (strip .entry)) (points .at) (length (now (leafs .entry)))))))) r (now (out .entry)) (now (out .exit)) ⌝ }
+{
+    if n == 0 {
+        return l;
+    }
+    let at = blocks::pad(out, l, 8 * n);
+    put_points(out, at, leafs, strip, points, k);
+    l.alloc(8 * n)
+}
+
+// A leaf: its sector, ids, points, data.
+fn write_leaf<'a>(
+    out: &mut [u8],
+    spot: Spot,
+    b: Aabb,
+    boxes: &'a [u32],
+    leafs: &'a [u32],
+    strip: &'a [u32],
+    points: Points,
+) -> Spot
+    requires { ⌜ (spot .leaf + 1 < 2 ^ 32) × (points .at + 4 * length (now leafs) ≤ length (now strip)) ⌝ }
+    requires { ⌜ Room (treeIn (now boxes) (now leafs) (now strip) (points .at) 0 (spot .leaf) b) (spot .layout .at) (spot .first) ⌝ }
+    ensures { λ r. ⌜ Wrote (points .lo) (points .size) (treeIn (now (boxes .entry)) (now (leafs .entry)) (now (strip .entry)) (points .at) 0 (spot .leaf) b) 1 spot r (now (out .entry)) (now (out .exit)) ⌝ }
+{
+    let leaf = spot.leaf;
+    let first = spot.first;
+    let l = spot.layout;
+    let qx = quarter_pair(b.min.x, b.max.x);
+    let qy = quarter_pair(b.min.y, b.max.y);
+    let m = count_ids(boxes, qx, qy);
+    let n = count_points(leafs, leaf);
+    let at = blocks::pad(out, l, SECTOR_SIZE);
+    let l1 = l.alloc(SECTOR_SIZE);
+    let l2 = lay_ids(out, l1, boxes, qx, qy, m);
+    let l3 = lay_points(out, l2, leafs, strip, points, leaf, n);
+    let ids_at = address_of(l1, 2 * m);
+    let points_at = address_of(l2, 8 * n);
+    let l4 = lay_data(out, l3, first, ids_at, points_at, m as u16, n as u16);
+    let data_at = address_of(l3, DATA_SIZE);
+    put_sector(out, at, b, data_at, 0, 0, 0, 0);
+    Spot {
+        layout: l4,
+        leaf: leaf + 1,
+        first: first + n as u32,
+    }
+}
+
+// A sector and all below it, `depth` splits down.
+pub fn write_sector<'a>(
+    out: &mut [u8],
+    spot: Spot,
+    b: Aabb,
+    depth: u32,
+    boxes: &'a [u32],
+    leafs: &'a [u32],
+    strip: &'a [u32],
+    points: Points,
+) -> Spot
+    requires { ⌜ (spot .leaf + 4 ^ depth < 2 ^ 32) × (points .at + 4 * length (now leafs) ≤ length (now strip)) ⌝ }
+    requires { ⌜ Room (treeIn (now boxes) (now leafs) (now strip) (points .at) depth (spot .leaf) b) (spot .layout .at) (spot .first) ⌝ }
+    ensures { λ r. ⌜ Wrote (points .lo) (points .size) (treeIn (now (boxes .entry)) (now (leafs .entry)) (now (strip .entry)) (points .at) depth (spot .leaf) b) (4 ^ depth) spot r (now (out .entry)) (now (out .exit)) ⌝ }
+{
+    if depth == 0 {
+        return write_leaf(out, spot, b, boxes, leafs, strip, points);
+    }
+    let d = depth - 1;
+    let subs = quadtree::boxes::split(b);
+    let l = spot.layout;
+    let at = blocks::pad(out, l, SECTOR_SIZE);
+    let l0 = l.alloc(SECTOR_SIZE);
+    let p0 = Spot {
+        layout: l0,
+        leaf: spot.leaf,
+        first: spot.first,
+    };
+    let p1 = write_sector(out, p0, subs.s0, d, boxes, leafs, strip, points);
+    let p2 = write_sector(out, p1, subs.s1, d, boxes, leafs, strip, points);
+    let p3 = write_sector(out, p2, subs.s2, d, boxes, leafs, strip, points);
+    let p4 = write_sector(out, p3, subs.s3, d, boxes, leafs, strip, points);
+    put_node(out, at, b, l0, p1.layout, p2.layout, p3.layout);
+    p4
+}
