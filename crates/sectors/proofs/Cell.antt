@@ -15,7 +15,8 @@ use Rattle.pages.specs.Sectors.{Sector, pointCount, leafCounts, leaves, depthBy
 use Rattle.pages.specs.Sectors.Sector.{leaf, node}
 use Rattle.pages.specs.Accepted.{FewIn, Accepted}
 use Rattle.pages.specs.Pages.{Counts, loOf, extentOf, counts, sectors, sizes, sizesOf, blocks, pages, endHeader, endVertices, endIndices, endEdges, endPolygons, endSectors}
-use Rattle.pages.proofs.Placed.{all-first, pages-short}
+use Rattle.pages.proofs.Lists.{all-apart}
+use Rattle.pages.proofs.Placed.{pages-short}
 use Rattle.pages.proofs.Sizes.{blocks-sizes}
 use Rattle.quadtree.specs.Work.{treeBy, BoxesHeld, LeavesHeld}
 use Rattle.quadtree.proofs.Held.{tree-held}
@@ -39,9 +40,9 @@ few-points : (t : Sector) → All FewIn (leafCounts t) → pointCount t ≤ 2048
 unfolding leafCounts pointCount
 few-points (leaf b is ts) h = omega (arith, h .0 .points)
 few-points (node b t0 t1 t2 t3) h =
-    let a = all-first FewIn (leafCounts t0) (leafCounts t1 ++ (leafCounts t2 ++ leafCounts t3)) h in
-    let c = all-first FewIn (leafCounts t1) (leafCounts t2 ++ leafCounts t3) (a .1) in
-    let d = all-first FewIn (leafCounts t2) (leafCounts t3) (c .1) in
+    let a = all-apart FewIn (leafCounts t0) (leafCounts t1 ++ (leafCounts t2 ++ leafCounts t3)) h in
+    let c = all-apart FewIn (leafCounts t1) (leafCounts t2 ++ leafCounts t3) (a .1) in
+    let d = all-apart FewIn (leafCounts t2) (leafCounts t3) (c .1) in
     rw (length-append (leafCounts t0) (leafCounts t1 ++ (leafCounts t2 ++ leafCounts t3)), length-append (leafCounts t1) (leafCounts t2 ++ leafCounts t3), length-append (leafCounts t2) (leafCounts t3))
     (omega (arith, few-points t0 (a .0), few-points t1 (c .0), few-points t2 (d .0), few-points t3 (d .1)))
 

@@ -18,7 +18,7 @@ use Rattle.pages.specs.Accepted.{FewIn}
 use Rattle.pages.specs.Optional.{sizeOf}
 use Rattle.pages.specs.Sectors.{Sector, pointCount, leafCounts, sectorRow, sizes, sectorAddress, from0, from1, from2, from3, treeBlocks, grown, sub0, sub1, sub2, sub3}
 use Rattle.pages.specs.Sectors.Sector.{leaf, node}
-use Rattle.pages.proofs.Placed.{all-first}
+use Rattle.pages.proofs.Lists.{all-apart}
 use Rattle.pages.proofs.Sizes.{tree-lengths}
 use Rattle.sectors.specs.declared.Spot.{Spot}
 use Rattle.sectors.specs.Written.{Room, Wrote}
@@ -68,9 +68,9 @@ module _ (b : Aabb) (t0 t1 t2 t3 : Sector) {end first : ℕ} (room : Room (node 
   few-of : All FewIn (leafCounts t0) × All FewIn (leafCounts t1) × All FewIn (leafCounts t2) × All FewIn (leafCounts t3)
   unfolding leafCounts
   few-of =
-      let a = all-first FewIn (leafCounts t0) (leafCounts t1 ++ (leafCounts t2 ++ leafCounts t3)) (room .few) in
-      let c = all-first FewIn (leafCounts t1) (leafCounts t2 ++ leafCounts t3) (a .1) in
-      let d = all-first FewIn (leafCounts t2) (leafCounts t3) (c .1) in
+      let a = all-apart FewIn (leafCounts t0) (leafCounts t1 ++ (leafCounts t2 ++ leafCounts t3)) (room .few) in
+      let c = all-apart FewIn (leafCounts t1) (leafCounts t2 ++ leafCounts t3) (a .1) in
+      let d = all-apart FewIn (leafCounts t2) (leafCounts t3) (c .1) in
       (a .0, c .0, d .0, d .1)
 
   numbers-of : first + (pointCount t0 + (pointCount t1 + (pointCount t2 + pointCount t3))) < 2 ^ 32
