@@ -6,14 +6,12 @@ use mathlib.Core.Path.{_≡_, refl}
 use mathlib.Core.Bool.{Bool, true, false, cond}
 use mathlib.Core.List.{List, [], _∷_}
 use lib.ListN.{length, set, take, length-take, length-append}
-use lib.Dec.{leb}
-use borrow.Author.Tests.{leb-true, lt-ltb, le-ltb}
+use borrow.Author.Tests.{lt-ltb, le-ltb}
 use Rattle.fields.specs.Bytes.{over}
 use Rattle.areas.proofs.Over.{over-own, over-one, take-over}
-use Rattle.distinct.specs.Distinct.{indexOf, isIn, withNew, upTo}
+use Rattle.distinct.specs.Distinct.{indexOf, isIn, upTo}
 use Rattle.distinct.proofs.Laws.{index-most, up-old, up-new, up-full, up-most}
-use Rattle.distinct.proofs.Final.{with-in}
-use Rattle.areas.specs.Areas.{areaAt, entryOf}
+use Rattle.areas.specs.Areas.{entryOf}
 use Rattle.areas.specs.declared.AreaAnswer.the-variants.{At, Full}
 
 module _ (ids : List ℕ) (long : length ids ≡ 32) (len x count at : ℕ) (held : count ≡ min len 32) (here : at ≡ indexOf (take len ids) x) where
@@ -75,10 +73,3 @@ at-in false i j e = let z : _≡_ {A = ℕ} 0 1 = cc in absurd (omega arith)
 pub full-in : (s : Bool) (j : ℕ) → Full ≡ cond s (At j) Full → s ≡ false
 full-in true j e = let z : _≡_ {A = ℕ} 0 1 = cc in absurd (omega arith)
 full-in false j e = refl
-
--- an index fits its five bits
-pub at-below : (ids : List ℕ) (x k : ℕ) → At k ≡ areaAt ids x → (k ≡ indexOf ids x) × (k < 32)
-at-below ids x k e =
-    let here = at-in (leb (length (withNew ids x)) 32) k (indexOf ids x) e in
-    let m = with-in ids x in
-    (here .1, omega (arith, here .1, m .within, m .index, leb-true (length (withNew ids x)) 32 (here .0)))

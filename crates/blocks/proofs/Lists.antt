@@ -3,16 +3,16 @@ use mathlib.Core.Path.{_≡_, refl, sym, ap, subst, _∙_}
 use mathlib.Core.List.{List, [], _∷_, _++_, map, append-assoc}
 use Prim.Native.Nat.{ℕ, zero, suc, _+_, _-_, _*_, _/_, _%_, _^_, _≤_, _<_, min}
 use native.Mathlib.Omega.{arith}
-use native.Mathlib.Nat.{mul-le-mul-left, mul-zero, sub-zero, mul-suc, div-le-self, mul-div-le, le-div-iff-mul-le, div-lt-iff-lt-mul, div-add-mod, mul-add-div, add-mul}
+use native.Mathlib.Nat.{mul-le-mul-left, mul-zero, mul-suc, div-le-self, mul-div-le, le-div-iff-mul-le, div-lt-iff-lt-mul, div-add-mod, mul-add-div, add-mul}
 use lib.ListN.{length, length-append, take, drop, length-drop}
-use lib.Seq.{length-take-le, drop-drop, take-add, take-at, drop-at}
-use Rattle.fields.specs.Bytes.{les, leBytes, cat, put}
+use lib.Seq.{length-take-le, take-add, take-at, drop-at}
+use Rattle.fields.specs.Bytes.{les, leBytes, cat, cut, put}
 use Rattle.fields.specs.Rows.{rowBytes}
 use Rattle.fields.proofs.Bytes.{length-les}
 use Rattle.fields.proofs.Puts.{put-next, put-number}
 use Rattle.fields.proofs.Rows.{length-rows}
 use Rattle.blocks.specs.Layout.{address, placeOf, behind, endOf, lengths, Laid}
-use Rattle.blocks.specs.Lists.{perPart, partCount, counts, chunks, firsts, cut, sizes, partSizes, offsetSizes, listSizes, tableAt, partsFrom, itemsEnd, offsetsAddress, listRow, partRow, tableBytes, frontBlocks, partBlocks, offsetBlocks, listBlocks, Wide, Room}
+use Rattle.blocks.specs.Lists.{perPart, partCount, counts, chunks, firsts, sizes, partSizes, offsetSizes, listSizes, tableAt, partsFrom, itemsEnd, offsetsAddress, listRow, partRow, tableBytes, frontBlocks, partBlocks, offsetBlocks, listBlocks, Wide, Room}
 use Rattle.blocks.specs.Placed.{Small}
 use Rattle.blocks.specs.declared.Layout.{Layout}
 use Rattle.blocks.proofs.Layouts.{place-ge, end-ge, end-append, end-near, small-append, lengths-append, laid-then, one-end}
@@ -104,47 +104,27 @@ wide-drop w (suc m) (b ∷ items) h = wide-drop w m items (h .1)
 
 -- those that are cut from a row
 
-pub length-cut : (w n : ℕ) (xs : List ℕ) → length (cut w n xs) ≡ n
-length-cut w zero xs = refl
-length-cut w (suc n) xs = ap suc (length-cut w n (drop w xs))
-
 pub wide-cut : (w n : ℕ) (xs : List ℕ) → w * n ≤ length xs → Wide w (cut w n xs)
+unfolding cut
 wide-cut w zero xs h = tt
 wide-cut w (suc n) xs h =
     let e = mul-suc w n in
     let d = length-drop w xs in
     (length-take-le w xs (omega arith), wide-cut w n (drop w xs) (omega arith))
 
-pub cut-take : (w m n : ℕ) (xs : List ℕ) → m ≤ n → cat (take m (cut w n xs)) ≡ take (w * m) xs
-unfolding cat
-cut-take w zero n xs h = rw mul-zero
-cut-take w (suc m) zero xs h = absurd (omega arith)
-cut-take w (suc m) (suc n) xs h =
+pub cat-take : (w m n : ℕ) (xs : List ℕ) → m ≤ n → cat (take m (cut w n xs)) ≡ take (w * m) xs
+unfolding cat cut
+cat-take w zero n xs h = rw mul-zero
+cat-take w (suc m) zero xs h = absurd (omega arith)
+cat-take w (suc m) (suc n) xs h =
     let e : w * suc m ≡ w + w * m = omega (arith, mul-suc w m) in
-    rw (e, take-add w (w * m) xs, cut-take w m n (drop w xs) (omega arith))
-
-pub cut-drop : (w m n : ℕ) (xs : List ℕ) → m ≤ n → drop m (cut w n xs) ≡ cut w (n - m) (drop (w * m) xs)
-cut-drop w zero n xs h = rw (mul-zero, sub-zero)
-cut-drop w (suc m) zero xs h = absurd (omega arith)
-cut-drop w (suc m) (suc n) xs h =
-    let e : w * suc m ≡ w + w * m = omega (arith, mul-suc w m) in
-    let d : suc n - suc m ≡ n - m = omega arith in
-    rw (e, d, ← drop-drop (w * m) w xs) (cut-drop w m n (drop w xs) (omega arith))
+    rw (e, take-add w (w * m) xs, cat-take w m n (drop w xs) (omega arith))
 
 -- n items, cut, are those that were put in a row
 pub cut-back : (w : ℕ) (items : List (List ℕ)) → Wide w items → cut w (length items) (cat items) ≡ items
-unfolding cat
+unfolding cat cut
 cut-back w [] h = refl
 cut-back w (b ∷ items) h = rw (take-at b (cat items) w (h .0), drop-at b (cat items) w (h .0), cut-back w items (h .1))
-
--- part i of k, which has m items: its bytes, from `first` on, and the rest
-pub parts-turn : (per k i left m w first : ℕ) (xs : List ℕ) → i < k → m ≡ min per left
-    → map cat (chunks (k - i) per (cut w left (drop first xs)))
-    ≡ take (w * m) (drop first xs) ∷ map cat (chunks (k - (i + 1)) per (cut w (left - m) (drop (first + w * m) xs)))
-parts-turn per k i left m w first xs h is =
-    let e : k - i ≡ suc (k - (i + 1)) = omega arith in
-    let l : m ≤ left = omega arith in
-    rw (e, length-cut w left (drop first xs), ← is, cut-take w m left (drop first xs) l, cut-drop w m left (drop first xs) l, drop-drop (w * m) first xs)
 
 -- ---- lengths
 
@@ -252,6 +232,16 @@ pub items-end : {l m : Layout} (w k per n : ℕ) (items : List (List ℕ)) {xs y
     → Laid l (map cat (chunks k per items)) m xs ys → m .at ≡ endOf (l .at) (sizes w (counts k per n))
 items-end {l} w k per n items h e f =
     f .ends ∙ ap (endOf (l .at)) (part-lengths w k per items h) ∙ ap (λ (j : ℕ). endOf (l .at) (sizes w (counts k per j))) e
+
+-- so the layout behind its front has room for its items, and the one behind those for its offsets
+pub front-room : {l m : Layout} (vft w n : ℕ) {xs ys : List ℕ} → Room (l .at) w n (listSizes w n) → Laid l (frontBlocks (l .at) vft w n) m xs ys
+    → Room (m .at) w n (partSizes w n)
+front-room vft w n r f = rw (front-end vft w n f) (room-parts r)
+
+pub items-room : {l m q : Layout} (vft w n : ℕ) (items : List (List ℕ)) {xs ys zs : List ℕ} → Room (l .at) w n (listSizes w n) → Wide w items → length items ≡ n
+    → Laid l (frontBlocks (l .at) vft w n) m xs ys → Laid m (map cat (chunks (partCount w n) (perPart w) items)) q ys zs
+    → Room (q .at) w n (offsetSizes (partCount w n))
+items-room vft w n items r wide e f g = rw (items-end w (partCount w n) (perPart w) n items wide e g, front-end vft w n f) (room-offsets r)
 
 -- behind its header
 pub header-end : {l m : Layout} (vft n table offsets k : ℕ) {xs ys : List ℕ} → Laid l (rowBytes (listRow vft n table offsets k) ∷ []) m xs ys → m .at ≡ behind (l .at) 48

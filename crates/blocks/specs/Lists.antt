@@ -4,7 +4,7 @@ use Prim.Native.Nat.{ℕ, zero, suc, _+_, _-_, _*_, _/_, _^_, _≤_, _<_, min}
 use mathlib.Core.Path.{_≡_}
 use mathlib.Core.List.{List, [], _∷_, _++_, map}
 use lib.ListN.{length, take, drop}
-use Rattle.fields.specs.Bytes.{les, cat}
+use Rattle.fields.specs.Bytes.{les, cat, cut}
 use Rattle.fields.specs.Rows.{rowBytes}
 use Rattle.blocks.specs.Layout.{placeOf, behind, endOf, address}
 
@@ -31,11 +31,7 @@ abbrev pub firsts : ℕ → List ℕ → List ℕ
 firsts f [] = []
 firsts f (m ∷ ms) = f ∷ firsts (f + m) ms
 
--- the items of w bytes that stand in a row in xs, n of them, and all that are whole
-abbrev pub cut : ℕ → ℕ → List ℕ → List (List ℕ)
-cut w zero xs = []
-cut w (suc n) xs = take w xs ∷ cut w n (drop w xs)
-
+-- the items of w bytes that stand in a row in xs, all that are whole
 abbrev pub itemsOf : ℕ → List ℕ → List (List ℕ)
 itemsOf w xs = cut w (length xs / w) xs
 

@@ -3,7 +3,7 @@ use Prim.Native.Nat.{ℕ, _+_, _*_, _%_, _≤_, _<_}
 use mathlib.Core.Path.{_≡_}
 use mathlib.Core.List.{List, [], _∷_}
 use lib.ListN.{length, getD}
-use Rattle.blocks.specs.Layout.{placeOf, startAt, lengths, pagesOf}
+use Rattle.blocks.specs.Layout.{startAt, lengths, pagesOf}
 
 -- each of the sizes is at most a page
 abbrev pub Small : List ℕ → Type 0

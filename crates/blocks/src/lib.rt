@@ -5,10 +5,10 @@ ghost use mathlib.Core.Path.{_≡_};
 ghost use mathlib.Core.List.{[], _∷_, map};
 ghost use Prim.Native.Nat.{_+_, _-_, _*_, _/_, _^_, _≤_, _<_, min};
 ghost use lib.ListN.{length};
-ghost use Rattle.fields.specs.Bytes.{les, zeros, cat, put};
+ghost use Rattle.fields.specs.Bytes.{les, zeros, cat, put, cut};
 ghost use Rattle.fields.specs.Rows.{rowBytes};
 ghost use Rattle.blocks.specs.Layout.{placeOf, behind, endOf, address, layBlock, Laid};
-ghost use Rattle.blocks.specs.Lists.{perPart, partCount, counts, chunks, firsts, cut, itemsOf, sizes, partSizes, offsetSizes, listSizes, tableAt, itemsEnd, offsetsAddress, listRow, partRow, tableBytes, frontBlocks, offsetBlocks, listBlocks, Room};
+ghost use Rattle.blocks.specs.Lists.{perPart, partCount, counts, chunks, firsts, itemsOf, sizes, partSizes, offsetSizes, listSizes, tableAt, itemsEnd, offsetsAddress, listRow, partRow, tableBytes, frontBlocks, offsetBlocks, listBlocks, Room};
 
 const SYSTEM_BASE: usize = 0x5000_0000;
 
@@ -74,7 +74,8 @@ pub fn pad(out: &mut [u8], l: Layout, size: usize) -> usize
     start
 }
 
-fn least(a: usize, b: usize) -> usize
+// The lesser of two.
+pub fn least(a: usize, b: usize) -> usize
     ensures { λ r. ⌜ r ≡ min a b ⌝ }
 {
     if a < b {

@@ -25,10 +25,10 @@ use Rattle.vertices.specs.declared.Numbered.the-variants.{Vertex, Full}
 use Rattle.vertices.proofs.Triples.{length-met}
 use Rattle.vertices.proofs.Numbering.{vertex-in, full-in, count-le}
 use Rattle.pages.specs.Checks.{first}
+use Rattle.pages.proofs.Firsts.{not-none}
 use Rattle.decide.specs.Steps.{EdgeHas, Ready, CornerDone, behind}
 use Rattle.decide.specs.declared.polygons.EdgeAreas.{EdgeAreas}
 use Rattle.decide.specs.declared.polygons.Tables.{Tables}
-use Rattle.decide.proofs.Firsts.{not-none}
 use Rattle.decide.proofs.Behind.{met-set, table-set}
 
 -- ---- an area

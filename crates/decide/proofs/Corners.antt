@@ -18,10 +18,10 @@ use Rattle.distinct.proofs.Left.{drop-more}
 use Rattle.areas.specs.EdgeHalf.{none}
 use Rattle.pages.specs.Items.{Corner, noEdge, tripleIn, cornersOf, named}
 use Rattle.pages.specs.Checks.{cornerFault, cornersFault}
+use Rattle.pages.proofs.Firsts.{first-none, first-some, first-last}
 use Rattle.decide.specs.Steps.{Ready, Added, CornerDone, CornersDone, behind}
 use Rattle.decide.specs.declared.polygons.Tables.{Tables}
 use Rattle.decide.specs.declared.polygons.Met.{Met}
-use Rattle.decide.proofs.Firsts.{first-none, first-some, first-last}
 
 pub later : (w ids : List ℕ) (b m n i j : ℕ) → i ≤ j → Ready w ids b m n i → Ready w ids b m n j
 later w ids b m n i j h r = record { table = r .table; few = omega (arith, r .few); room = r .room; areas = r .areas }
@@ -73,7 +73,7 @@ module _ (w ids : List ℕ) (b m : ℕ) (t : Tables) (item : ℕ) where
 -- ---- the corners as they stand in the strip
 
 -- the edge at a position, where the polygon has more than i edges
-abbrev edgeOr : List ℕ → ℕ → ℕ → ℕ → Edge
+abbrev pub edgeOr : List ℕ → ℕ → ℕ → ℕ → Edge
 edgeOr s e i m = cond (ltb i m) (edgeAt s e) noEdge
 
 module _ (s : List ℕ) (lo size : Floats) (v e i n m : ℕ) (h : i < n) where
@@ -88,7 +88,7 @@ module _ (s : List ℕ) (lo size : Floats) (v e i n m : ℕ) (h : i < n) where
         rw (items-done (edgeAt s) (λ x. x + 6) e i m k, items-done (edgeAt s) (λ x. x + 6) (e + 6) (i + 1) m k', le-ltb i m k)
   ]
 
-  corners-turn : cornersOf lo size (vecsAt s v (n - i)) (edgesAt s e (m - i))
+  pub corners-turn : cornersOf lo size (vecsAt s v (n - i)) (edgesAt s e (m - i))
       ≡ record { vertex = tripleIn lo size (vecAt s v); edge = edgeOr s e i m } ∷ cornersOf lo size (vecsAt s (v + 3) (n - (i + 1))) (edgesAt s (e + 6) (m - (i + 1)))
   corners-turn = rw (items-turn (vecAt s) (λ x. x + 3) v i n h) (edge-on _ _)
 

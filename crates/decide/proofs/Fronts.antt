@@ -28,12 +28,12 @@ use Rattle.vertices.proofs.Numbering.{table-cleared, length-cleared, drop-clear
 use Rattle.vertices.proofs.Enough.{chains-fit}
 use Rattle.pages.specs.Items.{floats, Corner, corners, triples}
 use Rattle.pages.specs.Checks.{Verdict, when, first, at, endlessBox}
+use Rattle.pages.proofs.Firsts.{passed, at-none, at-some}
 use Rattle.decide.specs.Steps.{Ready, PolygonsDone}
 use Rattle.decide.specs.Decide.{onPolygons, beforeLeaves, onScan, chains, most, indicesAt, tablesEnd, Tabled, WellDone, DecideDone}
 use Rattle.decide.specs.declared.polygons.Tables.{Tables}
 use Rattle.decide.specs.declared.polygons.Decided.{Decided}
 use Rattle.decide.specs.declared.Decision.{Decision}
-use Rattle.decide.proofs.Firsts.{passed, at-none, at-some}
 
 -- ---- the tables at the start
 

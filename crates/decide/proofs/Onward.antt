@@ -12,25 +12,20 @@ use Rattle.strip.specs.Cell.{Vec3, Edge, Polygon}
 use Rattle.strip.specs.Reading.{word, vecAt, polyAt, polygonOf, polygonAt, polygonsAt, afterPolygons}
 use Rattle.strip.specs.declared.Poly.{Poly}
 use Rattle.strip.proofs.Steps.{items-length, items-done, polygons-turn, parts, after-polygon, after-ge, next-inside}
-use Rattle.distinct.specs.Distinct.{withNew, indexOf, distinctFrom, numbersFrom}
+use Rattle.distinct.proofs.Laws.{numbers-append}
 use Rattle.distinct.proofs.Left.{drop-more}
 use Rattle.vertices.specs.Table.{met}
 use Rattle.pages.specs.Items.{Corner, gather, cornersOf, cornersIn, corners, triples, named, linksOf}
 use Rattle.pages.specs.Checks.{first, when, at, cornersFault, polygonFault, polygonsVerdict}
 use Rattle.pages.proofs.Accepted.{distinct-append, triples-append, named-append}
+use Rattle.pages.proofs.Firsts.{not-none, first-none, first-some, first-last, first-two, at-none, at-some}
 use Rattle.decide.specs.Steps.{runFault, Ready, Added, CornersDone, PolygonDone, PolygonsDone, behind}
 use Rattle.decide.specs.declared.polygons.Tables.{Tables}
 use Rattle.decide.specs.declared.polygons.Met.{Met}
 use Rattle.decide.specs.declared.polygons.Decided.{Decided}
-use Rattle.decide.proofs.Firsts.{not-none, first-none, first-some, first-last, first-two, at-none, at-some}
 use Rattle.decide.proofs.Corners.{nothing-added}
 
 -- ---- lists in a row
-
-pub numbers-append : (l xs ys : List ℕ) → numbersFrom l (xs ++ ys) ≡ numbersFrom l xs ++ numbersFrom (distinctFrom l xs) ys
-unfolding distinctFrom numbersFrom
-numbers-append l [] ys = refl
-numbers-append l (x ∷ xs) ys = ap (λ (q : List ℕ). indexOf l x ∷ q) (numbers-append (withNew l x) xs ys)
 
 pub length-corners : (lo size : Floats) (vs : List Vec3) (es : List Edge) → length (cornersOf lo size vs es) ≡ length vs
 unfolding cornersOf

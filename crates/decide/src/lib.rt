@@ -9,7 +9,6 @@ ghost use Rattle.pages.specs.Items.{floats};
 ghost use Rattle.pages.specs.Checks.{when, first, endless, endlessVec, endlessBox};
 ghost use Rattle.decide.specs.Decide.{chains, tablesEnd, WellDone, DecideDone};
 use areas::Areas;
-use math::num::float_of_bits;
 use math::vec3::Vec3;
 use polygons::Frame;
 use polygons::Tables;
@@ -35,10 +34,7 @@ pub fn floats_at(strip: &[u32], at: usize) -> Vec3
     requires { ⌜ at + 3 ≤ length (now strip) ⌝ }
     ensures { λ r. ⌜ r ≡ floats (vecAt (now (strip .entry)) at) ⌝ }
 {
-    let x = float_of_bits(strip[at]);
-    let y = float_of_bits(strip[at + 1]);
-    let z = float_of_bits(strip[at + 2]);
-    Vec3 { x, y, z }
+    math::vec3::floats_at(strip, at)
 }
 
 // Whether w is the bits of an infinity or a NaN.

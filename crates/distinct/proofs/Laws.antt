@@ -1,14 +1,14 @@
--- Laws of `indexOf`, `withNew` and `upTo`.
+-- Laws of `indexOf`, `withNew`, `upTo` and `numbersFrom`.
 use Prim.Native.Nat.{ℕ, zero, suc, _+_, _≤_, _<_}
 use native.Mathlib.Omega.{arith}
-use mathlib.Core.Path.{_≡_, refl, sym, _∙_}
+use mathlib.Core.Path.{_≡_, refl, sym, ap, _∙_}
 use mathlib.Core.Bool.{Bool, true, false, cond}
 use mathlib.Core.List.{List, [], _∷_, _++_}
 use lib.ListN.{length, getD, take, length-append}
 use lib.Seq.{getD-take, length-take-le}
 use lib.Dec.{leb, eqb}
 use borrow.Author.Tests.{le-leb, lt-leb, leb-true, ltb-false, eq-eqb, ne-eqb}
-use Rattle.distinct.specs.Distinct.{indexOf, isIn, withNew, upTo}
+use Rattle.distinct.specs.Distinct.{indexOf, isIn, withNew, upTo, distinctFrom, numbersFrom}
 
 -- ---- indexOf
 
@@ -109,3 +109,9 @@ module _ (most : ℕ) (l : List ℕ) (x : ℕ) where
       by : (s : Bool) → leb (length (withNew l x)) most ≡ s → length (cond s (withNew l x) l) ≤ most
       by true e = leb-true (length (withNew l x)) most e
       by false e = few
+
+-- the numbers of two lists in a row
+pub numbers-append : (l xs ys : List ℕ) → numbersFrom l (xs ++ ys) ≡ numbersFrom l xs ++ numbersFrom (distinctFrom l xs) ys
+unfolding distinctFrom numbersFrom
+numbers-append l [] ys = refl
+numbers-append l (x ∷ xs) ys = ap (λ (q : List ℕ). indexOf l x ∷ q) (numbers-append (withNew l x) xs ys)

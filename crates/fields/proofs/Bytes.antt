@@ -129,6 +129,3 @@ length-les n (w ∷ ws) = rw (length-append, length-bytes, length-les n ws, mul-
 pub les-drop : (n : ℕ) (ws : List ℕ) (i : ℕ) → i < length ws → les n (drop i ws) ≡ leBytes n (getD ws i 0) ++ les n (drop (i + 1) ws)
 unfolding les
 les-drop n ws i h = rw (add-one, drop-cons ws i 0)
-
-pub length-les-drop : (n : ℕ) (ws : List ℕ) (i : ℕ) → i < length ws → length (les n (drop i ws)) ≡ n + length (les n (drop (i + 1) ws))
-length-les-drop n ws i h = rw (les-drop n ws i h, length-append, length-bytes)

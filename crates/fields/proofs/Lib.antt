@@ -1,5 +1,6 @@
 pub mod Bytes
 pub mod Puts
+pub mod Cuts
 pub mod Holds
 pub mod Rows
 pub mod Examples

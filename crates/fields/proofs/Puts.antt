@@ -7,7 +7,7 @@ use native.Mathlib.Nat.{zero-add, add-zero, add-suc, suc-add, not-suc-le-zero, l
 use native.Mathlib.Numerals.{add-one}
 use native.Mathlib.Omega.{arith}
 use lib.ListN.{length, length-set, take, drop, set, getD}
-use lib.Seq.{set-out, getD-set-same, getD-set-other}
+use lib.Seq.{sets, set-out, getD-set-same, getD-set-other}
 use Rattle.fields.specs.Bytes.{over, put, le, leBytes, les}
 use Rattle.fields.proofs.Bytes.{same, length-bytes, bytes-join, bytes-mod, le-bytes, les-drop}
 
@@ -56,6 +56,19 @@ put-cons (suc at) b bs (x ∷ xs) = ap (λ (l : List ℕ). x ∷ l) (put-cons at
 
 pub put-one : (at b : ℕ) (xs : List ℕ) → put at (b ∷ []) xs ≡ set xs at b
 put-one at b xs = put-cons at b [] xs ∙ put-nil (suc at) (set xs at b)
+
+-- a run is its elements, stored one by one
+pub put-sets : (bs : List ℕ) (at : ℕ) (xs : List ℕ) → sets xs at bs ≡ put at bs xs
+put-sets [] at xs = sym (put-nil at xs)
+put-sets (b ∷ bs) at xs = put-sets bs (suc at) (set xs at b) ∙ sym (put-cons at b bs xs)
+
+pub put-two : (at a b : ℕ) (xs : List ℕ) → set (set xs at a) (at + 1) b ≡ put at (a ∷ b ∷ []) xs
+put-two at a b xs = rw (add-one at) (put-sets (a ∷ b ∷ []) at xs)
+
+pub put-three : (at a b c : ℕ) (xs : List ℕ) → set (set (set xs at a) (at + 1) b) (at + 2) c ≡ put at (a ∷ b ∷ c ∷ []) xs
+put-three at a b c xs =
+    let e : at + 2 ≡ suc (suc at) = omega arith in
+    rw (add-one at, e) (put-sets (a ∷ b ∷ c ∷ []) at xs)
 
 -- past the end it changes nothing
 pub past-end : (at : ℕ) (bs xs : List ℕ) → length xs ≤ at → put at bs xs ≡ xs

@@ -1,7 +1,7 @@
--- Bytes in a list: little-endian numbers of any width, and a run of elements stored at a place. Definitions only.
+-- Bytes in a list: little-endian numbers of any width, items of one width, and a run of elements stored at a place. Definitions only.
 use Prim.Native.Nat.{ℕ, zero, suc, _+_, _*_, _/_, _%_}
 use mathlib.Core.List.{List, [], _∷_, _++_}
-use lib.ListN.{getD, replicate}
+use lib.ListN.{getD, take, drop, replicate}
 
 -- the little-endian value of the n bytes of s from off on; a byte past the end counts as 0
 unfoldable pub le : ℕ → List ℕ → ℕ → ℕ
@@ -26,6 +26,11 @@ zeros n = replicate n 0
 unfoldable pub cat {ℓ} : {A : Type ℓ} → List (List A) → List A
 cat [] = []
 cat (xs ∷ xss) = xs ++ cat xss
+
+-- n items of w bytes each, from the front of bs
+unfoldable pub cut : ℕ → ℕ → List ℕ → List (List ℕ)
+cut w zero bs = []
+cut w (suc n) bs = take w bs ∷ cut w n (drop w bs)
 
 -- xs with its first elements replaced by bs, and as long as it was
 unfoldable pub over : List ℕ → List ℕ → List ℕ

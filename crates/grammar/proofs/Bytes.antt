@@ -6,10 +6,10 @@ use Prim.Native.Nat.{ℕ, zero, suc, _+_, _-_}
 use native.Mathlib.Omega.{arith}
 use lib.Dec.{leb}
 use lib.ListN.{length, take, drop}
-use Rattle.fields.specs.Bytes.{le}
+use Rattle.fields.specs.Bytes.{le, cut}
 use Rattle.resource.specs.Section.{inGraphics, inSystem, part, resolved}
 use Rattle.strip.specs.Cell.{All}
-use Rattle.grammar.specs.Parts.{Good, cut, Array}
+use Rattle.grammar.specs.Parts.{Good, Array}
 use Rattle.grammar.specs.Trees.{Data, no-data, data-at, Trees}
 use Rattle.grammar.specs.Lists.{Parts, no-part, skipped, part as one-part, Items, empty, some}
 use Rattle.grammar.specs.Formed.{Bytes}

@@ -5,11 +5,11 @@ use Prim.Native.Nat.{ℕ, _+_, _<_}
 use native.Mathlib.Nat.{mul-zero}
 use native.Mathlib.Omega.{arith}
 use lib.ListN.{length}
-use Rattle.fields.specs.Bytes.{le, leBytes, cat}
+use Rattle.fields.specs.Bytes.{le, leBytes, cat, cut}
 use Rattle.fields.specs.Rows.{rowBytes, pack}
 use Rattle.resource.specs.Section.{part, resolved}
 use Rattle.strip.specs.Cell.{vecWords, headWords, each, encodeAs}
-use Rattle.grammar.specs.Parts.{Good, cut, Array}
+use Rattle.grammar.specs.Parts.{Good, Array}
 use Rattle.grammar.specs.Trees.{Data, data-at, subsTo, Trees, Tree}
 use Rattle.grammar.specs.Lists.{no-table, no-part, Items, some}
 use Rattle.grammar.specs.Polygons.{none}

@@ -14,7 +14,7 @@ use lib.Ieee.Scale.{finite}
 use lib.Ieee.Fits.{add-fits}
 use lib.Ieee.Bits.{ofBits-toBits, toBits-lt}
 use borrow.Author.Tests.{lt-ltb}
-use Rattle.fields.specs.Bytes.{le}
+use Rattle.fields.specs.Bytes.{le, cut}
 use Rattle.fields.specs.Rows.{field}
 use Rattle.fields.proofs.Bytes.{le-lt}
 use Rattle.fields.proofs.Rows.{pack-lt}
@@ -26,7 +26,6 @@ use Rattle.resource.specs.Section.{resolved}
 use Rattle.strip.specs.Cell.{Vec3, Polygon, Portal, Point, Head, Cell, All, HalfFits, EdgeFits, PolygonFits, PortalFits, PointFits, Fits, Words, InRange, each, vecWords, halfWords, edgeWords, polygonHeadAs, polygonWordsAs, polygonWords, portalWords, pointWords, headWords, endWords, encodeAs, encode}
 use Rattle.strip.specs.Scan.{Scanned, scan}
 use Rattle.strip.proofs.Exact.{scan-fits}
-use Rattle.grammar.specs.Parts.{cut}
 use Rattle.grammar.specs.Polygons.{halfOf, edgeOf, vertexOf, linksAt, linkRun, countOf, startOf, runOf, PolygonOf}
 use Rattle.grammar.specs.Derives.{areaOf, vecOf, Finite, AllFinite, headOf, axis, backOf, portalOf, pointOf, Makes, Derives}
 use Rattle.grammar.specs.Formed.{Bytes, AllNumbers, Ends, Positions, Shaped}

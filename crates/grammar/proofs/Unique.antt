@@ -4,9 +4,9 @@ use mathlib.Core.List.{List, _++_, map}
 use Prim.Native.Nat.{ℕ, suc, _*_, _<_}
 use native.Mathlib.Nat.{mul-zero}
 use native.Mathlib.Omega.{arith}
-use Rattle.fields.specs.Bytes.{le}
+use Rattle.fields.specs.Bytes.{le, cut}
 use Rattle.strip.specs.Cell.{Vec3, Edge, Polygon, Portal, Point, Head, Cell, encode}
-use Rattle.grammar.specs.Parts.{Good, cut, Array}
+use Rattle.grammar.specs.Parts.{Good, Array}
 use Rattle.grammar.specs.Trees.{Data, no-data, data-at, Trees}
 use Rattle.grammar.specs.Lists.{Table, no-table, table, Parts, no-part, skipped, part, ListAt, Items, empty, some}
 use Rattle.grammar.specs.Polygons.{PolygonOf, Each, none, more}

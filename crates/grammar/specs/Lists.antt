@@ -1,10 +1,10 @@
 -- The grammar of lists: header, part table, parts. Definitions only.
-use Prim.Native.Nat.{ℕ, zero, suc, _+_, _*_, _<_}
+use Prim.Native.Nat.{ℕ, suc, _+_, _*_, _<_}
 use mathlib.Core.Path.{_≡_}
-use mathlib.Core.List.{List, [], _∷_, _++_}
+use mathlib.Core.List.{List, [], _++_}
 use lib.ListN.{length}
-use Rattle.fields.specs.Bytes.{le}
-use Rattle.grammar.specs.Parts.{Good, cut}
+use Rattle.fields.specs.Bytes.{le, cut}
+use Rattle.grammar.specs.Parts.{Good}
 
 -- the part table of k parts at an address, 16 bytes each, unless k is 0
 pub data Table (system graphics : List ℕ) (va : ℕ) : ℕ → List ℕ → Type 0 where

@@ -1,8 +1,9 @@
 -- Parts of the two lent sections, and the items that a part holds. Definitions only.
-use Prim.Native.Nat.{ℕ, zero, suc, _*_, _<_}
+use Prim.Native.Nat.{ℕ, suc, _*_, _<_}
 use mathlib.Core.Path.{_≡_}
-use mathlib.Core.List.{List, [], _∷_}
-use lib.ListN.{length, take, drop}
+use mathlib.Core.List.{List, []}
+use lib.ListN.{length}
+use Rattle.fields.specs.Bytes.{cut}
 use Rattle.resource.specs.Section.{resolved}
 
 -- The n bytes at an address are a good part, with some bytes, and are b. A part is good when it is non-null and inside its section: then
@@ -11,11 +12,6 @@ pub record Good (system graphics : List ℕ) (va n : ℕ) (b : List ℕ) : Type 
   pub some : 0 < n
   pub there : resolved system graphics va n ≡ b
   pub whole : length b ≡ n
-
--- n items of w bytes each, from the front of bs
-unfoldable pub cut : ℕ → ℕ → List ℕ → List (List ℕ)
-cut w zero bs = []
-cut w (suc n) bs = take w bs ∷ cut w n (drop w bs)
 
 -- n items of w bytes each at an address: a good part if there is any
 pub data Array (system graphics : List ℕ) (w va : ℕ) : ℕ → List (List ℕ) → Type 0 where

@@ -5,11 +5,10 @@ use mathlib.Core.Bool.{cond}
 use mathlib.Core.List.{List, [], _∷_, map}
 use lib.ListN.{length, take, drop, getD}
 use lib.Dec.{leb}
-use Rattle.fields.specs.Bytes.{le}
+use Rattle.fields.specs.Bytes.{le, cut}
 use Rattle.fields.specs.Rows.{field}
 use Rattle.resource.specs.Section.{resolved}
 use Rattle.strip.specs.Cell.{Vec3, Half, Edge, Polygon, All}
-use Rattle.grammar.specs.Parts.{cut}
 
 -- an edge's half: area index in bits 0-4, poly 5-18, unk2 19-20, unk3 21-31
 unfoldable pub halfOf : (ℕ → ℕ) → ℕ → Half

@@ -1,12 +1,13 @@
 -- What the C entries answer where a leaf answers an enum or a struct: the numbers that stand for it. Definitions only.
-use Prim.Native.Nat.{ℕ, zero, suc, _+_, _*_}
+use Prim.Native.Nat.{ℕ, zero, suc, _*_}
 use mathlib.Core.Bool.{cond}
 use mathlib.Core.List.{List, [], _∷_, _++_}
 use lib.ListN.{length, getD}
 use lib.Dec.{ltb, eqb}
 use lib.IntN.{ℤ}
-use lib.Ieee.{Float, binary32, ofBits}
+use lib.Ieee.{Float}
 use Rattle.math.specs.declared.vec3.Vec3.{Vec3}
+use Rattle.math.specs.Floats.{floatsAt}
 use Rattle.quantise.specs.Short.{short}
 use Rattle.quantise.specs.Quarter.{quarterFloor, quarterCeil}
 use Rattle.areas.specs.declared.AreaAnswer.{AreaAnswer}
@@ -29,16 +30,12 @@ abbrev pub indexOrFull : AreaAnswer → ℕ
 indexOrFull (At i) = i
 indexOrFull Full = 32
 
--- the vertex of the three words from `at` on, floats as their bits
-abbrev pub vertexAt : List ℕ → ℕ → Vec3
-vertexAt ws at = record { x = ofBits binary32 (getD ws at 0); y = ofBits binary32 (getD ws (at + 1) 0); z = ofBits binary32 (getD ws (at + 2) 0) }
-
 -- the shorts of the first n vertices, three to a vertex, in the box of lo and size
 unfoldable pub shortsTo : List ℕ → Vec3 → Vec3 → ℕ → List ℕ
 shortsTo ws lo size zero = []
 shortsTo ws lo size (suc n) =
     shortsTo ws lo size n
-    ++ (short (vertexAt ws (3 * n) .x) (lo .x) (size .x) ∷ short (vertexAt ws (3 * n) .y) (lo .y) (size .y) ∷ short (vertexAt ws (3 * n) .z) (lo .z) (size .z) ∷ [])
+    ++ (short (floatsAt ws (3 * n) .x) (lo .x) (size .x) ∷ short (floatsAt ws (3 * n) .y) (lo .y) (size .y) ∷ short (floatsAt ws (3 * n) .z) (lo .z) (size .z) ∷ [])
 
 -- how many vertices there are; 65537 where there are too many, 65538 where there is too little work
 abbrev pub counted : All → ℕ

@@ -15,11 +15,12 @@ ghost use Rattle.vertices.specs.Vertices.{answerWith};
 ghost use Rattle.strip.specs.Outcome.{shown};
 ghost use Rattle.strip.specs.Check.{stripOutcome};
 ghost use Rattle.blocks.specs.Layout.{placeOf};
-ghost use Rattle.leaves.specs.Entries.{sideOf, seedAt, indexOrFull, vertexAt, shortsTo, counted, numberOf, answerOf};
+ghost use Rattle.math.specs.Floats.{floatsAt};
+ghost use Rattle.leaves.specs.Entries.{sideOf, seedAt, indexOrFull, shortsTo, counted, numberOf, answerOf};
 use areas::AreaAnswer;
 use math::num::bits_of_float;
 use math::num::float_of_bits;
-use math::vec3::Vec3;
+use math::vec3::floats_at;
 use quantise::quarter::bits16_of;
 use quantise::quarter::quarter_ceil;
 use quantise::quarter::quarter_floor;
@@ -106,17 +107,6 @@ fn store(out: &mut [u32], at: usize, q: Shorts)
     out[at + 2] = q.z as u32;
 }
 
-fn vertex(words: &[u32], at: usize) -> Vec3
-    requires { ⌜ at + 3 ≤ length (now words) ⌝ }
-    ensures { λ r. ⌜ r ≡ vertexAt (now (words .entry)) at ⌝ }
-{
-    Vec3 {
-        x: float_of_bits(words[at]),
-        y: float_of_bits(words[at + 1]),
-        z: float_of_bits(words[at + 2]),
-    }
-}
-
 fn fewer(a: usize, b: usize) -> usize
     ensures { λ r. ⌜ r ≡ min a b ⌝ }
 {
@@ -130,14 +120,14 @@ fn fewer(a: usize, b: usize) -> usize
 #[no_mangle]
 pub extern "C" fn leaf_quantise_all(vertices: &[u32], bounds: &[u32; 6], out: &mut [u32]) -> usize
     ensures { λ r. ⌜ r ≡ min (length (now (vertices .entry)) / 3) (length (now (out .entry)) / 3) ⌝ }
-    ensures { λ r. ⌜ now (out .exit) ≡ over (shortsTo (now (vertices .entry)) (vertexAt (now (bounds .entry)) 0) (vertexAt (now (bounds .entry)) 3) r) (now (out .entry)) ⌝ }
+    ensures { λ r. ⌜ now (out .exit) ≡ over (shortsTo (now (vertices .entry)) (floatsAt (now (bounds .entry)) 0) (floatsAt (now (bounds .entry)) 3) r) (now (out .entry)) ⌝ }
 {
-    let lo = vertex(bounds, 0);
-    let size = vertex(bounds, 3);
+    let lo = floats_at(bounds, 0);
+    let size = floats_at(bounds, 3);
     let n = fewer(vertices.len() / 3, out.len() / 3);
     let mut i = 0;
     while i < n {
-        let q = quantise::short::quantise(vertex(vertices, 3 * i), lo, size);
+        let q = quantise::short::quantise(floats_at(vertices, 3 * i), lo, size);
         store(out, 3 * i, q);
         i += 1;
     }

@@ -7,10 +7,10 @@ use mathlib.Core.Bool.{true}
 use mathlib.Core.List.{List, [], _∷_, _++_, append-assoc, append-nil}
 use mathlib.Core.Logic.{⊎-elim}
 use lib.ListN.{length}
-use Rattle.fields.specs.Bytes.{le}
+use Rattle.fields.specs.Bytes.{le, cut}
 use Rattle.resource.specs.Section.{resolved}
 use Rattle.strip.specs.declared.Refusal.{Refusal}
-use Rattle.grammar.specs.Parts.{Good, cut}
+use Rattle.grammar.specs.Parts.{Good}
 use Rattle.grammar.specs.Lists.{Table, no-table, table, Parts, no-part, skipped, part, ListAt, Items as ItemsAt, empty, some}
 use Rattle.grammar.proofs.Parts.{list-length}
 use Rattle.lists.specs.declared.ListAnswer.the-variants.{Items, Refused}

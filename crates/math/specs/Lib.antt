@@ -1,1 +1,2 @@
 pub mod MinMax
+pub mod Floats

@@ -1,8 +1,12 @@
 // A vector of three floats, by value.
 ghost use mathlib.Core.Path.{_≡_};
+ghost use Prim.Native.Nat.{_+_, _≤_};
+ghost use lib.ListN.{length};
+ghost use Rattle.math.specs.Floats.{floatsAt};
 ghost use Rattle.math.specs.MinMax.{IsMin, IsMax};
 use super::num::f32_max;
 use super::num::f32_min;
+use super::num::float_of_bits;
 
 pub struct Vec3 {
     pub x: f32,
@@ -38,4 +42,15 @@ impl Vec3 {
             z: f32_max(self.z, rhs.z),
         }
     }
+}
+
+// The three floats whose bits are the words from `at` on.
+pub fn floats_at(words: &[u32], at: usize) -> Vec3
+    requires { ⌜ at + 3 ≤ length (now words) ⌝ }
+    ensures { λ r. ⌜ r ≡ floatsAt (now (words .entry)) at ⌝ }
+{
+    let x = float_of_bits(words[at]);
+    let y = float_of_bits(words[at + 1]);
+    let z = float_of_bits(words[at + 2]);
+    Vec3 { x, y, z }
 }

@@ -1,5 +1,6 @@
 pub mod Lists
 pub mod Sizes
+pub mod Firsts
 pub mod Accepted
 pub mod Placed
 pub mod Examples

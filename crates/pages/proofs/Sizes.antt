@@ -11,14 +11,14 @@ use Rattle.fields.proofs.Rows.{length-rows}
 use Rattle.math.specs.declared.vec3.Vec3.{Vec3 as Floats}
 use Rattle.quantise.specs.declared.bounds.Aabb.{Aabb}
 use Rattle.strip.specs.Cell.{Polygon, Portal, Point, Head, Cell}
-use Rattle.blocks.specs.Layout.{placeOf, endOf, address, lengths, pagesOf}
+use Rattle.blocks.specs.Layout.{endOf, lengths, pagesOf}
 use Rattle.blocks.specs.Lists.{Wide, listSizes, listBlocks}
 use Rattle.blocks.proofs.Layouts.{lengths-append, length-blocks}
 use Rattle.blocks.proofs.Lists.{length-cat, list-lengths}
 use Rattle.pages.specs.Items.{Corner, vertexRow, indexRow, edgeRow, polygonRow, vertexItems, indexItems, edgeItems, polygonItems}
-use Rattle.pages.specs.Optional.{blockOf, sizeOf, addressOf}
+use Rattle.pages.specs.Optional.{blockOf, sizeOf}
 use Rattle.pages.specs.Sectors as Sectors
-use Rattle.pages.specs.Sectors.{Sector, sectorRow, dataRow, idsFrom, pointsFrom, dataFrom, sectorAddress, from0, from1, from2, from3, pointCount, pointRow, pointItems, leafBlocks, treeBlocks}
+use Rattle.pages.specs.Sectors.{Sector, sectorRow, sectorAddress, from0, from1, from2, from3, pointCount, pointRow, pointItems, leafBlocks, treeBlocks}
 use Rattle.pages.specs.Sectors.Sector.{leaf, node}
 use Rattle.pages.specs.Pages.{Places, Counts, portalRow, portalItems, headerFirst, headerLast, padded, headerBytes, allCorners, loOf, extentOf, vertices, areas, links, sectors, counts, sizesOf, endHeader, endVertices, endIndices, endEdges, endPolygons, placesOf, sizes, header, blocks, pages}
 
@@ -105,15 +105,7 @@ module _ (lo size : Floats) where
   leaf-lengths end first b is ts =
       let m : ℕ = length is in
       let n : ℕ = length ts in
-      let d = rowBytes (dataRow first (addressOf (idsFrom end) (2 * m)) (addressOf (pointsFrom end m) (8 * n)) m n) in
-      rw (
-        length-rows (sectorRow b (address (placeOf (dataFrom end m n) 32)) 0 0 0 0),
-        lengths-append (blockOf (les 2 is)) (blockOf (cat (pointItems lo size ts)) ++ (d ∷ [])),
-        lengths-append (blockOf (cat (pointItems lo size ts))) (d ∷ []),
-        block-size (2 * m) (les 2 is) (length-les 2 is),
-        block-size (8 * n) (cat (pointItems lo size ts)) (length-points lo size ts),
-        length-rows (dataRow first (addressOf (idsFrom end) (2 * m)) (addressOf (pointsFrom end m) (8 * n)) m n),
-      )
+      simp (length-rows, lengths-append, block-size (2 * m) (les 2 is) (length-les 2 is), block-size (8 * n) (cat (pointItems lo size ts)) (length-points lo size ts))
 
   pub tree-lengths : (end first : ℕ) (t : Sector) → lengths (treeBlocks lo size end first t) ≡ Sectors.sizes t
   unfolding treeBlocks Sectors.sizes

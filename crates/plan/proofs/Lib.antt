@@ -2,3 +2,4 @@ pub mod Stored
 pub mod Rest
 pub mod Whole
 pub mod Verdicts
+pub mod Ready

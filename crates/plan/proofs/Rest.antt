@@ -1,10 +1,10 @@
 -- What stands behind the tables: there is room for it, and the tree by its words is the cell's. Assumes nothing.
-use Prim.Native.Nat.{ℕ, zero, suc, _+_, _*_, _/_, _%_, _^_, _≤_}
+use Prim.Native.Nat.{ℕ, zero, suc, _+_, _-_, _*_, _/_, _%_, _^_, _≤_}
 use native.Mathlib.Omega.{arith}
 use native.Mathlib.Nat.{add-zero}
 use mathlib.Core.Path.{_≡_, refl, ap, sym, _∙_}
 use mathlib.Core.List.{List, [], _∷_, _++_, append-assoc}
-use lib.ListN.{length, getD, length-append}
+use lib.ListN.{length, getD, take, drop, length-append}
 use lib.Seq.{getD-append-add}
 use Rattle.fields.specs.Bytes.{put}
 use Rattle.fields.proofs.Puts.{put-next}
@@ -22,7 +22,7 @@ use Rattle.quadtree.specs.Work.{treeBy, Tells, BoxesHeld, LeavesHeld}
 use Rattle.quadtree.proofs.Held.{tree-held}
 use Rattle.decide.specs.Decide.{tablesEnd}
 use Rattle.decide.proofs.Fronts.{chains-in}
-use Rattle.plan.specs.Plan.{boxWords, boxes, leafWords, portalsEnd, pointsIn, restWords}
+use Rattle.plan.specs.Plan.{boxWords, boxes, leafWords, portalsEnd, pointsIn, restWords, WorkHeld}
 
 -- ---- room: a polygon has four words or more, and a point four
 
@@ -86,18 +86,40 @@ leaves-in bs pre (t ∷ ts) =
     let rest : LeavesHeld bs ((pre ++ one) ++ leafWords bs ts) (length (pre ++ one)) ts = leaves-in bs (pre ++ one) ts in
     (zero', rw (append-assoc, next) at rest)
 
-pub leaf-told : (s : List ℕ) (n : Counts) (bw lw : List ℕ) (b : Aabb) (r : Refusal)
-    → bw ≡ boxes (polygonsAt s 14 (n .polys)) → lw ≡ leafWords (leaves (depthOf (headAt s 0)) (rootBox (headAt s 0))) (pointsIn s n) → b ≡ rootBox (headAt s 0)
-    → ((ts : List Point) → length ts ≡ length lw → Tells r 0 (leafCounts (treeBy bw lw ts (depthBy (word s 1 / 2 ^ 2 % 2)) 0 b)))
-    → (rest : Verdict) → at (r .place) (r .number) rest ≡ leavesVerdict 0 (leafCounts (treeOf (headAt s 0) (polygonsAt s 14 (n .polys)) (pointsIn s n))) rest
-unfolding headAt
-leaf-told s n bw lw b r eb el er tells rest =
-    let ps = polygonsAt s 14 (n .polys) in
-    let ts = pointsIn s n in
-    let bs = leaves (depthOf (headAt s 0)) (rootBox (headAt s 0)) in
-    let many : length ts ≡ length lw = rw el (sym (length-leaves bs ts)) in
-    let held : BoxesHeld bw 0 ps = rw eb (boxes-in [] ps) in
-    let leafs : LeavesHeld bs lw 0 ts = rw el (leaves-in bs [] ts) in
-    let size : length bw ≡ 3 * length ps = rw eb (length-boxes ps) in
-    tells ts many rest ∙ ap (λ (c : Aabb). leavesVerdict 0 (leafCounts (treeBy bw lw ts (depthOf (headAt s 0)) 0 c)) rest) er
-    ∙ ap (λ (t : Sector). leavesVerdict 0 (leafCounts t) rest) (tree-held (headAt s 0) ps ts bw lw size held leafs)
+-- the words that work w holds behind the tables
+module _ (s w : List ℕ) (n : Counts) (held : WorkHeld s n w) (from : ℕ) (here : from ≡ tablesEnd (length s)) where
+  abbrev pub boxPart : List ℕ
+  boxPart = take (from + 3 * n .polys - from) (drop from w)
+
+  abbrev pub leafPart : List ℕ
+  leafPart = take (from + 3 * n .polys + n .points - (from + 3 * n .polys)) (drop (from + 3 * n .polys) w)
+
+  pub box-part : boxPart ≡ boxes (polygonsAt s 14 (n .polys))
+  box-part = let m : from + 3 * n .polys - from ≡ 3 * n .polys = omega arith in rw (m, here) (held .boxes-held)
+
+  pub leaf-part : leafPart ≡ leafWords (leaves (depthOf (headAt s 0)) (rootBox (headAt s 0))) (pointsIn s n)
+  leaf-part =
+      let m : from + 3 * n .polys + n .points - (from + 3 * n .polys) ≡ n .points = omega arith in
+      rw (m, here) (held .leaves-held)
+
+  -- a word to a point
+  pub part-long : length (pointsIn s n) ≡ length leafPart
+  part-long = rw leaf-part (sym (length-leaves (leaves (depthOf (headAt s 0)) (rootBox (headAt s 0))) (pointsIn s n)))
+
+  -- the tree by the words is the cell's
+  pub part-tree : (b : Aabb) → b ≡ rootBox (headAt s 0)
+      → treeBy boxPart leafPart (pointsIn s n) (depthBy (word s 1 / 2 ^ 2 % 2)) 0 b ≡ treeOf (headAt s 0) (polygonsAt s 14 (n .polys)) (pointsIn s n)
+  unfolding headAt
+  part-tree b root =
+      let ps = polygonsAt s 14 (n .polys) in
+      let ts = pointsIn s n in
+      let bs = leaves (depthOf (headAt s 0)) (rootBox (headAt s 0)) in
+      let boxes-are : BoxesHeld boxPart 0 ps = rw box-part (boxes-in [] ps) in
+      let leaves-are : LeavesHeld bs leafPart 0 ts = rw leaf-part (leaves-in bs [] ts) in
+      let size : length boxPart ≡ 3 * length ps = rw box-part (length-boxes ps) in
+      ap (λ (c : Aabb). treeBy boxPart leafPart ts (depthOf (headAt s 0)) 0 c) root ∙ tree-held (headAt s 0) ps ts boxPart leafPart size boxes-are leaves-are
+
+  pub leaf-told : (b : Aabb) (r : Refusal) → b ≡ rootBox (headAt s 0)
+      → ((ts : List Point) → length ts ≡ length leafPart → Tells r 0 (leafCounts (treeBy boxPart leafPart ts (depthBy (word s 1 / 2 ^ 2 % 2)) 0 b)))
+      → (rest : Verdict) → at (r .place) (r .number) rest ≡ leavesVerdict 0 (leafCounts (treeOf (headAt s 0) (polygonsAt s 14 (n .polys)) (pointsIn s n))) rest
+  leaf-told b r root tells rest = tells (pointsIn s n) part-long rest ∙ ap (λ (t : Sector). leavesVerdict 0 (leafCounts t) rest) (part-tree b root)

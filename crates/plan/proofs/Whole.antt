@@ -21,11 +21,12 @@ use Rattle.vertices.specs.Table.{tripleAt, met}
 use Rattle.vertices.proofs.Triples.{met-ext}
 use Rattle.pages.specs.Sectors.{leaves, depthOf, rootBox, leafCounts, treeOf}
 use Rattle.pages.specs.Pages.{links, sectors}
-use Rattle.pages.specs.Checks.{Verdict, fine, refused, when, first, at, leavesVerdict}
+use Rattle.pages.specs.Checks.{Verdict, fine, when, first, at, leavesVerdict}
+use Rattle.pages.proofs.Firsts.{at-none, at-some, passed}
 use Rattle.decide.specs.Decide.{beforeLeaves, onScan, told, chains, indicesAt, tablesEnd, Tabled, DecideDone}
 use Rattle.decide.specs.declared.Decision.{Decision}
-use Rattle.decide.proofs.Firsts.{at-none, at-some, passed}
 use Rattle.plan.specs.Plan.{boxes, leafWords, portalsEnd, pointsIn, restWords, WorkHeld, afterPolygonChecks, faulted, Planned}
+use Rattle.plan.proofs.Verdicts.{scanned-cell, cell-at}
 use Rattle.plan.proofs.Rest.{rest-fits, length-boxes, length-leaves, poly-count, point-count}
 
 -- ---- a store behind what is read
@@ -40,7 +41,7 @@ module _ (p : ℕ) (bs xs : List ℕ) where
       getD-take k (drop i (put p bs xs)) j 0 less ∙ getD-drop i (put p bs xs) j 0 ∙ before p bs xs (i + j) (omega arith)
       ∙ sym (getD-take k (drop i xs) j 0 less ∙ getD-drop i xs j 0))
 
-  drop-behind : (e : ℕ) → p + length bs ≤ e → drop e (put p bs xs) ≡ drop e xs
+  pub drop-behind : (e : ℕ) → p + length bs ≤ e → drop e (put p bs xs) ≡ drop e xs
   drop-behind e h =
       ext-getD 0 (drop e (put p bs xs)) (drop e xs)
       (rw (length-drop e (put p bs xs), length-drop e xs, length-put p bs xs))
@@ -85,18 +86,15 @@ module _ (s w w' : List ℕ) (d : Decision) (D : DecideDone s w w' d) where
       by rest (fault n p) e = rw e at (D .verdict rest)
 
   module _ (z : d .fault ≡ 0) where
-    found : (x : Scanned) → scan s ≡ x → (c : Cell) × (scan s ≡ Scanned.ok c)
-    found (ok c) e = (c, e)
-    found (fault n p) e =
-        let no : fine ≡ refused n p = sym (at-none (d .place) (d .fault) fine z) ∙ (rw e at (D .verdict fine)) in
-        let y : _≡_ {A = ℕ} 0 1 = cc in absurd (omega arith)
+    found : (c : Cell) × (scan s ≡ Scanned.ok c)
+    found = scanned-cell s d (beforeLeaves (length s) (length w) fine) (D .verdict fine) z
 
     cell : Cell
-    cell = found (scan s) refl .0
+    cell = found .0
 
     is : scan s ≡ Scanned.ok cell
     unfolding cell
-    is = found (scan s) refl .1
+    is = found .1
 
     laid : LaidOut s cell
     laid = rw is at (laid-out s)
@@ -140,10 +138,7 @@ module _ (s w w' : List ℕ) (d : Decision) (D : DecideDone s w w' d) where
 
       sectors-are : sectors cell ≡ treeOf (headAt s 0) (polygonsAt s 14 (d .counts .polys)) (pointsIn s (d .counts))
       unfolding sectors
-      sectors-are =
-          let ps : cell .polys ≡ polygonsAt s 14 (d .counts .polys) = laid .body .polys ∙ ap (λ (n : Counts). polygonsAt s 14 (n .polys)) (sym (D .counts z cell is)) in
-          let ts : cell .points ≡ pointsIn s (d .counts) = laid .body .points ∙ ap (λ (n : Counts). pointsIn s n) (sym (D .counts z cell is)) in
-          rw (laid .head, ps, ts)
+      sectors-are = ap sectors (cell-at s cell (d .counts) is (D .counts z cell is))
 
       front-said : (rest : Verdict) → onScan (λ c. beforeLeaves (length s) (length w) (afterPolygonChecks rest c) c) (scan s) ≡ afterPolygonChecks rest cell
       front-said rest = rw is (sym (sym (at-none (d .place) (d .fault) (afterPolygonChecks rest cell) z) ∙ (rw is at (D .verdict (afterPolygonChecks rest cell)))))

@@ -66,18 +66,19 @@ fn put_leaves(
     requires { ⌜ (first + 4 * n ≤ length (now strip)) × (base + n ≤ length (now work)) ⌝ }
     ensures { λ _. ⌜ now (work .exit) ≡ put base (leafWords (leaves (depthBy (content / 2 ^ 2 % 2)) b) (pointsAt (now (strip .entry)) first n)) (now (work .entry)) ⌝ }
 {
+    let lines = quadtree::boxes::lines_of(b);
     let mut at = first;
     let mut i: usize = 0;
     while i < n {
         let p = decide::floats_at(strip, at + 1);
-        work[base + i] = quadtree::boxes::leaf_of(content, b, p);
+        work[base + i] = quadtree::boxes::leaf_of(content, b, lines, p);
         at += 4;
         i += 1;
     }
 }
 
 // The box that splits into leaves: bb_min to bb_max.
-fn root_box(strip: &[u32]) -> Aabb
+pub fn root_box(strip: &[u32]) -> Aabb
     requires { ⌜ 14 ≤ length (now strip) ⌝ }
     ensures { λ r. ⌜ r ≡ rootBox (headAt (now (strip .entry)) 0) ⌝ }
 {

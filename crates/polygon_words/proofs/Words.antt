@@ -7,36 +7,26 @@ use mathlib.Core.Path.{_≡_, refl, sym, ap, _∙_}
 use mathlib.Core.Bool.{Bool, true, false, cond, _&&_}
 use mathlib.Core.List.{List, [], _∷_, map}
 use lib.Dec.{leb, ltb}
-use lib.Ieee.{binary32, toBits}
 use lib.ListN.{length, take, drop, getD, set, length-take, length-drop, List·getD-map, drop-of-length-le}
 use lib.Seq.{drop-cons, getD-take, getD-drop}
 use borrow.Author.Tests.{leb-true, ltb-true, le-leb, lt-leb, lt-ltb, le-ltb}
-use Rattle.fields.specs.Bytes.{le, put}
+use Rattle.fields.specs.Bytes.{le, put, cut}
 use Rattle.fields.specs.Rows.{pack}
 use Rattle.fields.proofs.Bytes.{past}
 use Rattle.fields.proofs.Puts.{put-next, put-one, put-append, put-cons, put-nil}
 use Rattle.resource.specs.Section.{resolved}
-use Rattle.math.specs.declared.vec3.Vec3.{Vec3 as Floats}
-use Rattle.quantise.specs.Short.{coordinate}
 use Rattle.areas.specs.declared.edge.RawEnd.{RawEnd}
 use Rattle.areas.specs.EdgeHalf.{endOf}
-use Rattle.strip.specs.Cell.{Vec3, Half, Edge, Head, vecWords, halfWords, edgeWords}
-use Rattle.grammar.specs.Parts.{cut}
-use Rattle.grammar.specs.Polygons.{vertexOf, halfOf, edgeOf, linkRun, linksAt, countOf}
-use Rattle.grammar.specs.Derives.{areaOf, axis, backOf}
+use Rattle.strip.specs.Cell.{Vec3, Half, Edge, vecWords, halfWords, edgeWords}
+use Rattle.grammar.specs.Polygons.{halfOf, edgeOf, linkRun, linksAt, countOf}
+use Rattle.grammar.specs.Derives.{areaOf}
 use Rattle.lists.specs.Lists.{item}
 use Rattle.lists.proofs.Lists.{item-field}
-use Rattle.grammar.proofs.Parts.{cut-length}
+use Rattle.fields.proofs.Cuts.{cut-length, cut-left}
 use Rattle.lists.proofs.Cuts.{cut-item}
-use Rattle.polygon_words.specs.Words.{floatsOf, backIn, linksOf, linkStart, linksNamed, linkCount, frontOf, allBelow}
-use Rattle.polygon_words.proofs.Cuts.{cut-left}
+use Rattle.polygon_words.specs.Words.{linksOf, linkStart, linksNamed, linkCount, frontOf, allBelow}
 
 -- ---- the grammar's words
-
--- shorts are turned back in the head's box
-pub back-is : (h : Head) → backOf h ≡ backIn (floatsOf (h .bb-min)) (floatsOf (h .bb-size))
-unfolding backOf backIn axis
-back-is h = refl
 
 -- the links at an address are the link table of its part
 pub links-are : (system graphics : List ℕ) (va n : ℕ) → linksAt system graphics va n ≡ linksOf (resolved system graphics va (2 * n))
@@ -54,14 +44,6 @@ half-three h = refl
 pub edge-six : (e : Edge) → length (edgeWords e) ≡ 6
 unfolding edgeWords halfWords
 edge-six e = refl
-
--- ---- vertices
-
-module _ (lo size : Floats) (v : List ℕ) {p q r x y z : ℕ} (ep : p ≡ le 2 v 0) (eq : q ≡ le 2 v 2) (er : r ≡ le 2 v 4) where
-  pub vertex-words : x ≡ toBits binary32 (coordinate p (lo .x) (size .x)) → y ≡ toBits binary32 (coordinate q (lo .y) (size .y))
-      → z ≡ toBits binary32 (coordinate r (lo .z) (size .z)) → (x ∷ y ∷ z ∷ []) ≡ vecWords (vertexOf (backIn lo size) v)
-  unfolding vecWords vertexOf backIn
-  vertex-words ex ey ez = rw (ex, ey, ez, ep, eq, er)
 
 -- ---- words stored
 
@@ -100,7 +82,8 @@ module _ (run : List ℕ) (n limit : ℕ) where
   below-begin = rw (sub-zero n)
 
   module _ (k : ℕ) (l : k < n) {x : ℕ} (ex : x ≡ le 2 run (2 * k)) where
-    first : le 2 (item 2 run k) 0 ≡ x
+    first : le 2 (take 2 (drop (2 * k) run)) 0 ≡ x
+    unfolding item
     first = item-field 2 run k 2 0 (omega arith) ∙ rw (add-zero (2 * k), ex)
 
     pub below-more : x < limit → allBelow limit (cut 2 (n - (k + 1)) (drop (2 * (k + 1)) run)) ≡ allBelow limit (cut 2 (n - k) (drop (2 * k) run))

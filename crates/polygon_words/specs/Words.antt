@@ -1,31 +1,13 @@
--- What a polygon's parts are made of, where the grammar leaves it open: the box as floats, the link table as bytes, and how long a run of links
--- is. Definitions only.
+-- What a polygon's parts are made of, where the grammar leaves it open: the link table as bytes, and how long a run of links is. Definitions
+-- only.
 use Prim.Native.Nat.{ℕ, _+_, _/_}
 use mathlib.Core.Bool.{Bool, true, cond, _&&_}
 use mathlib.Core.List.{List, [], _∷_, map}
 use lib.Dec.{leb, ltb}
-use lib.Ieee.{binary32, ofBits, toBits}
 use lib.ListN.{length}
-use Rattle.fields.specs.Bytes.{le}
+use Rattle.fields.specs.Bytes.{le, cut}
 use Rattle.fields.specs.Rows.{pack, field}
-use Rattle.math.specs.declared.vec3.Vec3.{Vec3 as Floats}
-use Rattle.quantise.specs.Short.{coordinate}
-use Rattle.strip.specs.Cell.{Vec3}
-use Rattle.grammar.specs.Parts.{cut}
 use Rattle.grammar.specs.Polygons.{countOf, linkRun}
-
--- the floats whose bits three words are
-abbrev pub floatsOf : Vec3 → Floats
-floatsOf v = record { x = ofBits binary32 (v .x); y = ofBits binary32 (v .y); z = ofBits binary32 (v .z) }
-
--- three shorts turned back in a box
-unfoldable pub backIn : Floats → Floats → ℕ → ℕ → ℕ → Vec3
-backIn lo size x y z =
-    record {
-      x = toBits binary32 (coordinate x (lo .x) (size .x));
-      y = toBits binary32 (coordinate y (lo .y) (size .y));
-      z = toBits binary32 (coordinate z (lo .z) (size .z));
-    }
 
 -- the link table that some bytes are, two to a link
 unfoldable pub linksOf : List ℕ → List ℕ

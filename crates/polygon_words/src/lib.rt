@@ -2,32 +2,21 @@
 ghost use mathlib.Core.Path.{_≡_};
 ghost use mathlib.Core.List.{[], _∷_, map};
 ghost use Prim.Native.Nat.{_+_, _*_, _/_, _≤_};
-ghost use lib.Ieee.{binary32, toBits};
 ghost use lib.ListN.{length};
-ghost use Rattle.fields.specs.Bytes.{put};
-ghost use Rattle.quantise.specs.Short.{coordinate};
+ghost use Rattle.fields.specs.Bytes.{put, cut};
 ghost use Rattle.strip.specs.Cell.{vecWords, halfWords, edgeWords, each};
-ghost use Rattle.grammar.specs.Parts.{cut};
 ghost use Rattle.grammar.specs.Polygons.{vertexOf, halfOf, edgeOf, linkRun, countOf};
 ghost use Rattle.grammar.specs.Derives.{areaOf};
 ghost use Rattle.lists.specs.Lists.{item};
-ghost use Rattle.polygon_words.specs.Words.{backIn, linksOf, linkStart, linksNamed, linkCount, frontOf, allBelow};
+ghost use Rattle.records.specs.Back.{backBy};
+ghost use Rattle.polygon_words.specs.Words.{linksOf, linkStart, linksNamed, linkCount, frontOf, allBelow};
 use areas::ADJACENT_NONE;
 use areas::edge::decode_end;
 use fields::u16_le;
 use fields::u32_le;
-use math::num::bits_of_float;
 use math::vec3::Vec3;
-use quantise::short::unquantise_axis;
-
-fn put3(out: &mut [u32], at: usize, a: u32, b: u32, c: u32)
-    requires { ⌜ at + 3 ≤ length (now out) ⌝ }
-    ensures { λ _. ⌜ now (out .exit) ≡ put at (a ∷ b ∷ c ∷ []) (now (out .entry)) ⌝ }
-{
-    out[at] = a;
-    out[at + 1] = b;
-    out[at + 2] = c;
-}
+use records::words::put_position;
+use records::words::put3;
 
 fn put4(out: &mut [u32], at: usize, a: u32, b: u32, c: u32, d: u32)
     requires { ⌜ at + 4 ≤ length (now out) ⌝ }
@@ -37,21 +26,12 @@ fn put4(out: &mut [u32], at: usize, a: u32, b: u32, c: u32, d: u32)
     out[at + 3] = d;
 }
 
-fn axis_bits(q: u16, lo: f32, extent: f32) -> u32
-    ensures { λ r. ⌜ r ≡ toBits binary32 (coordinate q lo extent) ⌝ }
-{
-    bits_of_float(unquantise_axis(q, lo, extent))
-}
-
 // A vertex, 6 bytes: the bits of its coordinates.
 pub fn put_vertex(v: &[u8], bb_min: Vec3, bb_size: Vec3, out: &mut [u32], at: usize)
     requires { ⌜ at + 3 ≤ length (now out) ⌝ }
-    ensures { λ _. ⌜ now (out .exit) ≡ put at (vecWords (vertexOf (backIn «bb_min» «bb_size») (now (v .entry)))) (now (out .entry)) ⌝ }
+    ensures { λ _. ⌜ now (out .exit) ≡ put at (vecWords (vertexOf (backBy «bb_min» «bb_size») (now (v .entry)))) (now (out .entry)) ⌝ }
 {
-    let x = axis_bits(u16_le(v, 0), bb_min.x, bb_size.x);
-    let y = axis_bits(u16_le(v, 2), bb_min.y, bb_size.y);
-    let z = axis_bits(u16_le(v, 4), bb_min.z, bb_size.z);
-    put3(out, at, x, y, z);
+    put_position(v, 0, bb_min, bb_size, out, at);
 }
 
 // The area of an index, by the header's table.

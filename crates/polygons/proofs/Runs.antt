@@ -8,19 +8,18 @@ use mathlib.Core.List.{List, [], _∷_, _++_, map}
 use lib.Dec.{ltb}
 use lib.ListN.{length, take, drop, getD}
 use lib.Seq.{take-add, drop-drop, ext-getD}
-use Rattle.fields.specs.Bytes.{le, put}
+use Rattle.fields.specs.Bytes.{le, put, cut}
 use Rattle.fields.proofs.Puts.{put-next, put-nil}
 use Rattle.strip.specs.Cell.{Vec3, each}
-use Rattle.grammar.specs.Parts.{cut}
 use Rattle.grammar.specs.Polygons.{vertexOf}
 use Rattle.lists.specs.declared.Cursor.{Cursor}
 use Rattle.lists.specs.Lists.{item, total, listBytes, Readable}
 use Rattle.lists.specs.Cursors.{Holds}
 use Rattle.lists.proofs.Lists.{within, length-run, run-item, item-field}
-use Rattle.grammar.proofs.Parts.{cut-length}
+use Rattle.fields.proofs.Cuts.{cut-length}
 use Rattle.lists.proofs.Cuts.{cut-item, cut-run, item-drop}
 use Rattle.polygon_words.specs.Words.{allBelow}
-use Rattle.polygon_words.proofs.Cuts.{each-append, length-each}
+use Rattle.records.proofs.Items.{each-append, length-each}
 use Rattle.polygons.specs.Polygons.{corner}
 use Rattle.polygons.specs.Passes.{itemsIn}
 

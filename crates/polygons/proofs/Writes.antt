@@ -18,7 +18,7 @@ use Rattle.lists.specs.declared.Cursor.{Cursor}
 use Rattle.lists.specs.Lists.{item, total, listBytes}
 use Rattle.lists.specs.Cursors.{Stands, Holds}
 use Rattle.polygon_words.specs.Words.{linksOf, linkCount, frontOf, allBelow}
-use Rattle.polygon_words.proofs.Cuts.{length-each}
+use Rattle.records.proofs.Items.{length-each}
 use Rattle.polygon_words.proofs.Words.{vec-three, edge-six}
 use Rattle.polygon_words.proofs.Words as words
 use Rattle.polygons.specs.declared.Cursors.{Cursors}

@@ -4,15 +4,15 @@ use mathlib.Core.Path.{_≡_}
 use mathlib.Core.Bool.{true}
 use mathlib.Core.List.{List, _++_, map}
 use lib.ListN.{length, take, drop}
-use Rattle.fields.specs.Bytes.{put}
+use Rattle.fields.specs.Bytes.{put, cut}
 use Rattle.math.specs.declared.vec3.Vec3.{Vec3}
 use Rattle.strip.specs.Cell.{Vec3 as Point, vecWords, edgeWords, each}
-use Rattle.grammar.specs.Parts.{cut}
 use Rattle.grammar.specs.Polygons.{edgeOf}
 use Rattle.grammar.specs.Derives.{areaOf}
 use Rattle.lists.specs.Lists.{total, listBytes, Readable}
 use Rattle.lists.specs.Cursors.{Stands}
-use Rattle.polygon_words.specs.Words.{backIn, linksOf, allBelow}
+use Rattle.records.specs.Back.{backBy}
+use Rattle.polygon_words.specs.Words.{linksOf, allBelow}
 use Rattle.polygons.specs.declared.Limits.{Limits}
 use Rattle.polygons.specs.declared.Cursors.{Cursors}
 use Rattle.polygons.specs.declared.Spot.{Spot}
@@ -35,7 +35,7 @@ sourceOf system graphics vertices indices edges links header lo size =
       edges = itemsIn system graphics 8 edges;
       links = linksOf links;
       area = areaOf header;
-      back = backIn lo size;
+      back = backBy lo size;
     }
 
 -- the words of n vertices and of n edges, from `start` on

@@ -4,14 +4,14 @@ ghost use mathlib.Core.Bool.{true};
 ghost use mathlib.Core.List.{map};
 ghost use Prim.Native.Nat.{_+_, _*_, _/_, _≤_, min};
 ghost use lib.ListN.{length, take, drop};
-ghost use Rattle.fields.specs.Bytes.{put};
+ghost use Rattle.fields.specs.Bytes.{put, cut};
 ghost use Rattle.strip.specs.Cell.{vecWords, edgeWords, polygonWords, each};
-ghost use Rattle.grammar.specs.Parts.{cut};
 ghost use Rattle.grammar.specs.Polygons.{edgeOf, startOf, countOf};
 ghost use Rattle.grammar.specs.Derives.{areaOf};
 ghost use Rattle.lists.specs.Lists.{total, Readable};
 ghost use Rattle.lists.specs.Cursors.{Stands};
-ghost use Rattle.polygon_words.specs.Words.{backIn, linksOf, allBelow};
+ghost use Rattle.records.specs.Back.{backBy};
+ghost use Rattle.polygon_words.specs.Words.{linksOf, allBelow};
 ghost use Rattle.polygons.specs.Polygons.{corner, limitsOf, polygonMade, sizeOf, tallyOf, tallyFrom};
 ghost use Rattle.polygons.specs.Passes.{itemsIn, sourceOf, sides, Ready, Inside, Put, Passed, Stepped, Small};
 ghost use Rattle.polygons.specs.Listed.{listsOf, ListsRead};
@@ -240,7 +240,7 @@ fn put_vertex_run<'a>(
 ) -> Cursor
     requires { ⌜ Readable (now system) (now graphics) 6 (now vertices) × Stands (now vertices) from × (2 * n ≤ length (now run)) × (at + 3 * n ≤ length (now out)) ⌝ }
     requires { ⌜ allBelow (total (now vertices)) (cut 2 n (now run)) ≡ true ⌝ }
-    ensures { λ r. ⌜ Stands (now (vertices .entry)) r × (now (out .exit) ≡ put at (each vecWords (map (corner (backIn «bb_min» «bb_size») (itemsIn (now (system .entry)) (now (graphics .entry)) 6 (now (vertices .entry)))) (cut 2 n (now (run .entry))))) (now (out .entry))) ⌝ }
+    ensures { λ r. ⌜ Stands (now (vertices .entry)) r × (now (out .exit) ≡ put at (each vecWords (map (corner (backBy «bb_min» «bb_size») (itemsIn (now (system .entry)) (now (graphics .entry)) 6 (now (vertices .entry)))) (cut 2 n (now (run .entry))))) (now (out .entry))) ⌝ }
 {
     let mut d = from;
     let mut k = 0;
@@ -271,7 +271,7 @@ fn put_vertices<'a>(
     requires { ⌜ Readable (now system) (now graphics) 6 (now vertices) × Readable (now system) (now graphics) 2 (now indices) × Stands (now vertices) (from .vertices) × Stands (now indices) (from .indices) ⌝ }
     requires { ⌜ (start + count ≤ total (now indices)) × (at + 3 * count ≤ length (now out)) × (allBelow (total (now vertices)) (take count (drop start (itemsIn (now system) (now graphics) 2 (now indices)))) ≡ true) ⌝ }
     ensures { λ r. ⌜ Stands (now (vertices .entry)) (r .vertices) × Stands (now (indices .entry)) (r .indices)
-        × (now (out .exit) ≡ put at (each vecWords (map (corner (backIn «bb_min» «bb_size») (itemsIn (now (system .entry)) (now (graphics .entry)) 6 (now (vertices .entry)))) (take count (drop start (itemsIn (now (system .entry)) (now (graphics .entry)) 2 (now (indices .entry))))))) (now (out .entry))) ⌝ }
+        × (now (out .exit) ≡ put at (each vecWords (map (corner (backBy «bb_min» «bb_size») (itemsIn (now (system .entry)) (now (graphics .entry)) 6 (now (vertices .entry)))) (take count (drop start (itemsIn (now (system .entry)) (now (graphics .entry)) 2 (now (indices .entry))))))) (now (out .entry))) ⌝ }
 {
     let mut c = from.indices;
     let mut d = from.vertices;
@@ -319,7 +319,7 @@ fn put_sides<'a>(
     requires { ⌜ Ready (now system) (now graphics) (now vertices) (now indices) (now edges) from × (at + 9 * count ≤ length (now out)) ⌝ }
     requires { ⌜ Inside (now system) (now graphics) (now vertices) (now indices) (now edges) start count ⌝ }
     ensures { λ r. ⌜ Ready (now (system .entry)) (now (graphics .entry)) (now (vertices .entry)) (now (indices .entry)) (now (edges .entry)) r
-        × (now (out .exit) ≡ put at (sides (areaOf (now (header .entry))) (backIn «bb_min» «bb_size») (itemsIn (now (system .entry)) (now (graphics .entry)) 6 (now (vertices .entry))) (itemsIn (now (system .entry)) (now (graphics .entry)) 2 (now (indices .entry))) (itemsIn (now (system .entry)) (now (graphics .entry)) 8 (now (edges .entry))) start count) (now (out .entry))) ⌝ }
+        × (now (out .exit) ≡ put at (sides (areaOf (now (header .entry))) (backBy «bb_min» «bb_size») (itemsIn (now (system .entry)) (now (graphics .entry)) 6 (now (vertices .entry))) (itemsIn (now (system .entry)) (now (graphics .entry)) 2 (now (indices .entry))) (itemsIn (now (system .entry)) (now (graphics .entry)) 8 (now (edges .entry))) start count) (now (out .entry))) ⌝ }
 {
     let ci = from.indices;
     let cv = from.vertices;

@@ -9,6 +9,7 @@ use Rattle.quantise.specs.Quarter.{side}
 use Rattle.distinct.specs.Distinct.{distinctFrom, withNew, indexOf}
 use Rattle.areas.specs.EdgeHalf.{halfWord}
 use Rattle.blocks.specs.Layout.{placeOf}
+use Rattle.pages.proofs.Examples.{computed}
 use Rattle.proved.specs.Table.{Table}
 
 same : (b : Bool) → _≡_ {A = ℕ} (cond b 0 0) 0
@@ -16,7 +17,7 @@ same true = refl
 same false = refl
 
 pub table : Table
-unfolding short fraction side sub div mul lt clamped nearest distinctFrom withNew indexOf halfWord pack placeOf
+unfolding short fraction side sub div mul lt clamped nearest distinctFrom withNew indexOf halfWord pack placeOf computed
 table = record {
   p1 = refl;
   p2 = λ a lo. refl;
@@ -34,4 +35,7 @@ table = record {
   p10 = refl;
   p11-fits = refl;
   p11-next = refl;
+  p12-vehicle = λ min max size. refl;
+  p12-total = λ min max size. refl;
+  p12-grid = λ min max size. refl;
 }

@@ -2,7 +2,7 @@
 use Prim.Native.Nat.{ℕ}
 use mathlib.Core.Path.{_≡_}
 use mathlib.Core.Bool.{true, false}
-use mathlib.Core.List.{[], _∷_}
+use mathlib.Core.List.{List, [], _∷_}
 use lib.IntN.{pos, negsuc}
 use lib.ListN.{length}
 use lib.Ieee.{Float, nan, fin}
@@ -11,6 +11,10 @@ use Rattle.quantise.specs.Quarter.{quarterFloor, quarterCeil}
 use Rattle.areas.specs.Areas.{seeded}
 use Rattle.areas.specs.EdgeHalf.{halfWord, noneWord}
 use Rattle.blocks.specs.Layout.{placeOf}
+use Rattle.strip.specs.Cell.{Vec3, Cell}
+use Rattle.strip.specs.Outcome.{Paper, values, refusal}
+use Rattle.pages.specs.Pages.{counts, pages}
+use Rattle.ynv_write.specs.declared.Written.{Written}
 
 -- 0, 2 ^ k, 2 ^ -(k + 1), -(2 ^ k) and -0.375
 abbrev pub nought : Float
@@ -27,6 +31,24 @@ minus k = fin true 1 (pos k)
 
 abbrev pub minus-three-eighths : Float
 minus-three-eighths = fin true 3 (negsuc 2)
+
+-- a cell without polygons, portals and points, of a content (4 for a vehicle, 0 for a cell of the grid), an area id and a box
+abbrev pub empty : (content area : ℕ) → (min max size : Vec3) → Cell
+empty content area min max size = record {
+  head = record { content = content; area = area; version = 0; vft = 0; bb-min = min; bb-max = max; bb-size = size };
+  polys = [];
+  portals = [];
+  points = [];
+}
+
+-- its strip, where the box is of zeros: the cell's record and the end
+abbrev pub emptyStrip : (content area : ℕ) → List ℕ
+emptyStrip content area = 0x1000_0000 ∷ content ∷ area ∷ 0 ∷ 0 ∷ 0 ∷ 0 ∷ 0 ∷ 0 ∷ 0 ∷ 0 ∷ 0 ∷ 0 ∷ 0 ∷ 0x5000_0000 ∷ []
+
+-- the length that an answer of the writer says
+abbrev pub lengthIn : Paper Written → ℕ
+lengthIn (values w) = w .length
+lengthIn (refusal number place) = 0
 
 pub record Table : Type 0 where
   pub p1 : short (power 0) nought (power 1) ≡ 32768
@@ -45,3 +67,7 @@ pub record Table : Type 0 where
   pub p10 : noneWord 1 ≡ 0x0007FFE1
   pub p11-fits : placeOf 16288 96 ≡ 16288
   pub p11-next : placeOf 16288 112 ≡ 16384
+  -- whatever the box
+  pub p12-vehicle : (min max size : Vec3) → length (pages (empty 4 10000 min max size)) ≡ 688
+  pub p12-total : (min max size : Vec3) → counts (empty 4 10000 min max size) .total ≡ 128
+  pub p12-grid : (min max size : Vec3) → length (pages (empty 0 4040 min max size)) ≡ 3088

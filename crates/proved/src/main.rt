@@ -1,15 +1,19 @@
-// The proved examples P1 to P11 of the scope document: each function computes one and promises the document's value. The program prints
+// The proved examples P1 to P12 of the scope document: each function computes one and promises the document's value. The program prints
 // them, a line each.
 ghost use mathlib.Core.Path.{_≡_};
 ghost use mathlib.Core.List.{_∷_, []};
 ghost use Prim.Native.Nat.{_≤_};
 ghost use lib.IntN.{pos, negsuc};
-ghost use lib.ListN.{take};
+ghost use lib.ListN.{take, length};
+ghost use Rattle.strip.specs.Outcome.{shown, left};
+ghost use Rattle.ynv_write.specs.Serialize.{paper, serializeOutcome};
+ghost use Rattle.proved.specs.Table.{emptyStrip, lengthIn};
 use areas::edge::half_word;
 use quantise::quarter::bits16_of;
 use quantise::quarter::quarter_ceil;
 use quantise::quarter::quarter_floor;
 use quantise::short::quantise_axis;
+use ynv_write::SerializeAnswer;
 
 // lo 0, extent 2, a 1
 fn p1() -> u16
@@ -110,6 +114,55 @@ fn p11_next() -> u64
     blocks::place(16288, 112)
 }
 
+// The length that the writer answers, 0 where it refuses.
+fn length_of(answer: SerializeAnswer) -> usize
+    ensures { λ r. ⌜ r ≡ lengthIn (paper answer) ⌝ }
+{
+    match answer {
+        SerializeAnswer::Written(w) => w.length,
+        SerializeAnswer::Refused(_) => 0,
+    }
+}
+
+// Saves the cell with this content and area id, a box of zeros and nothing in it.
+fn save_empty(content: u32, area: u32, pages: &mut [u8]) -> usize
+    ensures { λ r. ⌜ r ≡ lengthIn (shown (serializeOutcome (emptyStrip content area) 60 (length (now (pages .entry))))) ⌝ }
+    ensures { λ _. ⌜ now (pages .exit) ≡ left (serializeOutcome (emptyStrip content area) 60 (length (now (pages .entry)))) (now (pages .entry)) ⌝ }
+{
+    let mut strip = [0; 15];
+    strip[0] = 0x1000_0000;
+    strip[1] = content;
+    strip[2] = area;
+    strip[14] = 0x5000_0000;
+    let mut work = [0; 60];
+    length_of(ynv_write::serialize_ynv(&strip, &mut work, pages))
+}
+
+// the empty vehicle cell
+fn p12_vehicle() -> usize
+    ensures { λ r. ⌜ r ≡ 688 ⌝ }
+{
+    let mut pages = [0; 688];
+    save_empty(4, 10000, &mut pages)
+}
+
+// the total in its header
+fn p12_total() -> u32
+    ensures { λ r. ⌜ r ≡ 128 ⌝ }
+{
+    let mut pages = [0; 688];
+    save_empty(4, 10000, &mut pages);
+    fields::u32_le(&pages, 0x144)
+}
+
+// the empty grid cell
+fn p12_grid() -> usize
+    ensures { λ r. ⌜ r ≡ 3088 ⌝ }
+{
+    let mut pages = [0; 3088];
+    save_empty(0, 4040, &mut pages)
+}
+
 fn print(text: &[u8]) {
     io::write_all(1, text);
 }
@@ -168,4 +221,7 @@ fn main() {
     line(b"P10 ", p10() as u64);
     line(b"P11 96 bytes ", p11_fits());
     line(b"P11 112 bytes ", p11_next());
+    line(b"P12 vehicle ", p12_vehicle() as u64);
+    line(b"P12 total ", p12_total() as u64);
+    line(b"P12 grid ", p12_grid() as u64);
 }

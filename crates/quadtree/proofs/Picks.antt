@@ -1,5 +1,5 @@
 -- Counting by a test, one turn at a time, and the test of a leaf's quarter box on words. Assumes nothing.
-use Prim.Native.Nat.{ℕ, suc, _+_, _-_, _*_, _/_, _%_, _^_, _≤_, _<_}
+use Prim.Native.Nat.{ℕ, zero, suc, _+_, _-_, _*_, _/_, _%_, _^_, _≤_, _<_}
 use mathlib.Core.Path.{_≡_, refl, sym, ap, _∙_}
 use mathlib.Core.Bool.{Bool, true, false, cond}
 use mathlib.Core.List.{List, [], _∷_}
@@ -16,7 +16,7 @@ use Rattle.quantise.specs.declared.quarter.QuarterBox.{QuarterBox}
 use Rattle.strip.specs.Cell.{Point}
 use Rattle.strip.specs.Reading.{itemsAt}
 use Rattle.pages.specs.Sectors.{axisMeets, meets, idsOf, quarters}
-use Rattle.quadtree.specs.Work.{int16, boxBy, boxAt, boxesAt, pickedFrom, countIn}
+use Rattle.quadtree.specs.Work.{int16, boxBy, boxAt, boxesAt, boxesIn, pickedFrom, countIn}
 
 -- ---- one turn
 
@@ -28,6 +28,9 @@ keep-length false x xs = omega arith
 pub keep-one : (b : Bool) → cond b 1 0 ≤ 1
 keep-one true = omega arith
 keep-one false = omega arith
+
+pub keep-few : {A : Type 0} (b : Bool) (x : A) (xs : List A) (n : ℕ) → length xs ≤ n → length (cond b (x ∷ xs) xs) ≤ suc n
+keep-few b x xs n h = omega (arith, keep-length b x xs, keep-one b)
 
 -- n items from a place on, of which i are passed
 pub items-turn : {A : Type 0} (item : ℕ → A) (size i n : ℕ) → i < n
@@ -50,6 +53,10 @@ module _ (w : List ℕ) (q : QuarterBox) where
   unfolding idsOf itemsAt
   ids-end i n h = let e : n - i ≡ 0 = omega arith in rw e
 
+  pub ids-none : length w < 3 → idsOf q 0 (boxesIn w) ≡ []
+  unfolding idsOf itemsAt
+  ids-none h = let e : length w / 3 ≡ 0 = omega arith in rw e
+
   -- counted
   pub count-ids-turn : (i n : ℕ) → i < n → length (idsOf q i (boxesAt w (3 * i) (n - i)))
       ≡ cond (meets q (boxAt w (3 * i))) 1 0 + length (idsOf q (i + 1) (boxesAt w (3 * (i + 1)) (n - (i + 1))))
@@ -66,11 +73,47 @@ module _ (w : List ℕ) (k : ℕ) where
   unfolding countIn
   count-end i n h = let e : n - i ≡ 0 = omega arith in rw e
 
+  -- counted in parts
+  count-parts : (i m n : ℕ) → countIn w k i (m + n) ≡ countIn w k i m + countIn w k (i + m) n
+  unfolding countIn
+  count-parts i zero n =
+      let e : 0 + n ≡ n = omega arith in
+      let f : i + 0 ≡ i = omega arith in
+      rw (e, f) (omega arith)
+  count-parts i (suc m) n =
+      let e : suc m + n ≡ suc (m + n) = omega arith in
+      let f : i + suc m ≡ i + 1 + m = omega arith in
+      rw (e, f) (omega (arith, count-parts (i + 1) m n))
+
+  -- from i to j of n
+  pub count-next : (i j n : ℕ) → i ≤ j → j ≤ n → countIn w k i (n - i) ≡ countIn w k i (j - i) + countIn w k j (n - j)
+  count-next i j n h g =
+      let e : countIn w k i (n - i) ≡ countIn w k i (j - i + (n - j)) = ap (countIn w k i) (omega arith) in
+      let f : countIn w k (i + (j - i)) (n - j) ≡ countIn w k j (n - j) = ap (λ (m : ℕ). countIn w k m (n - j)) (omega arith) in
+      omega (arith, count-parts i (j - i) (n - j))
+
+  pub count-few : (i n : ℕ) → countIn w k i n ≤ n
+  unfolding countIn
+  count-few i zero = omega arith
+  count-few i (suc n) = omega (arith, keep-one (eqb (getD w i 0) k), count-few (i + 1) n)
+
   -- the count is that of the points, whatever they are
   pub count-picked : (i : ℕ) (ts : List Point) → countIn w k i (length ts) ≡ length (pickedFrom w k i ts)
   unfolding countIn pickedFrom
   count-picked i [] = refl
   count-picked i (t ∷ ts) = rw (count-picked (i + 1) ts, keep-length (eqb (getD w i 0) k) t (pickedFrom w k (i + 1) ts))
+
+-- ---- no leaf has more than the cell
+
+pub ids-few : (q : QuarterBox) (k : ℕ) (ps : List QuarterBox) → length (idsOf q k ps) ≤ length ps
+unfolding idsOf
+ids-few q k [] = omega arith
+ids-few q k (p ∷ ps) = keep-few (meets q p) k (idsOf q (k + 1) ps) (length ps) (ids-few q (k + 1) ps)
+
+pub picked-few : (w : List ℕ) (k i : ℕ) (ts : List Point) → length (pickedFrom w k i ts) ≤ length ts
+unfolding pickedFrom
+picked-few w k i [] = omega arith
+picked-few w k i (t ∷ ts) = keep-few (eqb (getD w i 0) k) t (pickedFrom w k (i + 1) ts) (length ts) (picked-few w k (i + 1) ts)
 
 -- ---- 16 signed bits are compared with their sign turned round
 

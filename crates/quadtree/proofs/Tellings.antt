@@ -1,5 +1,5 @@
 -- The first refusal of leaves in a row. Assumes nothing.
-use Prim.Native.Nat.{ℕ, zero, suc, _+_, _*_, _^_, _≤_, _<_}
+use Prim.Native.Nat.{ℕ, zero, suc, _+_, _*_, _/_, _^_, _≤_, _<_}
 use mathlib.Core.Path.{_≡_, refl, sym, ap, _∙_}
 use mathlib.Core.List.{List, [], _∷_, _++_}
 use native.Mathlib.Nat.{pow-suc}
@@ -10,9 +10,11 @@ use Rattle.quantise.specs.declared.quarter.QuarterBox.{QuarterBox}
 use Rattle.quantise.specs.declared.bounds.Aabb.{Aabb}
 use Rattle.strip.specs.Cell.{Point}
 use Rattle.strip.specs.declared.Refusal.{Refusal}
-use Rattle.pages.specs.Sectors.{sub0, sub1, sub2, sub3, grown, leafCounts}
+use Rattle.pages.specs.Sectors.{sub0, sub1, sub2, sub3, quarters, idsOf, grown, leafCounts}
 use Rattle.pages.specs.Checks.{Verdict, at, first, leafFault, leavesVerdict}
-use Rattle.quadtree.specs.Work.{Tells}
+use Rattle.quadtree.specs.Work.{boxAt, boxesIn, pickedFrom, treeBy, Tells}
+use Rattle.quadtree.proofs.Picks.{ids-few, picked-few}
+use Rattle.strip.proofs.Steps.{items-length}
 
 -- ---- one leaf
 
@@ -129,3 +131,25 @@ module _ (ids : QuarterBox → List ℕ) (stored : ℕ → List Point) where
 
         pub last3 : (r2 : Refusal) → Tells r2 (k + 2 * 4 ^ d) in2 → r2 .number ≡ 0 → (r : Refusal) → Tells r (k + 3 * 4 ^ d) in3 → Tells r k whole
         last3 r2 e2 z2 r e = on1 r (tells-on (k + 2 * 4 ^ d) in2 in3 r2 e2 (k + 3 * 4 ^ d) (omega (arith, leaves-length d (k + 2 * 4 ^ d) (sub2 b))) z2 r e)
+
+  -- where no leaf can have too many
+  module _ (few : (q : QuarterBox) → length (ids q) ≤ 8192) (fit : (k : ℕ) → length (stored k) ≤ 2048) where
+    abbrev none : Refusal
+    none = record { number = 0; place = 0 }
+
+    pub tells-small : (d k : ℕ) (b : Aabb) → Tells none k (leafCounts (grown ids stored d k b))
+    unfolding leafCounts grown at
+    tells-small zero k b = tells-none _ _ k (few (quarters b)) (fit k)
+    tells-small (suc d) k b =
+        last3 d k b
+        none (tells-small d k (sub0 b)) refl
+        none (tells-small d (k + 4 ^ d) (sub1 b)) refl
+        none (tells-small d (k + 2 * 4 ^ d) (sub2 b)) refl
+        none (tells-small d (k + 3 * 4 ^ d) (sub3 b))
+
+-- a cell that has no more than fits in a leaf
+pub tells-fits : (boxes leafs : List ℕ) (ts : List Point) → length boxes ≤ 24576 → length leafs ≤ 2048 → length ts ≡ length leafs → (d : ℕ) (b : Aabb)
+    → Tells (record { number = 0; place = 0 }) 0 (leafCounts (treeBy boxes leafs ts d 0 b))
+tells-fits boxes leafs ts hb hl e d b =
+    tells-small (λ q. idsOf q 0 (boxesIn boxes)) (λ k. pickedFrom leafs k 0 ts)
+    (λ q. omega (arith, ids-few q 0 (boxesIn boxes), items-length (boxAt boxes) (λ at. at + 3) (length boxes / 3) 0)) (λ k. omega (arith, picked-few leafs k 0 ts)) d 0 b

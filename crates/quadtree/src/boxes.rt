@@ -1,7 +1,9 @@
 // How a box splits itself in four, and the leaf that takes a point.
 ghost use mathlib.Core.Path.{_≡_};
+ghost use mathlib.Core.Bool.{_&&_};
 ghost use Prim.Native.Nat.{_+_, _/_, _%_, _^_, _≤_, _<_};
 ghost use Rattle.pages.specs.Sectors.{middle, centre, sub0, sub1, sub2, sub3, between, inside, leaves, leafOf, depthBy};
+ghost use Rattle.quadtree.specs.Lines.{axisOf, linesOf, rangesOf, firstOf, subsOf, leavesOf};
 use math::vec3::Vec3;
 use quantise::bounds::Aabb;
 
@@ -98,46 +100,123 @@ fn is_inside(b: Aabb, p: Vec3) -> bool
     false
 }
 
-// The first leaf that p is inside, of `width` leaves, `depth` splits down, numbered from `leaf` on; the number behind the last one where it is
-// in none.
-fn leaf_from(p: Vec3, b: Aabb, depth: u32, width: u32, leaf: u32) -> u32
-    requires { ⌜ (width ≡ 4 ^ depth) × (leaf + 4 ^ depth < 2 ^ 32) ⌝ }
-    ensures { λ r. ⌜ r ≡ leaf + leafOf (leaves depth b) p ⌝ }
-{
-    if depth == 0 {
-        if is_inside(b, p) {
-            return leaf;
-        }
-        return leaf + 1;
-    }
-    let d = depth - 1;
-    let w = width / 4;
-    let subs = split(b);
-    let k1 = leaf + w;
-    let r0 = leaf_from(p, subs.s0, d, w, leaf);
-    if r0 < k1 {
-        return r0;
-    }
-    let k2 = k1 + w;
-    let r1 = leaf_from(p, subs.s1, d, w, k1);
-    if r1 < k2 {
-        return r1;
-    }
-    let k3 = k2 + w;
-    let r2 = leaf_from(p, subs.s2, d, w, k2);
-    if r2 < k3 {
-        return r2;
-    }
-    leaf_from(p, subs.s3, d, w, k3)
+// The sides of the 16 leaves of a box on one axis, from its min to its max.
+pub struct Axis {
+    pub a0: f32,
+    pub a1: f32,
+    pub a2: f32,
+    pub a3: f32,
+    pub a4: f32,
 }
 
-// The leaf that takes a point of a cell with these content flags and this box: the first in writing order that the point is inside, and the
-// number of leaves where it is in none.
-pub fn leaf_of(content: u32, b: Aabb, p: Vec3) -> u32
+// On both.
+pub struct Lines {
+    pub x: Axis,
+    pub y: Axis,
+}
+
+fn axis_of(lo: f32, hi: f32) -> Axis
+    ensures { λ r. ⌜ r ≡ axisOf lo hi ⌝ }
+{
+    let mid = middle_of(lo, hi);
+    let a1 = middle_of(lo, mid);
+    let a3 = middle_of(mid, hi);
+    Axis {
+        a0: lo,
+        a1,
+        a2: mid,
+        a3,
+        a4: hi,
+    }
+}
+
+pub fn lines_of(b: Aabb) -> Lines
+    ensures { λ r. ⌜ r ≡ linesOf b ⌝ }
+{
+    let x = axis_of(b.min.x, b.max.x);
+    let y = axis_of(b.min.y, b.max.y);
+    Lines { x, y }
+}
+
+// Which of an axis's four ranges a number is in, borders included.
+pub struct Ranges {
+    pub r0: bool,
+    pub r1: bool,
+    pub r2: bool,
+    pub r3: bool,
+}
+
+fn ranges_of(a: Axis, x: f32) -> Ranges
+    ensures { λ r. ⌜ r ≡ rangesOf a x ⌝ }
+{
+    let r0 = is_between(a.a0, x, a.a1);
+    let r1 = is_between(a.a1, x, a.a2);
+    let r2 = is_between(a.a2, x, a.a3);
+    let r3 = is_between(a.a3, x, a.a4);
+    Ranges { r0, r1, r2, r3 }
+}
+
+fn both(a: bool, b: bool) -> bool
+    ensures { λ r. ⌜ r ≡ (a && b) ⌝ }
+{
+    if a {
+        return b;
+    }
+    false
+}
+
+// The first of a sector's four subs that a point is inside, which is in the lower range of an axis, in the upper one, in both or in none; 4 where it
+// is in no sub.
+fn sub_of(x_low: bool, x_high: bool, y_low: bool, y_high: bool) -> u32
+    ensures { λ r. ⌜ (r ≡ firstOf (subsOf «x_low» «x_high» «y_low» «y_high»)) × (r ≤ 4) ⌝ }
+{
+    if both(x_high, y_high) {
+        return 0;
+    }
+    if both(x_high, y_low) {
+        return 1;
+    }
+    if both(x_low, y_low) {
+        return 2;
+    }
+    if both(x_low, y_high) {
+        return 3;
+    }
+    4
+}
+
+// The first of 16 leaves that a point in these ranges is inside; 16 where it is in none.
+fn leaf_in(x: Ranges, y: Ranges) -> u32
+    ensures { λ r. ⌜ r ≡ firstOf (leavesOf x y) ⌝ }
+{
+    let s0 = sub_of(x.r2, x.r3, y.r2, y.r3);
+    if s0 < 4 {
+        return s0;
+    }
+    let s1 = sub_of(x.r2, x.r3, y.r0, y.r1);
+    if s1 < 4 {
+        return 4 + s1;
+    }
+    let s2 = sub_of(x.r0, x.r1, y.r0, y.r1);
+    if s2 < 4 {
+        return 8 + s2;
+    }
+    12 + sub_of(x.r0, x.r1, y.r2, y.r3)
+}
+
+// The leaf that takes a point of a cell with these content flags and this box, whose leaves have these sides: the first in writing order that the
+// point is inside, and the number of leaves where it is in none.
+pub fn leaf_of(content: u32, b: Aabb, l: Lines, p: Vec3) -> u32
+    requires { ⌜ l ≡ linesOf b ⌝ }
     ensures { λ r. ⌜ r ≡ leafOf (leaves (depthBy (content / 2 ^ 2 % 2)) b) p ⌝ }
 {
     if content / 4 % 2 == 0 {
-        return leaf_from(p, b, 2, 16, 0);
+        let x = l.x;
+        let y = l.y;
+        return leaf_in(ranges_of(x, p.x), ranges_of(y, p.y));
     }
-    leaf_from(p, b, 0, 1, 0)
+    if is_inside(b, p) {
+        return 0;
+    }
+    1
 }

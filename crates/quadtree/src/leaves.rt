@@ -2,12 +2,12 @@
 ghost use mathlib.Core.Path.{_≡_};
 ghost use mathlib.Core.Bool.{cond};
 ghost use mathlib.Core.List.{List};
-ghost use Prim.Native.Nat.{_+_, _*_, _/_, _%_, _^_, _≤_, _<_};
+ghost use Prim.Native.Nat.{_+_, _-_, _*_, _/_, _%_, _^_, _≤_, _<_};
 ghost use lib.Dec.{eqb};
 ghost use lib.ListN.{length, getD};
 ghost use Rattle.quantise.specs.Quarter.{quarterFloor, quarterCeil, bits16};
 ghost use Rattle.strip.specs.Cell.{Point};
-ghost use Rattle.pages.specs.Sectors.{axisMeets, meets, idsOf, leafCounts, depthBy};
+ghost use Rattle.pages.specs.Sectors.{axisMeets, meets, idsOf, quarters, leafCounts, depthBy};
 ghost use Rattle.quadtree.specs.Work.{int16, boxBy, boxAt, boxesIn, countIn, treeBy, Tells};
 use quantise::bounds::Aabb;
 use quantise::quarter::bits16_of;
@@ -45,7 +45,7 @@ pub fn meets_at(boxes: &[u32], at: usize, qx: u32, qy: u32) -> bool
     false
 }
 
-fn one_if(test: bool) -> usize
+fn one_if(test: bool) -> u32
     ensures { λ r. ⌜ r ≡ cond test 1 0 ⌝ }
 {
     if test {
@@ -55,17 +55,54 @@ fn one_if(test: bool) -> usize
 }
 
 // How many polygons meet the leaf whose sides are qx and qy.
-pub fn count_ids(boxes: &[u32], qx: u32, qy: u32) -> usize
+fn count_ids(boxes: &[u32], qx: u32, qy: u32) -> usize
     ensures { λ r. ⌜ r ≡ length (idsOf (boxBy qx qy 0) 0 (boxesIn (now (boxes .entry)))) ⌝ }
 {
     let polys = boxes.len() / 3;
     let mut n = 0;
     let mut i = 0;
     while i < polys {
-        n = n + one_if(meets_at(boxes, 3 * i, qx, qy));
+        n = n + one_if(meets_at(boxes, 3 * i, qx, qy)) as usize;
         i += 1;
     }
     n
+}
+
+// How many polygons meet the leaf with this box. Where there are none, its sides need no rounding.
+pub fn leaf_ids(boxes: &[u32], b: Aabb) -> usize
+    ensures { λ r. ⌜ r ≡ length (idsOf (quarters b) 0 (boxesIn (now (boxes .entry)))) ⌝ }
+{
+    if boxes.len() < 3 {
+        return 0;
+    }
+    let qx = quarter_pair(b.min.x, b.max.x);
+    let qy = quarter_pair(b.min.y, b.max.y);
+    count_ids(boxes, qx, qy)
+}
+
+// How many points of numbers `from` to `to` have the leaf k: few enough for 32 bits, in which several are counted at a time.
+fn count_part(leafs: &[u32], k: u32, from: usize, to: usize) -> u32
+    requires { ⌜ (from ≤ to) × (to ≤ from + 65536) × (to ≤ length (now leafs)) ⌝ }
+    ensures { λ r. ⌜ r ≡ countIn (now (leafs .entry)) k from (to - from) ⌝ }
+{
+    let mut n = 0;
+    let mut i = from;
+    while i < to {
+        n = n + one_if(leafs[i] == k);
+        i += 1;
+    }
+    n
+}
+
+// Where a part ends that begins at `from`.
+fn part_end(from: usize, end: usize) -> usize
+    requires { ⌜ from < end ⌝ }
+    ensures { λ r. ⌜ (from < r) × (r ≤ from + 65536) × (r ≤ end) ⌝ }
+{
+    if end - from < 65536 {
+        return end;
+    }
+    from + 65536
 }
 
 // How many points have the leaf k.
@@ -75,8 +112,9 @@ pub fn count_points(leafs: &[u32], k: u32) -> usize
     let mut n = 0;
     let mut i = 0;
     while i < leafs.len() {
-        n = n + one_if(leafs[i] == k);
-        i += 1;
+        let next = part_end(i, leafs.len());
+        n = n + count_part(leafs, k, i, next) as usize;
+        i = next;
     }
     n
 }
@@ -85,10 +123,8 @@ pub fn count_points(leafs: &[u32], k: u32) -> usize
 fn check_leaf<'a>(b: Aabb, leaf: u32, boxes: &'a [u32], leafs: &'a [u32]) -> Refusal
     ensures { λ r. ⌜ ((ts : List Point) → length ts ≡ length (now (leafs .entry)) → Tells r leaf (leafCounts (treeBy (now (boxes .entry)) (now (leafs .entry)) ts 0 leaf b))) ⌝ }
 {
-    let qx = quarter_pair(b.min.x, b.max.x);
-    let qy = quarter_pair(b.min.y, b.max.y);
     let place = leaf as usize;
-    if 8192 < count_ids(boxes, qx, qy) {
+    if 8192 < leaf_ids(boxes, b) {
         return Refusal { number: 17, place };
     }
     if 2048 < count_points(leafs, leaf) {
@@ -130,12 +166,29 @@ fn check_from<'a>(
     check_from(subs.s3, d, w, leaf + 3 * w, boxes, leafs)
 }
 
-// 17 and 18 of a cell's leaves in writing order: the first refusal, with the leaf's number as its place; number 0 for none.
-pub fn check_leaves<'a>(content: u32, b: Aabb, boxes: &'a [u32], leafs: &'a [u32]) -> Refusal
+// The same of a cell's leaves in writing order.
+fn check_each<'a>(content: u32, b: Aabb, boxes: &'a [u32], leafs: &'a [u32]) -> Refusal
     ensures { λ r. ⌜ ((ts : List Point) → length ts ≡ length (now (leafs .entry)) → Tells r 0 (leafCounts (treeBy (now (boxes .entry)) (now (leafs .entry)) ts (depthBy (content / 2 ^ 2 % 2)) 0 b))) ⌝ }
 {
     if content / 4 % 2 == 0 {
         return check_from(b, 2, 16, 0, boxes, leafs);
     }
     check_from(b, 0, 1, 0, boxes, leafs)
+}
+
+// 17 and 18 of a cell's leaves in writing order: the first refusal, with the leaf's number as its place; number 0 for none. Where the cell has no
+// more than fits in a leaf, no leaf is looked at.
+pub fn check_leaves<'a>(content: u32, b: Aabb, boxes: &'a [u32], leafs: &'a [u32]) -> Refusal
+    ensures { λ r. ⌜ ((ts : List Point) → length ts ≡ length (now (leafs .entry)) → Tells r 0 (leafCounts (treeBy (now (boxes .entry)) (now (leafs .entry)) ts (depthBy (content / 2 ^ 2 % 2)) 0 b))) ⌝ }
+{
+    if 24576 < boxes.len() {
+        return check_each(content, b, boxes, leafs);
+    }
+    if 2048 < leafs.len() {
+        return check_each(content, b, boxes, leafs);
+    }
+    Refusal {
+        number: 0,
+        place: 0,
+    }
 }

@@ -12,8 +12,9 @@ use lib.Ieee.{Float, nan, binary32, ofBits, fits, lt, isNan}
 use lib.Ieee.Bits.{ofBits-fits}
 use Rattle.math.specs.MinMax.{Picked, IsMin, IsMax, first, lesser, greater, plain}
 use Rattle.math.specs.declared.vec3.Vec3.{Vec3}
+use Rattle.math.specs.Floats.{floatsAt}
 use Rattle.math.proofs.Order.{Order, less, more}
-use Rattle.math.proofs.MinMax.{picked-fits, agree, agree-first, first-plain}
+use Rattle.math.proofs.MinMax.{picked-fits, agree-first, first-plain}
 use Rattle.quantise.specs.Quarter.{side, quarterFloor, quarterCeil, quarterBox}
 use Rattle.quantise.specs.Bounds.{greatest, lowest, thirds, held, Run, done, turn, Bounding, fold, leastSide, greatestSide, quarterBounds}
 use Rattle.quantise.specs.declared.bounds.Aabb.{Aabb}
@@ -83,22 +84,25 @@ module _ (s : List ℕ) (at n : ℕ) where
 
   module _ (min max : Vec3) (place i : ℕ) (g : Swept s at n min max place i) where
     pub swept-turn : (v min' max' : Vec3) → i < n
-        → (v .x ≡ ofBits binary32 (getD s place 0)) × (v .y ≡ ofBits binary32 (getD s (place + 1) 0)) × (v .z ≡ ofBits binary32 (getD s (place + 2) 0))
+        → v ≡ floatsAt s place
         → IsMin (min .x) (v .x) (min' .x) × IsMin (min .y) (v .y) (min' .y) × IsMin (min .z) (v .z) (min' .z)
         → IsMax (max .x) (v .x) (max' .x) × IsMax (max .y) (v .y) (max' .y) × IsMax (max .z) (v .z) (max' .z)
         → Swept s at n min' max' (place + 3) (i + 1)
     swept-turn v min' max' h e l m =
+        let ex = ap (λ (u : Vec3). u .x) e in
+        let ey = ap (λ (u : Vec3). u .y) e in
+        let ez = ap (λ (u : Vec3). u .z) e in
         let py : place + 3 + 1 ≡ place + 1 + 3 = omega arith in
         let pz : place + 3 + 2 ≡ place + 2 + 3 = omega arith in
         record {
           within = omega arith;
           here = omega (arith, g .here);
-          min-x = left-turn IsMin greatest _ s _ (v .x) _ place (place + 3) i n h refl (g .min-x) (e .0) (l .0);
-          min-y = left-turn IsMin greatest _ s _ (v .y) _ (place + 1) (place + 3 + 1) i n h py (g .min-y) (e .1) (l .1);
-          min-z = left-turn IsMin greatest _ s _ (v .z) _ (place + 2) (place + 3 + 2) i n h pz (g .min-z) (e .2) (l .2);
-          max-x = left-turn IsMax lowest _ s _ (v .x) _ place (place + 3) i n h refl (g .max-x) (e .0) (m .0);
-          max-y = left-turn IsMax lowest _ s _ (v .y) _ (place + 1) (place + 3 + 1) i n h py (g .max-y) (e .1) (m .1);
-          max-z = left-turn IsMax lowest _ s _ (v .z) _ (place + 2) (place + 3 + 2) i n h pz (g .max-z) (e .2) (m .2);
+          min-x = left-turn IsMin greatest _ s _ (v .x) _ place (place + 3) i n h refl (g .min-x) ex (l .0);
+          min-y = left-turn IsMin greatest _ s _ (v .y) _ (place + 1) (place + 3 + 1) i n h py (g .min-y) ey (l .1);
+          min-z = left-turn IsMin greatest _ s _ (v .z) _ (place + 2) (place + 3 + 2) i n h pz (g .min-z) ez (l .2);
+          max-x = left-turn IsMax lowest _ s _ (v .x) _ place (place + 3) i n h refl (g .max-x) ex (m .0);
+          max-y = left-turn IsMax lowest _ s _ (v .y) _ (place + 1) (place + 3 + 1) i n h py (g .max-y) ey (m .1);
+          max-z = left-turn IsMax lowest _ s _ (v .z) _ (place + 2) (place + 3 + 2) i n h pz (g .max-z) ez (m .2);
         }
 
     pub swept-end : (r : Aabb) → r .min ≡ min → r .max ≡ max → n ≤ i → Bounding s at n r
@@ -116,9 +120,6 @@ pub side-same : (ceil : Bool) (r s : Float) → plain r ≡ plain s → side cei
 side-same ceil r s p = sym (side-plain ceil r) ∙ ap (side ceil) p ∙ side-plain ceil s
 
 module _ {before under : Float → Float → Bool} (o : Order before under) where
-  pub picked-side : (ceil : Bool) (a b r r' : Float) → T (fits binary32 a) → T (fits binary32 b) → Picked under a b r → Picked under a b r' → side ceil r ≡ side ceil r'
-  picked-side ceil a b r r' p q g h = side-same ceil r r' (agree o a b binary32 p q r r' g h)
-
   fold-plain : (a b : Float) (ws : List ℕ) → plain a ≡ plain b → plain (fold (first before) a ws) ≡ plain (fold (first before) b ws)
   unfolding fold
   fold-plain a b [] e = e

@@ -1,12 +1,11 @@
 // A polygon's bounds, from the words of its vertices: three to a vertex, floats as their bits.
 ghost use mathlib.Core.Path.{_≡_};
 ghost use Prim.Native.Nat.{_+_, _-_, _*_, _/_, _≤_, min};
-ghost use lib.ListN.{length, getD};
-ghost use lib.Ieee.{binary32, ofBits};
+ghost use lib.ListN.{length};
 ghost use Rattle.quantise.specs.Bounds.{held, Bounding, quarterBounds};
 use super::quarter::QuarterBox;
-use math::num::float_of_bits;
 use math::vec3::Vec3;
+use math::vec3::floats_at;
 
 // Rust's `f32::MAX` and `f32::MIN`, the greatest finite value and the least.
 const MAX: f32 = 340282350000000000000000000000000000000.0;
@@ -19,18 +18,6 @@ pub struct Aabb {
     pub max: Vec3,
 }
 
-fn vertex_at(strip: &[u32], at: usize) -> Vec3
-    requires { ⌜ at + 3 ≤ length (now strip) ⌝ }
-    ensures { λ r. ⌜ (r .x ≡ ofBits binary32 (getD (now (strip .entry)) at 0))
-        × (r .y ≡ ofBits binary32 (getD (now (strip .entry)) (at + 1) 0))
-        × (r .z ≡ ofBits binary32 (getD (now (strip .entry)) (at + 2) 0)) ⌝ }
-{
-    let x = float_of_bits(strip[at]);
-    let y = float_of_bits(strip[at + 1]);
-    let z = float_of_bits(strip[at + 2]);
-    Vec3 { x, y, z }
-}
-
 // Min and max of n vertices that are there.
 fn bounds_of(strip: &[u32], at: usize, n: usize) -> Aabb
     requires { ⌜ 3 * n ≤ length (now strip) - at ⌝ }
@@ -41,7 +28,7 @@ fn bounds_of(strip: &[u32], at: usize, n: usize) -> Aabb
     let mut place = at;
     let mut i: usize = 0;
     while i < n {
-        let v = vertex_at(strip, place);
+        let v = floats_at(strip, place);
         min = min.min(v);
         max = max.max(v);
         place += 3;

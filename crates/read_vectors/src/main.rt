@@ -8,7 +8,7 @@ ghost use Prim.Native.Nat.{ℕ, _+_, _*_, _^_, _≤_, _<_, min};
 ghost use lib.ListN.{length, getD};
 ghost use Rattle.fields.specs.Bytes.{le};
 ghost use Rattle.strip.specs.Outcome.{refusalOf, shown};
-ghost use Rattle.ynv_read.specs.Passes.{paper};
+ghost use Rattle.ynv_read.specs.Parse.{paper};
 ghost use Rattle.read_vectors.specs.Agreement.{told, toldCounts, toldWord, untouchedWords, endOf, padded, toldWords, outcomeOf, stripOf, Agrees, Placed, Stands, Tallied};
 use fields::u32_le;
 use strip::Refusal;

@@ -6,24 +6,19 @@ use Prim.Native.Nat.{ℕ, zero, suc, _+_, _-_, _*_, _%_, _^_, _≤_, _<_, min}
 use native.Mathlib.Nat.{mul-suc, suc-mul, div-add-mod', mod-lt, add-zero, mul-le-mul-left}
 use native.Mathlib.Omega.{arith}
 use lib.ListN.{length, take, drop, length-drop, take-append-drop}
-use lib.Seq.{take-at, drop-at, length-take-le}
+use lib.Seq.{length-take-le}
 use Rattle.fields.specs.Bytes.{le, cat}
 use Rattle.fields.specs.Rows.{rowBytes}
 use Rattle.fields.proofs.Holds.{Holds, all-held, held-more, held-first, held-second, held-end}
 use Rattle.fields.proofs.Rows.{length-rows, field-in, field-back}
 use Rattle.blocks.specs.Layout.{placeOf, behind, address}
 use Rattle.blocks.specs.Lists.{perPart, partCount, counts, chunks, Wide, offsetsAddress, tableAt, partsFrom, itemsEnd, listRow, partRow, tableBytes, frontBlocks, offsetBlocks, listBlocks}
-use Rattle.blocks.proofs.Lists.{cat-append, length-cat, wide-take, wide-drop, table-length}
+use Rattle.blocks.proofs.Lists.{cut-back, cat-append, length-cat, wide-take, wide-drop, table-length}
 use Rattle.blocks.proofs.Standing.{Stand, stand-first}
-use Rattle.grammar.specs.Parts.{Good, cut, Array}
+use Rattle.grammar.specs.Parts.{Good, Array}
 use Rattle.grammar.specs.Lists.{Table, no-table, table, Parts, no-part, skipped, part, ListAt, Items, some}
 use Rattle.grammar.proofs.Parts.{held-good}
 use Rattle.pages.specs.Optional.{blockOf, addressOf}
-
-pub cut-back : (w : ℕ) (items : List (List ℕ)) → Wide w items → cut w (length items) (cat items) ≡ items
-unfolding cut cat
-cut-back w [] h = refl
-cut-back w (b ∷ items) h = rw (take-at b (cat items) w (h .0), drop-at b (cat items) w (h .0), cut-back w items (h .1))
 
 -- ---- a block where there is something
 

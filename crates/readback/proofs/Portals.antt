@@ -6,7 +6,7 @@ use native.Mathlib.Nat.{mod-eq-of-lt}
 use native.Mathlib.Omega.{arith}
 use lib.ListN.{length}
 use lib.Seq.{take-at, drop-at}
-use Rattle.fields.specs.Bytes.{le, leBytes, les}
+use Rattle.fields.specs.Bytes.{le, leBytes, les, cut}
 use Rattle.fields.specs.Rows.{rowBytes, pack}
 use Rattle.fields.proofs.Bytes.{length-bytes, le-bytes, length-les}
 use Rattle.fields.proofs.Holds.{Holds}
@@ -17,7 +17,6 @@ use Rattle.resource.proofs.Parts.{null-empty}
 use Rattle.strip.specs.Cell.{Vec3, Portal, Point, Head, All, PointFits}
 use Rattle.blocks.specs.Layout.{placeOf}
 use Rattle.blocks.proofs.Standing.{Stand}
-use Rattle.grammar.specs.Parts.{cut}
 use Rattle.grammar.specs.Polygons.{linksAt}
 use Rattle.grammar.specs.Derives.{backOf, portalOf, pointOf}
 use Rattle.pages.specs.Items.{floats}

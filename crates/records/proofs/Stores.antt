@@ -1,27 +1,15 @@
--- Stores one after the other are one `put`: of single words, of a record's parts, and of a list's items.
-use mathlib.Core.Path.{_≡_, refl, ap, _∙_}
-use mathlib.Core.List.{List, [], _∷_, _++_, map}
-use Prim.Native.Nat.{ℕ, suc, _+_, _-_, _*_, _/_, _%_, _^_, _≤_, _<_}
-use native.Mathlib.Numerals.{add-one}
-use native.Mathlib.Nat.{mul-add}
+-- Stores one after the other are one `put`: of single words and of a record's parts.
+use mathlib.Core.Path.{_≡_, refl}
+use mathlib.Core.List.{List, [], _∷_, _++_}
+use Prim.Native.Nat.{ℕ, _+_, _*_, _/_, _%_, _^_, _<_}
 use native.Mathlib.Omega.{arith}
-use lib.ListN.{length, take, drop, set}
-use lib.Seq.{drop-drop}
+use lib.ListN.{length}
 use Rattle.fields.specs.Bytes.{put}
 use Rattle.fields.specs.Rows.{pack, field}
-use Rattle.fields.proofs.Puts.{put-cons, put-one, put-nil, put-next}
-use Rattle.strip.specs.Cell.{Vec3, Portal, vecWords, headWords, portalWords, each}
-use Rattle.grammar.specs.Parts.{cut}
+use Rattle.fields.proofs.Puts.{put-next}
+use Rattle.strip.specs.Cell.{Vec3, Portal, vecWords, headWords, portalWords}
 use Rattle.grammar.specs.Derives.{vecOf, headOf, portalOf}
 use Rattle.records.specs.Words.{valueWords, frontWords, backWords}
-
-pub put-two : (at a b : ℕ) (xs : List ℕ) → set (set xs at a) (at + 1) b ≡ put at (a ∷ b ∷ []) xs
-put-two at a b xs = rw (add-one at, put-cons at a (b ∷ []) xs, put-one (suc at) b (set xs at a))
-
-pub put-three : (at a b c : ℕ) (xs : List ℕ) → set (set (set xs at a) (at + 1) b) (at + 2) c ≡ put at (a ∷ b ∷ c ∷ []) xs
-put-three at a b c xs =
-    let e : at + 2 ≡ suc (suc at) = omega arith in
-    rw (e, add-one at, put-cons at a (b ∷ c ∷ []) xs, put-cons (suc at) b (c ∷ []) (set xs at a), put-one (suc (suc at)) c (set (set xs at a) (suc at) b))
 
 -- kind and content flags, then area id, version and vft
 pub values-stored : (a b c d e : ℕ) (xs : List ℕ) → put 2 (c ∷ d ∷ e ∷ []) (put 0 (a ∷ b ∷ []) xs) ≡ put 0 (a ∷ b ∷ c ∷ d ∷ e ∷ []) xs
@@ -47,26 +35,6 @@ portal-stored back b at from to xs e f =
     let p = vecWords (portalOf back b .from) in
     let q = vecWords (portalOf back b .to) in
     rw (e, f, put-next 2 at front p xs refl, put-next 5 at (front ++ p) q xs refl, put-next 8 at ((front ++ p) ++ q) (backWords b) xs refl)
-
--- Item i of n is stored, w bytes as k words each, and what is left of them from there on is to be stored behind it.
-pub item-stored : {A : Type 0} (words : A → List ℕ) (f : List ℕ → A) (w k : ℕ) → ((a : A) → length (words a) ≡ k)
-    → (at n i : ℕ) (bs xs : List ℕ) → i < n
-    → put (at + k * (i + 1)) (each words (map f (cut w (n - (i + 1)) (drop (w * (i + 1)) bs)))) (put (at + k * i) (words (f (take w (drop (w * i) bs)))) xs)
-    ≡ put (at + k * i) (each words (map f (cut w (n - i) (drop (w * i) bs)))) xs
-unfolding cut each
-item-stored words f w k long at n i bs xs h =
-    let m = n - (i + 1) in
-    let one = words (f (take w (drop (w * i) bs))) in
-    let e : n - i ≡ suc m = omega arith in
-    let p : at + k * (i + 1) ≡ at + k * i + k = omega (arith, mul-add k i 1) in
-    let q : w * i + w ≡ w * (i + 1) = omega (arith, mul-add w i 1) in
-    let d : drop w (drop (w * i) bs) ≡ drop (w * (i + 1)) bs = drop-drop w (w * i) bs ∙ ap (λ (j : ℕ). drop j bs) q in
-    rw (e, p, d) (put-next k (at + k * i) one (each words (map f (cut w m (drop (w * (i + 1)) bs)))) xs (long (f (take w (drop (w * i) bs)))))
-
--- and at the end nothing is left
-pub items-stored : {A : Type 0} (words : A → List ℕ) (f : List ℕ → A) (w at n i : ℕ) (bs xs : List ℕ) → n ≤ i → put at (each words (map f (cut w (n - i) bs))) xs ≡ xs
-unfolding cut each
-items-stored words f w at n i bs xs h = let e : n - i ≡ 0 = omega arith in rw (e, put-nil at xs)
 
 pub portal-length : (p : Portal) → length (portalWords p) ≡ 11
 unfolding portalWords vecWords

@@ -19,7 +19,7 @@ pub(crate) fn put2(strip: &mut [u32], at: usize, a: u32, b: u32)
     strip[at + 1] = b;
 }
 
-pub(crate) fn put3(strip: &mut [u32], at: usize, a: u32, b: u32, c: u32)
+pub fn put3(strip: &mut [u32], at: usize, a: u32, b: u32, c: u32)
     requires { ⌜ at + 3 ≤ length (now strip) ⌝ }
     ensures { λ _. ⌜ now (strip .exit) ≡ put at (a ∷ b ∷ c ∷ []) (now (strip .entry)) ⌝ }
 {
@@ -29,21 +29,14 @@ pub(crate) fn put3(strip: &mut [u32], at: usize, a: u32, b: u32, c: u32)
 }
 
 // A short turned back on an axis, as the coordinate's bits.
-pub(crate) fn axis_bits(q: u16, lo: f32, extent: f32) -> u32
+pub fn axis_bits(q: u16, lo: f32, extent: f32) -> u32
     ensures { λ r. ⌜ r ≡ axisBits q lo extent ⌝ }
 {
     bits_of_float(unquantise_axis(q, lo, extent))
 }
 
 // The position whose three shorts stand in b from off on, turned back in a box.
-pub(crate) fn put_position(
-    b: &[u8],
-    off: usize,
-    bb_min: Vec3,
-    bb_size: Vec3,
-    strip: &mut [u32],
-    at: usize,
-)
+pub fn put_position(b: &[u8], off: usize, bb_min: Vec3, bb_size: Vec3, strip: &mut [u32], at: usize)
     requires { ⌜ (off ≤ 65536) × (at + 3 ≤ length (now strip)) ⌝ }
     ensures { λ _. ⌜ now (strip .exit) ≡ put at (vecWords (backBy «bb_min» «bb_size» (le 2 (now (b .entry)) off) (le 2 (now (b .entry)) (off + 2)) (le 2 (now (b .entry)) (off + 4)))) (now (strip .entry)) ⌝ }
 {

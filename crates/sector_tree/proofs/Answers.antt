@@ -1,5 +1,5 @@
 -- What `read_sector_tree` says, by the answer of the walk.
-use Prim.Native.Nat.{ℕ, _+_, _-_, _*_, _≤_}
+use Prim.Native.Nat.{ℕ, _-_}
 use native.Mathlib.Nat.{zero-add}
 use native.Mathlib.Omega.{arith}
 use mathlib.Core.Path.{_≡_, refl, sym, ap, _∙_}
@@ -16,7 +16,6 @@ use Rattle.sector_tree.specs.declared.Walk.the-variants.{Done, Refused}
 use Rattle.sector_tree.specs.Walk.{Walked, walk}
 use Rattle.sector_tree.specs.Walk.Walked.{done, refused}
 use Rattle.sector_tree.specs.Answer.{outcomeOf, treeOutcome, counted, Counted}
-use Rattle.sector_tree.specs.Write.{Fits}
 
 was-refused : (w : Walked) {e : ℕ} → counted 0 w ≡ Refused e → w ≡ refused e
 was-refused (done l ps) h = let z : _≡_ {A = ℕ} 0 1 = cc in absurd (omega arith)
@@ -66,6 +65,3 @@ module _ (system graphics : List ℕ) (root : ℕ) where
   pub accepted : {t : Tree} → values t ≡ shown (treeOutcome system graphics root) → Accepted t
   unfolding treeOutcome
   accepted e = accepted-by (walk system graphics 4096 (root ∷ [])) (eqb root 0) refl e
-
-  pub accepted-fits : {t : Tree} {at n : ℕ} → Accepted t → at + 4 * t .points ≤ n → Fits (walk system graphics 4096 (root ∷ [])) at n
-  accepted-fits a room = record { left = a .left; points = a .points; is = a .is; room = rw (← a .points-are) room }

@@ -8,20 +8,17 @@ use mathlib.Core.List.{List, []}
 use lib.Dec.{eqb, eqb·suc-zero}
 use lib.ListN.{length}
 use borrow.Author.Tests.{ne-eqb}
-use Rattle.fields.specs.Bytes.{le}
+use Rattle.fields.specs.Bytes.{le, cut}
 use Rattle.fields.proofs.Bytes.{past}
 use Rattle.resource.specs.Section.{good, resolved}
 use Rattle.resource.proofs.Parts.{good-length, short-bad, full-good, null-empty}
-use Rattle.grammar.specs.Parts.{Good, cut, Array}
+use Rattle.grammar.specs.Parts.{Array}
 use Rattle.grammar.specs.Trees.{Data}
+use Rattle.grammar.proofs.Parts.{good-found, found-good}
+use Rattle.fields.proofs.Cuts.{cut-length}
 use Rattle.sector_tree.specs.declared.Found.the-variants.{Points, Bad}
 use Rattle.sector_tree.specs.Sector.{dataOf, countOf, pointsOf, goodData}
 use Rattle.sector_tree.specs.Answer.{foundOf}
-
-pub length-cut : (w n : ℕ) (bs : List ℕ) → length (cut w n bs) ≡ n
-unfolding cut
-length-cut w zero bs = refl
-length-cut w (suc n) bs = ap suc (length-cut w n _)
 
 both-true : (a b : Bool) → (a && b) ≡ true → (a ≡ true) × (b ≡ true)
 both-true true b e = (refl, e)
@@ -74,7 +71,7 @@ module _ (system graphics s : List ℕ) {va : ℕ} (eva : va ≡ le 8 s 0x2C) wh
         pub find-points : 8 * n ≤ length p → Points n ≡ foundOf (goodData system graphics s) (pointsOf system graphics s)
         find-points h =
             rw (data-good, or-more n _ more, ← ep, full-good system graphics pv (8 * n) (omega (arith, pos-of-ne-zero more)) (rw eq at h), points-are ed en)
-            (ap Points (sym (length-cut 8 n (resolved system graphics (le 8 d 0x10) (8 * n)))))
+            (ap Points (sym (cut-length 8 n (resolved system graphics (le 8 d 0x10) (8 * n)))))
 
   -- where data and points are good, the fields are there
   module _ (g : goodData system graphics s ≡ true) where
@@ -88,27 +85,21 @@ module _ (system graphics s : List ℕ) {va : ℕ} (eva : va ≡ le 8 s 0x2C) wh
         pub points-there : (8 * n ≤ length p) × (pointsOf system graphics s ≡ cut 8 n p) × (length (pointsOf system graphics s) ≡ n)
         points-there =
             let e : pointsOf system graphics s ≡ cut 8 n p = rw (points-are ed en, ← ep, ← eq) in
-            (rw eq (omega (arith, good-length system graphics pv (8 * n) points-good)), e, rw e (length-cut 8 n p))
+            (rw eq (omega (arith, good-length system graphics pv (8 * n) points-good)), e, rw e (cut-length 8 n p))
 
 -- ---- by the grammar
 
 module _ (system graphics : List ℕ) where
-  pub good-part : (va n : ℕ) → 0 < n → good system graphics va n ≡ true → Good system graphics va n (resolved system graphics va n)
-  good-part va n some e = record { some = some; there = refl; whole = good-length system graphics va n e }
-
-  pub part-good : {va n : ℕ} {b : List ℕ} → Good system graphics va n b → good system graphics va n ≡ true
-  part-good {va} {n} g = full-good system graphics va n (g .some) (omega (arith, ap length (g .there), g .whole))
-
   array-good : {w va n : ℕ} {ps : List (List ℕ)} → Array system graphics w va n ps
       → ((eqb n 0 || good system graphics va (w * n)) ≡ true) × (cut w n (resolved system graphics va (w * n)) ≡ ps)
   unfolding cut
   array-good Array.none = (refl, refl)
-  array-good {w} {va} (Array.some {n = n} {b = b} g) = (rw (eqb·suc-zero n) (part-good g), rw (g .there))
+  array-good {w} {va} (Array.some {n = n} {b = b} g) = (rw (eqb·suc-zero n) (good-found system graphics _ _ g), rw (g .there))
 
   good-array : (w va n : ℕ) → 0 < w → (eqb n 0 || good system graphics va (w * n)) ≡ true → Array system graphics w va n (cut w n (resolved system graphics va (w * n)))
   unfolding cut
   good-array w va zero some e = Array.none
-  good-array w va (suc n) some e = Array.some (good-part va (w * suc n) (omega arith) (rw (eqb·suc-zero n) at e))
+  good-array w va (suc n) some e = Array.some (found-good system graphics va (w * suc n) (omega arith) (rw (eqb·suc-zero n) at e))
 
   module _ (s : List ℕ) where
     pub data-good-points : {ps : List (List ℕ)} → Data system graphics s ps → (goodData system graphics s ≡ true) × (pointsOf system graphics s ≡ ps)
@@ -116,7 +107,7 @@ module _ (system graphics : List ℕ) where
     data-good-points (Data.data-at {d = d} {ps = ps} some g a) =
         let (f, e) = array-good a in
         let more : le 8 s 0x2C ≡ 0 → ⊥ = λ z. omega arith in
-        (data-is system graphics s refl (sym (g .there)) refl true (part-good g) more ∙ f, points-are system graphics s refl (sym (g .there)) refl ∙ e)
+        (data-is system graphics s refl (sym (g .there)) refl true (good-found system graphics _ _ g) more ∙ f, points-are system graphics s refl (sym (g .there)) refl ∙ e)
 
     data-of : (va : ℕ) → le 8 s 0x2C ≡ va → goodData system graphics s ≡ true → Data system graphics s (pointsOf system graphics s)
     data-of zero e g = subst (Data system graphics s) (sym (without-data system graphics s refl e .1)) (Data.no-data e)
@@ -124,7 +115,7 @@ module _ (system graphics : List ℕ) where
         let more : le 8 s 0x2C ≡ 0 → ⊥ = λ z. omega arith in
         let (a, b) = both-true _ _ (sym (data-is system graphics s refl refl refl (good system graphics (le 8 s 0x2C) 32) refl more) ∙ g) in
         subst (Data system graphics s) (sym (points-are system graphics s refl refl refl))
-        (Data.data-at (omega arith) (good-part (le 8 s 0x2C) 32 (omega arith) a) (good-array 8 _ _ (omega arith) b))
+        (Data.data-at (omega arith) (found-good system graphics (le 8 s 0x2C) 32 (omega arith) a) (good-array 8 _ _ (omega arith) b))
 
     pub good-data : goodData system graphics s ≡ true → Data system graphics s (pointsOf system graphics s)
     good-data g = data-of (le 8 s 0x2C) refl g

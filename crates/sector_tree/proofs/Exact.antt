@@ -1,10 +1,9 @@
 -- The walk and the grammar say the same.
 --     walk-complete   where there are trees, a walk with enough visits spends one on each sector and finds their points
 --     walk-sound      what a walk accepts has trees, of as many sectors as visits were spent, with those points
---     trees-one       two derivations at the same addresses have as many sectors, and the same points
 --     tree-read, read-tree, tree-refused   the same of `treeOutcome`, the answer on the tree at a root
 use Prim.Native.Nat.{ℕ, zero, suc, _+_, _-_, _≤_}
-use native.Mathlib.Nat.{zero-add, suc-add, add-assoc, add-comm}
+use native.Mathlib.Nat.{zero-add, suc-add, add-assoc}
 use native.Mathlib.Omega.{arith}
 use mathlib.Core.Path.{_≡_, refl, sym, ap, subst, _∙_}
 use mathlib.Core.Bool.{Bool, true, false, cond}
@@ -15,6 +14,7 @@ use borrow.Author.Tests.{ne-eqb}
 use Rattle.resource.specs.Section.{good, resolved}
 use Rattle.resource.proofs.Parts.{null-bad}
 use Rattle.grammar.specs.Trees.{subsTo, Trees, Tree}
+use Rattle.grammar.proofs.Parts.{good-found, found-good}
 use Rattle.strip.specs.Outcome.{Outcome}
 use Rattle.strip.specs.Outcome as Outcome
 use Rattle.sector_tree.specs.declared.Tree as Counts
@@ -22,7 +22,7 @@ use Rattle.sector_tree.specs.Sector.{pointsOf, goodData}
 use Rattle.sector_tree.specs.Walk.{Walked, also, checked, sectorAt, walk}
 use Rattle.sector_tree.specs.Walk.Walked.{done, refused}
 use Rattle.sector_tree.specs.Answer.{outcomeOf, treeOutcome}
-use Rattle.sector_tree.proofs.Data.{good-part, part-good, data-good-points, good-data}
+use Rattle.sector_tree.proofs.Data.{data-good-points, good-data}
 
 also-also : (ps qs : List (List ℕ)) (w : Walked) → also ps (also qs w) ≡ also (ps ++ qs) w
 also-also ps qs (done l rs) = ap (done l) (sym (append-assoc ps qs rs))
@@ -74,17 +74,10 @@ module _ (system graphics : List ℕ) where
   along Trees.none f t = rw (zero-add, also-none)
   along (Trees.tree {va = va} {s = s} {vas = vas} {ps = ps} {qs = qs} {rs = rs} g d r rest) f t =
       let (a, b) = data-good-points system graphics s d in
-      rw (suc-add, add-assoc, part-good system graphics g, g .there, a, b, along r _ (vas ++ t), along rest f t, also-also qs rs, also-also)
+      rw (suc-add, add-assoc, good-found system graphics _ _ g, g .there, a, b, along r _ (vas ++ t), along rest f t, also-also qs rs, also-also)
 
   pub walk-complete : {vas : List ℕ} {n : ℕ} {ps : List (List ℕ)} → Trees system graphics vas n ps → (f : ℕ) → walk system graphics (n + f) vas ≡ done f ps
   walk-complete {vas} {n} {ps} r f = cc (along r f [], walk-none f, append-nil vas, append-nil ps)
-
-  pub trees-one : {vas : List ℕ} {n m : ℕ} {ps qs : List (List ℕ)} → Trees system graphics vas n ps → Trees system graphics vas m qs → (n ≡ m) × (ps ≡ qs)
-  trees-one {vas} {n} {m} r q =
-      let a = walk-complete r m in
-      let b = walk-complete q n in
-      let c = add-comm n m in
-      (cc, cc)
 
   -- trees at the addresses of s ++ t are trees at those of s and trees at those of t
   apart : (s t : List ℕ) {n : ℕ} {ps : List (List ℕ)} → Trees system graphics (s ++ t) n ps
@@ -111,7 +104,7 @@ module _ (system graphics : List ℕ) where
       let (k, j, us, vs, a, b, o, p) = apart (subsTo s 4) vas r in
       let q : pointsOf system graphics s ++ (us ++ vs) ≡ ps = cc in (
         suc (k + j),
-        subst (λ z. Trees system graphics (va ∷ vas) (suc (k + j)) z) q (Trees.tree (good-part system graphics va 96 (omega arith) g) (good-data system graphics s h) a b),
+        subst (λ z. Trees system graphics (va ∷ vas) (suc (k + j)) z) q (Trees.tree (found-good system graphics va 96 (omega arith) g) (good-data system graphics s h) a b),
         omega (arith, i, o, spent),
       )
 
@@ -145,7 +138,7 @@ module _ (system graphics : List ℕ) where
     -- no tree stands at address 0
     root-there : {n : ℕ} {ps : List (List ℕ)} → Tree system graphics root n ps → root ≡ 0 → ⊥
     root-there (Trees.tree {va = va} g d r rest) z =
-        let e : true ≡ false = sym (part-good system graphics g) ∙ rw z (null-bad system graphics 96) in
+        let e : true ≡ false = sym (good-found system graphics _ _ g) ∙ rw z (null-bad system graphics 96) in
         let o : _≡_ {A = ℕ} 0 1 = cc in omega arith
 
     -- a tree of at most 4,096 sectors is accepted, with its numbers of sectors and points

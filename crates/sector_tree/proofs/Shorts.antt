@@ -6,11 +6,11 @@ use mathlib.Core.Bool.{Bool, true, false, cond}
 use mathlib.Core.List.{List, [], _∷_, _++_}
 use lib.ListN.{getD, take, drop}
 use lib.Seq.{getD-drop}
-use Rattle.fields.specs.Bytes.{le}
+use Rattle.fields.specs.Bytes.{le, cut}
 use Rattle.fields.proofs.Bytes.{le-lt}
 use Rattle.resource.specs.Section.{inGraphics, inSystem, within, part, resolved}
 use Rattle.strip.specs.Cell.{All}
-use Rattle.grammar.specs.Parts.{cut, Array}
+use Rattle.grammar.specs.Parts.{Array}
 use Rattle.grammar.specs.Trees.{Data, Trees}
 use Rattle.sector_tree.specs.Walk.{walk}
 use Rattle.sector_tree.specs.Walk.Walked.{done}

@@ -1,24 +1,20 @@
 -- The words of points, and stores of them.
-use Prim.Native.Nat.{ℕ, suc, _+_, _-_, _*_, _<_}
+use Prim.Native.Nat.{ℕ, _+_, _*_, _<_}
 use native.Mathlib.Nat.{add-zero}
 use native.Mathlib.Numerals.{towards-suc}
 use native.Mathlib.Omega.{arith}
-use mathlib.Core.Path.{_≡_, refl, sym, _∙_}
-use mathlib.Core.List.{List, [], _∷_, _++_, append-assoc}
-use lib.ListN.{length, set, take, drop, length-append}
-use lib.Seq.{drop-drop}
+use mathlib.Core.Path.{_≡_, refl, sym, ap, _∙_}
+use mathlib.Core.List.{List, [], _∷_, _++_, map, append-assoc}
+use lib.ListN.{length, length-map, set}
 use Rattle.fields.specs.Bytes.{le, put}
 use Rattle.fields.specs.Rows.{pack}
 use Rattle.fields.proofs.Puts.{put-nil, put-cons, put-next}
-use Rattle.strip.specs.Cell.{Vec3, vecWords, each, pointWords}
-use Rattle.grammar.specs.Parts.{cut}
+use Rattle.strip.specs.Cell.{Vec3, Point, vecWords, each, pointWords}
 use Rattle.grammar.specs.Derives.{pointOf}
+use Rattle.records.proofs.Items.{length-each}
 use Rattle.sector_tree.specs.Write.{asShorts, pointsWords}
 
--- the words of a position, and of a point, stored one after the other
-pub three-put : (at a b c : ℕ) (s : List ℕ) → set (set (set s (at + 1) a) (at + 2) b) (at + 3) c ≡ put (at + 1) (a ∷ b ∷ c ∷ []) s
-three-put at a b c s = simp (put-cons, put-nil, towards-suc)
-
+-- the words of a point, stored one after the other
 pub four-put : (at a b c d : ℕ) (s : List ℕ) → set (set (set (set s at a) (at + 1) b) (at + 2) c) (at + 3) d ≡ put at (a ∷ b ∷ c ∷ d ∷ []) s
 four-put at a b c d s = simp (put-cons, put-nil, towards-suc)
 
@@ -33,11 +29,11 @@ pub point-put : (at : ℕ) (b s : List ℕ) {a k x y z : ℕ} → a ≡ le 1 b 6
 unfolding pointWords pointOf vecWords asShorts
 point-put at b s {a} {k} ea ek ex ey ez h l = four-put at _ _ _ _ s ∙ rw (← ea, ← ek, ← ex, ← ey, ← ez, first-word a k h l)
 
-module _ (back : ℕ → ℕ → ℕ → Vec3) where
-  pub length-point : (p : List ℕ) → length (pointWords (pointOf back p)) ≡ 4
-  unfolding pointWords vecWords
-  length-point p = refl
+pub point-length : (p : Point) → length (pointWords p) ≡ 4
+unfolding pointWords vecWords
+point-length p = refl
 
+module _ (back : ℕ → ℕ → ℕ → Vec3) where
   -- one point, and those after it
   pub words-cons : (p : List ℕ) (ps : List (List ℕ)) → pointsWords back (p ∷ ps) ≡ pointWords (pointOf back p) ++ pointsWords back ps
   unfolding pointsWords each
@@ -47,9 +43,9 @@ module _ (back : ℕ → ℕ → ℕ → Vec3) where
   unfolding pointsWords each
   words-nil = refl
 
-  pub length-words : (ps : List (List ℕ)) → length (pointsWords back ps) ≡ 4 * length ps
-  length-words [] = rw words-nil
-  length-words (p ∷ ps) = rw (words-cons, length-append, length-point) (omega (arith, length-words ps))
+  length-words : (ps : List (List ℕ)) → length (pointsWords back ps) ≡ 4 * length ps
+  unfolding pointsWords
+  length-words ps = length-each pointWords 4 point-length (map (pointOf back) ps) ∙ ap (λ (n : ℕ). 4 * n) (length-map ps (pointOf back))
 
   words-append : (ps qs : List (List ℕ)) → pointsWords back (ps ++ qs) ≡ pointsWords back ps ++ pointsWords back qs
   words-append [] qs = rw words-nil
@@ -63,7 +59,7 @@ module _ (back : ℕ → ℕ → ℕ → Vec3) where
   -- a point and then ps
   pub words-next : (at : ℕ) (p : List ℕ) (ps : List (List ℕ)) (s : List ℕ)
       → put (at + 4) (pointsWords back ps) (put at (pointWords (pointOf back p)) s) ≡ put at (pointsWords back (p ∷ ps)) s
-  words-next at p ps s = rw words-cons (put-next 4 at (pointWords (pointOf back p)) (pointsWords back ps) s (length-point p))
+  words-next at p ps s = rw words-cons (put-next 4 at (pointWords (pointOf back p)) (pointsWords back ps) s (point-length (pointOf back p)))
 
   pub put-none : (at : ℕ) (s : List ℕ) → put at (pointsWords back []) s ≡ s
   put-none at s = rw (words-nil, put-nil)
@@ -71,36 +67,3 @@ module _ (back : ℕ → ℕ → ℕ → Vec3) where
 -- no points: nothing is written
 pub stays : {ps : List (List ℕ)} (at : ℕ) (s : List ℕ) → ps ≡ [] → (at ≡ at + 4 * length ps) × (s ≡ put at (pointsWords asShorts ps) s)
 stays at s e = rw (e, add-zero) (refl, sym (put-none asShorts at s))
-
-cut-suc : (m : ℕ) (q : List ℕ) → cut 8 (suc m) q ≡ take 8 q ∷ cut 8 m (drop 8 q)
-unfolding cut
-cut-suc m q = refl
-
--- the points of a part from the i-th on: the i-th, and the rest
-cut-more : (p : List ℕ) (n i : ℕ) → i < n → cut 8 (n - i) (drop (8 * i) p) ≡ take 8 (drop (8 * i) p) ∷ cut 8 (n - (i + 1)) (drop (8 * (i + 1)) p)
-cut-more p n i h =
-    let e : n - i ≡ suc (n - (i + 1)) = omega arith in
-    let f : 8 * (i + 1) ≡ 8 * i + 8 = omega arith in
-    rw (e, f, ← drop-drop 8 (8 * i) p) (cut-suc (n - (i + 1)) (drop (8 * i) p))
-
--- what is left to write once the i-th is written
-pub points-more : (p : List ℕ) (n i at : ℕ) (s : List ℕ) (w : ℕ) {t : List ℕ} → w ≡ 8 → i < n → t ≡ put (at + 4 * i) (pointWords (pointOf asShorts (take w (drop (8 * i) p)))) s
-    → put (at + 4 * (i + 1)) (pointsWords asShorts (cut 8 (n - (i + 1)) (drop (8 * (i + 1)) p))) t
-    ≡ put (at + 4 * i) (pointsWords asShorts (cut 8 (n - i) (drop (8 * i) p))) s
-points-more p n i at s w k h e =
-    let f : at + 4 * (i + 1) ≡ at + 4 * i + 4 = omega arith in
-    rw (e, k, f, cut-more p n i h) (words-next asShorts (at + 4 * i) (take 8 (drop (8 * i) p)) (cut 8 (n - (i + 1)) (drop (8 * (i + 1)) p)) s)
-
-pub points-start : (p : List ℕ) (n i at : ℕ) (s : List ℕ) → i ≡ 0
-    → put (at + 4 * i) (pointsWords asShorts (cut 8 (n - i) (drop (8 * i) p))) s ≡ put at (pointsWords asShorts (cut 8 n p)) s
-points-start p n i at s e =
-    let a : at + 4 * i ≡ at = omega arith in
-    let b : n - i ≡ n = omega arith in
-    let d : 8 * i ≡ 0 = omega arith in
-    rw (a, b, d)
-
-pub points-end : (p : List ℕ) (n i at : ℕ) (s : List ℕ) → i ≡ n → put (at + 4 * i) (pointsWords asShorts (cut 8 (n - i) (drop (8 * i) p))) s ≡ s
-unfolding cut
-points-end p n i at s e =
-    let z : n - i ≡ 0 = omega arith in
-    rw z (put-none asShorts (at + 4 * i) s)

@@ -4,26 +4,18 @@ use native.Mathlib.Nat.{mod-eq-of-lt}
 use native.Mathlib.Omega.{arith}
 use mathlib.Core.Path.{_≡_, sym, ap, _∙_}
 use mathlib.Core.List.{List, [], _∷_, _++_}
-use lib.ListN.{length, getD, set}
-use lib.Ieee.{binary32, ofBits}
+use lib.ListN.{length, getD}
 use Rattle.fields.specs.Bytes.{le, over, put}
 use Rattle.fields.proofs.Puts.{length-put, put-next, put-inside, stored}
 use Rattle.math.specs.declared.vec3.Vec3 as Floats
-use Rattle.strip.specs.Cell.{Vec3, Head, All, vecWords, pointWords}
-use Rattle.grammar.specs.Derives.{pointOf, axis, backOf}
+use Rattle.strip.specs.Cell.{All, vecWords, pointWords}
+use Rattle.grammar.specs.Derives.{pointOf}
+use Rattle.records.specs.Back.{axisBits, backBy}
 use Rattle.sector_tree.specs.Walk.{Walked}
 use Rattle.sector_tree.specs.declared.Spot.{Spot}
-use Rattle.sector_tree.specs.Write.{asShorts, axisBits, backBy, pointsWords, pointsIn, Fits, Written, turnedAt, turned}
+use Rattle.sector_tree.specs.Write.{asShorts, pointsWords, pointsIn, Fits, Written, turnedAt, turned}
 use Rattle.sector_tree.proofs.Shorts.{Shorts}
-use Rattle.sector_tree.proofs.Stores.{three-put, words-cons, words-next, put-none, length-point}
-
--- a box whose numbers are floats of a head's bits turns shorts back as the grammar does
-abbrev pub floatsOf : Vec3 → Floats.Vec3
-floatsOf v = record { x = ofBits binary32 (v .x); y = ofBits binary32 (v .y); z = ofBits binary32 (v .z) }
-
-pub back-is : (h : Head) {lo size : Floats.Vec3} → lo ≡ floatsOf (h .bb-min) → size ≡ floatsOf (h .bb-size) → backBy lo size ≡ backOf h
-unfolding backBy backOf axis axisBits
-back-is h e f = rw (e, f)
+use Rattle.sector_tree.proofs.Stores.{words-cons, words-next, put-none, point-length}
 
 module _ (lo size : Floats.Vec3) where
   -- the record at a place, whatever follows it
@@ -47,7 +39,7 @@ module _ (lo size : Floats.Vec3) where
   first-turned at p ps old q room =
       ap (λ (ws : List ℕ). turnedAt lo size at (put at ws old)) (words-cons asShorts p ps)
       ∙ point-turned at p (pointsWords asShorts ps) old q room
-      ∙ sym (put-next 4 at (pointWords (pointOf (backBy lo size) p)) (pointsWords asShorts ps) old (length-point (backBy lo size) p))
+      ∙ sym (put-next 4 at (pointWords (pointOf (backBy lo size) p)) (pointsWords asShorts ps) old (point-length (pointOf (backBy lo size) p)))
 
   pub points-turned : (ps : List (List ℕ)) (at : ℕ) (old : List ℕ) → All Shorts ps → at + 4 * length ps ≤ length old
       → turned lo size (length ps) at (put at (pointsWords asShorts ps) old) ≡ put at (pointsWords (backBy lo size) ps) old
@@ -60,9 +52,9 @@ module _ (lo size : Floats.Vec3) where
 
   -- the code's stores
   pub turn-put : (at : ℕ) (s : List ℕ) {x y z : ℕ} → x ≡ axisBits (getD s (at + 1) 0 % 65536) (lo .x) (size .x) → y ≡ axisBits (getD s (at + 2) 0 % 65536) (lo .y) (size .y)
-      → z ≡ axisBits (getD s (at + 3) 0 % 65536) (lo .z) (size .z) → set (set (set s (at + 1) x) (at + 2) y) (at + 3) z ≡ turnedAt lo size at s
+      → z ≡ axisBits (getD s (at + 3) 0 % 65536) (lo .z) (size .z) → put (at + 1) (x ∷ y ∷ z ∷ []) s ≡ turnedAt lo size at s
   unfolding turnedAt
-  turn-put at s {x} {y} {z} ex ey ez = rw (← ex, ← ey, ← ez) (three-put at x y z s)
+  turn-put at s ex ey ez = rw (← ex, ← ey, ← ez)
 
   -- one turn of the loop
   pub turned-more : (n i at : ℕ) (s : List ℕ) {t : List ℕ} → i < n → t ≡ turnedAt lo size (at + 4 * i) s

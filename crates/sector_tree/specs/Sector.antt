@@ -3,9 +3,8 @@ use Prim.Native.Nat.{ℕ, _*_}
 use mathlib.Core.Bool.{Bool, _&&_, _||_}
 use mathlib.Core.List.{List}
 use lib.Dec.{eqb}
-use Rattle.fields.specs.Bytes.{le}
+use Rattle.fields.specs.Bytes.{le, cut}
 use Rattle.resource.specs.Section.{good, resolved}
-use Rattle.grammar.specs.Parts.{cut}
 
 -- the data of the sector s, by its address at 0x2C. Address 0 names no part, so then there is none
 unfoldable pub dataOf : (system graphics s : List ℕ) → List ℕ

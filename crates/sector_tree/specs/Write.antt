@@ -3,24 +3,14 @@ use Prim.Native.Nat.{ℕ, zero, suc, _+_, _*_, _%_, _≤_}
 use mathlib.Core.Path.{_≡_}
 use mathlib.Core.List.{List, [], _∷_, map}
 use lib.ListN.{length, getD}
-use lib.Ieee.{Float, binary32, toBits}
 use Rattle.fields.specs.Bytes.{put}
 use Rattle.math.specs.declared.vec3.Vec3 as Floats
-use Rattle.quantise.specs.Short.{coordinate}
 use Rattle.strip.specs.Cell.{Vec3, each, pointWords}
 use Rattle.grammar.specs.Derives.{pointOf}
+use Rattle.records.specs.Back.{axisBits}
 use Rattle.sector_tree.specs.declared.Spot.{Spot}
 use Rattle.sector_tree.specs.Walk.{Walked}
 use Rattle.sector_tree.specs.Walk.Walked.{done, refused}
-
--- a short turned back on an axis, as bits
-unfoldable pub axisBits : ℕ → Float → Float → ℕ
-axisBits q lo extent = toBits binary32 (coordinate q lo extent)
-
--- three shorts turned back in a box, by its min and its size
-unfoldable pub backBy : Floats.Vec3 → Floats.Vec3 → ℕ → ℕ → ℕ → Vec3
-backBy lo size x y z =
-    record { x = axisBits x (lo .x) (size .x); y = axisBits y (lo .y) (size .y); z = axisBits z (lo .z) (size .z) }
 
 -- the points of an accepted walk
 abbrev pub pointsIn : Walked → List (List ℕ)

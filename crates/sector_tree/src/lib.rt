@@ -4,22 +4,22 @@ ghost use mathlib.Core.Bool.{true};
 ghost use mathlib.Core.List.{[], _∷_};
 ghost use Prim.Native.Nat.{ℕ, _+_, _*_, _^_, _≤_, _<_};
 ghost use lib.ListN.{length};
-ghost use Rattle.fields.specs.Bytes.{put};
+ghost use Rattle.fields.specs.Bytes.{put, cut};
 ghost use Rattle.strip.specs.Outcome.{shown};
 ghost use Rattle.strip.specs.Cell.{pointWords};
-ghost use Rattle.grammar.specs.Parts.{cut};
 ghost use Rattle.grammar.specs.Trees.{subsTo};
 ghost use Rattle.grammar.specs.Derives.{pointOf};
+ghost use Rattle.records.specs.Back.{backBy};
 ghost use Rattle.sector_tree.specs.Sector.{goodData, pointsOf};
 ghost use Rattle.sector_tree.specs.Walk.{walk};
 ghost use Rattle.sector_tree.specs.Answer.{paper, treeOutcome, foundOf, Few, Small, Counted};
-ghost use Rattle.sector_tree.specs.Write.{asShorts, axisBits, backBy, pointsWords, pointsIn, Fits, Written, turnedAt, turned};
+ghost use Rattle.sector_tree.specs.Write.{asShorts, pointsWords, pointsIn, Fits, Written, turnedAt, turned};
 use fields::u8_le;
 use fields::u16_le;
 use fields::u64_le;
-use math::num::bits_of_float;
 use math::vec3::Vec3;
-use quantise::short::unquantise_axis;
+use records::words::axis_bits;
+use records::words::put3;
 use resource::resolve;
 use strip::Refusal;
 
@@ -249,13 +249,6 @@ fn put_subs<'a>(
     Spot { left: l, at: e }
 }
 
-// A short turned back on an axis: the coordinate's bits.
-fn axis_bits(q: u16, lo: f32, extent: f32) -> u32
-    ensures { λ r. ⌜ r ≡ axisBits q lo extent ⌝ }
-{
-    bits_of_float(unquantise_axis(q, lo, extent))
-}
-
 // The position of the point at `at`, turned back.
 fn turn_point(strip: &mut [u32], at: usize, bb_min: Vec3, bb_size: Vec3)
     requires { ⌜ at + 4 ≤ length (now strip) ⌝ }
@@ -264,9 +257,7 @@ fn turn_point(strip: &mut [u32], at: usize, bb_min: Vec3, bb_size: Vec3)
     let x = axis_bits((strip[at + 1] % 0x1_0000) as u16, bb_min.x, bb_size.x);
     let y = axis_bits((strip[at + 2] % 0x1_0000) as u16, bb_min.y, bb_size.y);
     let z = axis_bits((strip[at + 3] % 0x1_0000) as u16, bb_min.z, bb_size.z);
-    strip[at + 1] = x;
-    strip[at + 2] = y;
-    strip[at + 3] = z;
+    put3(strip, at + 1, x, y, z);
 }
 
 // Those of the n points from `at` on.

@@ -46,7 +46,7 @@ few-points (node b t0 t1 t2 t3) h =
     rw (length-append (leafCounts t0) (leafCounts t1 ++ (leafCounts t2 ++ leafCounts t3)), length-append (leafCounts t1) (leafCounts t2 ++ leafCounts t3), length-append (leafCounts t2) (leafCounts t3))
     (omega (arith, few-points t0 (a .0), few-points t1 (c .0), few-points t2 (d .0), few-points t3 (d .1)))
 
-few-leaves : (n : ℕ) → 4 ^ depthBy n ≤ 16
+pub few-leaves : (n : ℕ) → 4 ^ depthBy n ≤ 16
 few-leaves zero = omega arith
 few-leaves (suc n) = omega arith
 

@@ -7,19 +7,18 @@ ghost use Prim.Native.Nat.{_+_, _*_, _^_, _≤_, _<_};
 ghost use lib.ListN.{length};
 ghost use Rattle.fields.specs.Bytes.{les, cat, put};
 ghost use Rattle.fields.specs.Rows.{rowBytes};
-ghost use Rattle.strip.specs.Reading.{vecAt, pointAt, pointsAt};
+ghost use Rattle.strip.specs.Reading.{pointAt, pointsAt};
 ghost use Rattle.blocks.specs.Layout.{behind, endOf, address, Laid};
-ghost use Rattle.pages.specs.Items.{floats};
 ghost use Rattle.pages.specs.Optional.{blockOf, sizeOf, addressOf};
-ghost use Rattle.pages.specs.Sectors.{idsOf, sectorRow, dataRow, sectorAddress, pointRow, pointItems};
+ghost use Rattle.pages.specs.Sectors.{idsOf, quarters, sectorRow, dataRow, sectorAddress, pointRow, pointItems};
 ghost use Rattle.quadtree.specs.Work.{boxBy, boxesIn, pickedFrom};
 ghost use Rattle.sectors.specs.Written.{treeIn, Room, Wrote};
 use blocks::Layout;
 use math::num::bits_of_float;
-use math::num::float_of_bits;
 use math::vec3::Vec3;
-use quadtree::leaves::count_ids;
+use math::vec3::floats_at;
 use quadtree::leaves::count_points;
+use quadtree::leaves::leaf_ids;
 use quadtree::leaves::meets_at;
 use quadtree::leaves::quarter_pair;
 use quantise::bounds::Aabb;
@@ -47,7 +46,7 @@ pub struct Points {
 }
 
 // The address of a block of `size` bytes that is laid out next; 0 where there is none.
-fn address_of(l: Layout, size: usize) -> u32
+pub fn address_of(l: Layout, size: usize) -> u32
     requires { ⌜ endOf (l .at) (sizeOf size) < 2 ^ 28 ⌝ }
     ensures { λ r. ⌜ r ≡ addressOf (l .at) size ⌝ }
 {
@@ -160,26 +159,18 @@ fn put_ids(out: &mut [u8], at: usize, boxes: &[u32], qx: u32, qy: u32)
 }
 
 // The block of a leaf's n ids, if there are any.
-fn lay_ids(out: &mut [u8], l: Layout, boxes: &[u32], qx: u32, qy: u32, n: usize) -> Layout
-    requires { ⌜ (n ≡ length (idsOf (boxBy qx qy 0) 0 (boxesIn (now boxes)))) × (n ≤ 8192) × (endOf (l .at) (sizeOf (2 * n)) < 2 ^ 28) ⌝ }
-    ensures { λ r. ⌜ Laid l (blockOf (les 2 (idsOf (boxBy qx qy 0) 0 (boxesIn (now (boxes .entry)))))) r (now (out .entry)) (now (out .exit)) ⌝ }
+fn lay_ids(out: &mut [u8], l: Layout, boxes: &[u32], b: Aabb, n: usize) -> Layout
+    requires { ⌜ (n ≡ length (idsOf (quarters b) 0 (boxesIn (now boxes)))) × (n ≤ 8192) × (endOf (l .at) (sizeOf (2 * n)) < 2 ^ 28) ⌝ }
+    ensures { λ r. ⌜ Laid l (blockOf (les 2 (idsOf (quarters b) 0 (boxesIn (now (boxes .entry)))))) r (now (out .entry)) (now (out .exit)) ⌝ }
 {
     if n == 0 {
         return l;
     }
+    let qx = quarter_pair(b.min.x, b.max.x);
+    let qy = quarter_pair(b.min.y, b.max.y);
     let at = blocks::pad(out, l, 2 * n);
     put_ids(out, at, boxes, qx, qy);
     l.alloc(2 * n)
-}
-
-fn position_at(strip: &[u32], at: usize) -> Vec3
-    requires { ⌜ at + 3 ≤ length (now strip) ⌝ }
-    ensures { λ r. ⌜ r ≡ floats (vecAt (now (strip .entry)) at) ⌝ }
-{
-    let x = float_of_bits(strip[at]);
-    let y = float_of_bits(strip[at + 1]);
-    let z = float_of_bits(strip[at + 2]);
-    Vec3 { x, y, z }
 }
 
 // The point whose record stands at `at`: shorts, angle, kind.
@@ -187,7 +178,7 @@ fn put_point(out: &mut [u8], p: usize, strip: &[u32], at: usize, lo: Vec3, size:
     requires { ⌜ at + 4 ≤ length (now strip) ⌝ }
     ensures { λ _. ⌜ now (out .exit) ≡ put p (rowBytes (pointRow lo size (pointAt (now (strip .entry)) at))) (now (out .entry)) ⌝ }
 {
-    let position = position_at(strip, at + 1);
+    let position = floats_at(strip, at + 1);
     let q = quantise::short::quantise(position, lo, size);
     let bytes = (strip[at] % 65536) as u16;
     let words = [fields::pair(q.x, q.y), fields::pair(q.z, bytes)];
@@ -279,13 +270,11 @@ fn write_leaf<'a>(
     let leaf = spot.leaf;
     let first = spot.first;
     let l = spot.layout;
-    let qx = quarter_pair(b.min.x, b.max.x);
-    let qy = quarter_pair(b.min.y, b.max.y);
-    let m = count_ids(boxes, qx, qy);
+    let m = leaf_ids(boxes, b);
     let n = count_points(leafs, leaf);
     let at = blocks::pad(out, l, SECTOR_SIZE);
     let l1 = l.alloc(SECTOR_SIZE);
-    let l2 = lay_ids(out, l1, boxes, qx, qy, m);
+    let l2 = lay_ids(out, l1, boxes, b, m);
     let l3 = lay_points(out, l2, leafs, strip, points, leaf, n);
     let ids_at = address_of(l1, 2 * m);
     let points_at = address_of(l2, 8 * n);

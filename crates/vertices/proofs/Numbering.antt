@@ -1,5 +1,5 @@
 -- A turn of the numbering of a list of triples: what is left to number after it. The table t and the numbers o are apart here.
-use Prim.Native.Nat.{ℕ, zero, _+_, _*_, _-_, _≤_, _<_, _^_}
+use Prim.Native.Nat.{ℕ, zero, _+_, _*_, _≤_, _<_, _^_}
 use native.Mathlib.Omega.{arith}
 use mathlib.Core.Path.{_≡_, refl, ap, sym, subst, _∙_}
 use mathlib.Core.Bool.{Bool, true, false, cond}

@@ -8,9 +8,10 @@ use mathlib.Core.List.{List}
 use lib.Dec.{ltb}
 use lib.ListN.{length}
 use borrow.Author.Tests.{ltb-true, lt-ltb}
+use Rattle.fields.specs.Bytes.{cut}
 use Rattle.resource.specs.Section.{resolved}
 use Rattle.strip.specs.Cell.{Vec3, Head, Cell}
-use Rattle.grammar.specs.Parts.{Good, cut, Array, none, some}
+use Rattle.grammar.specs.Parts.{Good, Array, none, some}
 use Rattle.grammar.specs.Derives.{AllFinite}
 use Rattle.lists.specs.declared.ListAnswer.{ListAnswer}
 use Rattle.lists.specs.declared.ListAnswer.the-variants.{Items, Refused}

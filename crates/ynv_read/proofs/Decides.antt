@@ -8,7 +8,7 @@ use lib.ListN.{length}
 use Rattle.fields.specs.Bytes.{le}
 use Rattle.resource.specs.Section.{resolved}
 use Rattle.strip.specs.declared.Refusal.{Refusal}
-use Rattle.grammar.proofs.Parts.{cut-length}
+use Rattle.fields.proofs.Cuts.{cut-length}
 use Rattle.lists.specs.declared.ListAnswer.{ListAnswer}
 use Rattle.lists.specs.declared.ListAnswer.the-variants.{Items, Refused}
 use Rattle.lists.specs.Lists.{total, tableOf, listBytes, listed, Readable}

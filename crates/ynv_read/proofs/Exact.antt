@@ -1,15 +1,14 @@
 -- A reading makes a cell exactly when the grammar does, the same cell from a tree of as many sectors. Assumes nothing.
-use Prim.Native.Nat.{ℕ, zero, suc, _+_, _-_, _*_, _≤_, _<_}
+use Prim.Native.Nat.{ℕ, zero, suc, _+_, _-_, _*_, _<_}
 use native.Mathlib.Omega.{arith}
 use mathlib.Core.Path.{_≡_, refl, sym, ap, subst, _∙_}
 use mathlib.Core.Bool.{true}
 use mathlib.Core.List.{List, [], _∷_}
-use lib.Dec.{ltb}
 use lib.ListN.{length}
 use borrow.Author.Tests.{lt-ltb}
-use Rattle.fields.specs.Bytes.{le}
+use Rattle.fields.specs.Bytes.{le, cut}
 use Rattle.strip.specs.Cell.{Cell}
-use Rattle.grammar.specs.Parts.{Good, cut, Array}
+use Rattle.grammar.specs.Parts.{Good, Array}
 use Rattle.grammar.specs.Trees.{Tree}
 use Rattle.grammar.specs.Lists as grammar
 use Rattle.grammar.specs.Polygons.{Each}
@@ -26,11 +25,11 @@ use Rattle.sector_tree.specs.Walk.{walk}
 use Rattle.sector_tree.specs.Walk as Walk
 use Rattle.sector_tree.proofs.Exact.{walk-sound, walk-complete}
 use Rattle.polygons.specs.Polygons as Polygons
-use Rattle.polygons.specs.Polygons.{limitsOf, tallyFrom}
 use Rattle.polygons.specs.Passes.{itemsIn}
 use Rattle.polygons.proofs.Exact.{tally-made, made-tally}
-use Rattle.ynv_read.specs.Reading.{made, check, onList, onTally, onWalk, finiteBox, header, rootAt, root, head, itemsAt, source, polygons, portalCount, portals, cellOf, onHead, onLists, afterWalk, readCell}
-use Rattle.ynv_read.proofs.Checks.{check-in, list-in, tally-in, walk-in, box-in, box-out, good-in, good-out, array-in, array-out}
+use Rattle.ynv_read.specs.Reading.{made, finiteBox, header, rootAt, root, head, itemsAt, source, polygons, portalCount, portals, cellOf, onHead, onLists, afterWalk, readCell}
+use Rattle.ynv_read.proofs.Accepted.{accepted}
+use Rattle.ynv_read.proofs.Checks.{box-in, box-out, good-in, good-out, array-in, array-out}
 
 module _ (S G : List ℕ) where
   -- ---- parts by the header
@@ -76,71 +75,42 @@ module _ (S G : List ℕ) where
 
   -- ---- what is accepted is made
 
-  after-made : (points : List (List ℕ)) (k : ℕ) {c : Cell} {j : ℕ} → whole S G 0x5000_0000 368 ≡ true → whole S G (rootAt S G) 96 ≡ true → finiteBox (head S G) ≡ true
-      → Tree S G (rootAt S G) k points → k ≤ 4096 → afterWalk S G points k ≡ made c j → Makes S G j c
-  unfolding afterWalk onLists cellOf source
-  after-made points k {c} {j} h r fin t few e =
+  pub accepted-made : {c : Cell} {k : ℕ} → readCell S G ≡ made c k → Makes S G k c
+  unfolding cellOf source
+  accepted-made {c} {k} e =
+      let f = accepted S G e in
       let hh = header S G in
       let s = source S G in
-      let bs = polygons S G in
-      let last = check (whole S G (le 8 hh 0x128) (28 * portalCount S G)) 39 (made (cellOf S G points) k) in
-      let o₅ = onTally (tallyFrom (limitsOf s) (s .indices) 0 bs) last in
-      let o₄ = onList (listed S G 48 (le 8 hh 0x118) 4) o₅ in
-      let o₃ = onList (listed S G 8 (le 8 hh 0x88) 3) o₄ in
-      let o₂ = onList (listed S G 2 (le 8 hh 0x80) 2) o₃ in
-      let (n₁, l₁, e₁) = list-in (listed S G 6 (le 8 hh 0x70) 1) o₂ e in
-      let (n₂, l₂, e₂) = list-in (listed S G 2 (le 8 hh 0x80) 2) o₃ e₁ in
-      let (n₃, l₃, e₃) = list-in (listed S G 8 (le 8 hh 0x88) 3) o₄ e₂ in
-      let (n₄, l₄, e₄) = list-in (listed S G 48 (le 8 hh 0x118) 4) o₅ e₃ in
-      let (n₅, l₅, e₅) = tally-in (tallyFrom (limitsOf s) (s .indices) 0 bs) last e₄ in
-      let (g, e₆) = check-in (whole S G (le 8 hh 0x128) (28 * portalCount S G)) 39 (made (cellOf S G points) k) e₅ in
-      let (fa, fb, fc) = box-in (head S G) fin in
-      let same : cellOf S G points ≡ c = cc e₆ in
-      let count : k ≡ j = cc e₆ in
-      let it : Makes S G k (cellOf S G points) = record {
+      let (n, t, sum) = walk-sound S G 4096 (rootAt S G ∷ []) (f .left) (f .points) (f .walked) in
+      let visited : n ≡ k = omega (arith, sum, f .sectors) in
+      let (fa, fb, fc) = box-in (head S G) (f .box) in
+      let it : Makes S G k (cellOf S G (f .points)) = record {
         header = hh;
         root = root S G;
         vertices = s .vertices;
         indices = s .indices;
         edges = s .edges;
-        polygons = bs;
+        polygons = polygons S G;
         portals = cut 28 (portalCount S G) (portals S G);
-        points = points;
-        header-good = header-in h;
-        root-good = root-in r;
+        points = f .points;
+        header-good = header-in (f .header-whole);
+        root-good = root-in (f .root-whole);
         head-is = head-is;
         min-finite = fa;
         max-finite = fb;
         size-finite = fc;
-        tree = t;
-        few-sectors = few;
-        vertex-list = items-in 6 (le 8 hh 0x70) 1 (omega arith) l₁;
-        index-list = items-in 2 (le 8 hh 0x80) 2 (omega arith) l₂;
-        edge-list = items-in 8 (le 8 hh 0x88) 3 (omega arith) l₃;
-        polygon-list = items-in 48 (le 8 hh 0x118) 4 (omega arith) l₄;
-        portal-list = portals-in g;
-        polygons-are = tally-made s 0 bs l₅ .0;
+        tree = subst (λ (m : ℕ). Tree S G (rootAt S G) m (f .points)) visited t;
+        few-sectors = omega (arith, f .sectors);
+        vertex-list = items-in 6 (le 8 hh 0x70) 1 (omega arith) (f .vertex-list .1);
+        index-list = items-in 2 (le 8 hh 0x80) 2 (omega arith) (f .index-list .1);
+        edge-list = items-in 8 (le 8 hh 0x88) 3 (omega arith) (f .edge-list .1);
+        polygon-list = items-in 48 (le 8 hh 0x118) 4 (omega arith) (f .polygon-list .1);
+        portal-list = portals-in (f .portals-whole);
+        polygons-are = tally-made s 0 (polygons S G) (f .tally) .0;
         portals-are = refl;
         points-are = refl;
       } in
-      subst (λ (d : Cell). Makes S G j d) same (subst (λ (n : ℕ). Makes S G n (cellOf S G points)) count it)
-
-  pub accepted-made : {c : Cell} {k : ℕ} → readCell S G ≡ made c k → Makes S G k c
-  unfolding readCell onHead
-  accepted-made {c} {k} e =
-      let w = walk S G 4096 (rootAt S G ∷ []) in
-      let o₄ = onWalk w (afterWalk S G) in
-      let o₃ = check (finiteBox (head S G)) 40 o₄ in
-      let o₂ = check (whole S G (rootAt S G) 96) 32 o₃ in
-      let o₁ = check (ltb 0 (rootAt S G)) 31 o₂ in
-      let (h, e₁) = check-in (whole S G 0x5000_0000 368) 30 o₁ e in
-      let (far, e₂) = check-in (ltb 0 (rootAt S G)) 31 o₂ e₁ in
-      let (r, e₃) = check-in (whole S G (rootAt S G) 96) 32 o₃ e₂ in
-      let (fin, e₄) = check-in (finiteBox (head S G)) 40 o₄ e₃ in
-      let (left, points, walked, e₅) = walk-in w (afterWalk S G) e₄ in
-      let (n, t, sum) = walk-sound S G 4096 (rootAt S G ∷ []) left points walked in
-      let visited : 4096 - left ≡ n = omega arith in
-      after-made points n h r fin t (omega arith) (rw visited at e₅)
+      subst (λ (d : Cell). Makes S G k d) (sym (f .is)) it
 
   -- ---- what is made is accepted
 

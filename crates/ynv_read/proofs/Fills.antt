@@ -1,11 +1,9 @@
 -- Pass two: what may be filled after pass one, and that the parts make the strip. Assumes nothing.
-use Prim.Native.Nat.{ℕ, _+_, _-_, _*_, _≤_, _<_}
+use Prim.Native.Nat.{ℕ, _+_, _*_, _≤_, _<_}
 use native.Mathlib.Nat.{zero-add}
 use native.Mathlib.Omega.{arith}
 use mathlib.Core.Path.{_≡_, refl, sym, ap, subst, _∙_}
-use mathlib.Core.Bool.{true}
 use mathlib.Core.List.{List, [], _∷_, _++_, map}
-use lib.Dec.{ltb}
 use lib.ListN.{length, length-append, set}
 use borrow.Author.Tests.{le-leb, lt-leb}
 use Rattle.fields.specs.Bytes.{le, put}
@@ -16,15 +14,14 @@ use Rattle.strip.specs.Outcome.{shown, left}
 use Rattle.strip.specs.Outcome as Outcome
 use Rattle.strip.specs.declared.Refusal.{Refusal}
 use Rattle.grammar.specs.Derives.{areaOf, backOf}
-use Rattle.lists.specs.Lists.{whole, total, tableOf, listed, Readable}
+use Rattle.lists.specs.Lists.{whole, total, tableOf, Readable}
 use Rattle.lists.proofs.Lists.{length-whole}
 use Rattle.sector_tree.specs.Walk.{walk}
 use Rattle.sector_tree.specs.Walk as Walk
 use Rattle.sector_tree.specs.Write.{pointsIn, pointsWords, Fits}
 use Rattle.polygon_words.specs.Words.{linksOf}
 use Rattle.polygon_words.proofs.Words.{links-are}
-use Rattle.polygons.specs.declared.Tally.the-variants.{Words}
-use Rattle.polygons.specs.Polygons.{Source, limitsOf, polygonMade, tallyFrom}
+use Rattle.polygons.specs.Polygons.{Source, limitsOf, polygonMade}
 use Rattle.polygons.specs.Passes.{itemsIn, sourceOf, Passed}
 use Rattle.polygons.proofs.Exact.{tally-made}
 use Rattle.ynv_read.specs.declared.Addresses.{Addresses}
@@ -32,12 +29,12 @@ use Rattle.ynv_read.specs.declared.Frame.{Frame}
 use Rattle.ynv_read.specs.declared.Parsed.{Parsed}
 use Rattle.ynv_read.specs.declared.ParseAnswer.{ParseAnswer}
 use Rattle.ynv_read.specs.declared.ParseAnswer.the-variants as ParseAnswer
-use Rattle.ynv_read.specs.Reading.{Reading, made, refused, check, onList, onTally, onWalk, finiteBox, header, rootAt, root, head, source, polygons, portalCount, portals, cellOf, onHead, onLists, afterWalk, readCell}
-use Rattle.ynv_read.specs.Parse.{countsOf, parseOutcome}
-use Rattle.ynv_read.specs.Passes.{paper, answerOf, addresses, frame, linkBytes, polysWords, portalsWords, ListsReady, ReadyFor, PolysFit, Fillable}
-use Rattle.ynv_read.proofs.Checks.{check-in, list-in, tally-in, walk-in}
+use Rattle.ynv_read.specs.Reading.{Reading, made, refused, header, rootAt, root, head, source, polygons, portalCount, portals, cellOf, readCell}
+use Rattle.ynv_read.specs.Parse.{paper, countsOf, parseOutcome}
+use Rattle.ynv_read.specs.Passes.{answerOf, addresses, frame, linkBytes, polysWords, portalsWords, ListsReady, ReadyFor, PolysFit, Fillable}
+use Rattle.ynv_read.proofs.Accepted.{accepted}
 use Rattle.ynv_read.proofs.Decides.{length-items}
-use Rattle.ynv_read.proofs.Heads.{polygons-back}
+use Rattle.ynv_read.proofs.Heads.{back-is}
 use Rattle.ynv_read.proofs.Lengths.{head-length, polys-count, portals-length, points-length, encode-is, encode-length}
 
 -- ---- polygons
@@ -60,7 +57,7 @@ module _ (S G : List ℕ) {a : Addresses} (ea : a ≡ addresses (header S G)) {f
       let l : linksOf lk ≡ s .links = ap linksOf el ∙ sym (links-are S G (le 8 (header S G) 0x130) (le 4 (header S G) 0x150)) in
       let area : areaOf hd ≡ areaOf (header S G) = ap areaOf eh in
       let whole : make (itemsIn S G 6 vt) (itemsIn S G 2 it) (itemsIn S G 8 et) (linksOf lk) (areaOf hd) (given .back) ≡ make (s .vertices) (s .indices) (s .edges) (s .links) (s .area) (s .back) =
-      rw (v, i, e, l, area, polygons-back S G ef) in
+      rw (v, i, e, l, area, back-is S G ef) in
       whole
 
   polys-are : itemsIn S G 48 pt ≡ polygons S G
@@ -94,46 +91,6 @@ module _ (S G : List ℕ) {a : Addresses} (ea : a ≡ addresses (header S G)) {f
 
 -- ---- a cell that was accepted
 
--- what its reading found
-pub record Found (S G : List ℕ) (c : Cell) : Type 0 where
-  pub left : ℕ
-  pub points : List (List ℕ)
-  pub walked : walk S G 4096 (rootAt S G ∷ []) ≡ Walk.done left points
-  pub is : c ≡ cellOf S G points
-  pub words : ℕ
-  pub tally : tallyFrom (limitsOf (source S G)) (source S G .indices) 0 (polygons S G) ≡ Words words
-  pub portals-whole : whole S G (le 8 (header S G) 0x128) (28 * portalCount S G) ≡ true
-
-module _ (S G : List ℕ) {c : Cell} {k : ℕ} where
-  pub found : readCell S G ≡ made c k → Found S G c
-  unfolding readCell onHead afterWalk onLists
-  found e =
-      let s = source S G in
-      let hh = header S G in
-      let w = walk S G 4096 (rootAt S G ∷ []) in
-      let o₄ = onWalk w (afterWalk S G) in
-      let o₃ = check (finiteBox (head S G)) 40 o₄ in
-      let o₂ = check (whole S G (rootAt S G) 96) 32 o₃ in
-      let o₁ = check (ltb 0 (rootAt S G)) 31 o₂ in
-      let e₁ = check-in (whole S G 0x5000_0000 368) 30 o₁ e .1 in
-      let e₂ = check-in (ltb 0 (rootAt S G)) 31 o₂ e₁ .1 in
-      let e₃ = check-in (whole S G (rootAt S G) 96) 32 o₃ e₂ .1 in
-      let e₄ = check-in (finiteBox (head S G)) 40 o₄ e₃ .1 in
-      let (l, points, walked, e₅) = walk-in w (afterWalk S G) e₄ in
-      let cell = made (cellOf S G points) (4096 - l) in
-      let p₅ = check (whole S G (le 8 hh 0x128) (28 * portalCount S G)) 39 cell in
-      let p₄ = onTally (tallyFrom (limitsOf s) (s .indices) 0 (polygons S G)) p₅ in
-      let p₃ = onList (listed S G 48 (le 8 hh 0x118) 4) p₄ in
-      let p₂ = onList (listed S G 8 (le 8 hh 0x88) 3) p₃ in
-      let p₁ = onList (listed S G 2 (le 8 hh 0x80) 2) p₂ in
-      let f₁ = list-in (listed S G 6 (le 8 hh 0x70) 1) p₁ e₅ .2 in
-      let f₂ = list-in (listed S G 2 (le 8 hh 0x80) 2) p₂ f₁ .2 in
-      let f₃ = list-in (listed S G 8 (le 8 hh 0x88) 3) p₃ f₂ .2 in
-      let f₄ = list-in (listed S G 48 (le 8 hh 0x118) 4) p₄ f₃ .2 in
-      let (n, t, f₅) = tally-in (tallyFrom (limitsOf s) (s .indices) 0 (polygons S G)) p₅ f₄ in
-      let (g, f₆) = check-in (whole S G (le 8 hh 0x128) (28 * portalCount S G)) 39 cell f₅ in
-      record { left = l; points = points; walked = walked; is = cc f₆; words = n; tally = t; portals-whole = g }
-
 -- room for each part, in a strip of n words that is long enough
 pub record Room (S G : List ℕ) (polys n : ℕ) : Type 0 where
   pub points : List (List ℕ)
@@ -148,7 +105,7 @@ pub record Room (S G : List ℕ) (polys n : ℕ) : Type 0 where
 pub room : (S G : List ℕ) {polys n : ℕ} → Fillable S G polys n → Room S G polys n
 unfolding cellOf portals polysWords
 room S G {polys} {n} f =
-    let e = found S G (f .is) in
+    let e = accepted S G (f .is) in
     let long : length (encode (cellOf S G (e .points))) ≤ n = rw (e .is) at (f .room) in
     let all : 14 + length (polysWords S G) + 11 * portalCount S G + 4 * length (e .points) + 1 ≤ n = omega (arith, encode-length S G (e .points)) in
     let words : e .words ≡ length (polysWords S G) = tally-made (source S G) 0 (polygons S G) (e .tally) .1 in
@@ -176,7 +133,7 @@ pub filled : (S G : List ℕ) {c : Cell} {k : ℕ} → readCell S G ≡ made c k
     → set x₄ r₃ 0x5000_0000 ≡ put 0 (encode c) x₀
 unfolding pack
 filled S G e x₀ {x₁} {x₂} {x₃} {x₄} {r₁} {r₂} {r₃} e₁ (n₂, e₂) (n₃, e₃) (n₄, e₄) =
-    let f = found S G e in
+    let f = accepted S G e in
     let h = headWords (head S G) in
     let p = polysWords S G in
     let q = portalsWords S G in

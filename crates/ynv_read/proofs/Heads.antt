@@ -7,13 +7,9 @@ use mathlib.Core.List.{List}
 use lib.Dec.{ltb}
 use lib.ListN.{length}
 use borrow.Author.Tests.{lt-ltb}
-use Rattle.math.specs.declared.vec3.Vec3.{Vec3 as Floats}
-use Rattle.strip.specs.Cell.{Vec3}
 use Rattle.grammar.specs.Derives.{vecOf, headOf, axis, backOf}
 use Rattle.lists.proofs.Lists.{whole-of, not-whole}
-use Rattle.records.specs.Back as records
-use Rattle.sector_tree.specs.Write as points
-use Rattle.polygon_words.specs.Words as polygons
+use Rattle.records.specs.Back.{backBy, floatsAt}
 use Rattle.ynv_read.specs.Reading.{Reading, refused, finiteBox, header, rootAt, root, head, onHead}
 use Rattle.ynv_read.specs.Passes.{frame}
 use Rattle.ynv_read.specs.declared.Frame.{Frame}
@@ -46,21 +42,9 @@ module _ (S G : List ℕ) (rest : Reading) where
         head-passed f = rw (whole-of S G 0x5000_0000 368 h, there, whole-of S G (rootAt S G) 96 r, f)
 
 -- shorts are turned back in the cell's box
-module _ (S G : List ℕ) {f : Frame} (e : f ≡ frame (header S G) (root S G)) where
-  abbrev In : (Floats → Floats → ℕ → ℕ → ℕ → Vec3) → Frame → ℕ → ℕ → ℕ → Vec3
-  In back g = back (g .«bb_min») (g .«bb_size»)
-
-  pub portals-back : records.backBy (f .«bb_min») (f .«bb_size») ≡ backOf (head S G)
-  unfolding frame head records.backBy records.floatsAt backOf axis headOf vecOf
-  portals-back = ap (In records.backBy) e
-
-  pub points-back : points.backBy (f .«bb_min») (f .«bb_size») ≡ backOf (head S G)
-  unfolding frame head points.backBy points.axisBits records.floatsAt backOf axis headOf vecOf
-  points-back = ap (In points.backBy) e
-
-  pub polygons-back : polygons.backIn (f .«bb_min») (f .«bb_size») ≡ backOf (head S G)
-  unfolding frame head polygons.backIn records.floatsAt backOf axis headOf vecOf
-  polygons-back = ap (In polygons.backIn) e
+pub back-is : (S G : List ℕ) {f : Frame} → f ≡ frame (header S G) (root S G) → backBy (f .«bb_min») (f .«bb_size») ≡ backOf (head S G)
+unfolding frame head backBy floatsAt backOf axis headOf vecOf
+back-is S G e = ap (λ (g : Frame). backBy (g .«bb_min») (g .«bb_size»)) e
 
 -- a test by what it answered
 pub failed : {x a : Bool} → x ≡ a → not x ≡ true → a ≡ false

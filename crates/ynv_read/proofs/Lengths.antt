@@ -4,27 +4,21 @@ use native.Mathlib.Omega.{arith}
 use mathlib.Core.Path.{_≡_, refl, ap, _∙_}
 use mathlib.Core.List.{List, _++_, map}
 use lib.ListN.{length, length-append, length-map}
-use Rattle.strip.specs.Cell.{Head, Portal, Point, vecWords, headWords, portalWords, pointWords, endWords, encode, encodeAs}
-use Rattle.grammar.specs.Parts.{cut}
+use Rattle.fields.specs.Bytes.{cut}
+use Rattle.strip.specs.Cell.{Head, vecWords, headWords, portalWords, pointWords, endWords, encode, encodeAs}
 use Rattle.grammar.specs.Derives.{backOf, portalOf, pointOf}
-use Rattle.grammar.proofs.Parts.{cut-length}
-use Rattle.polygon_words.proofs.Cuts.{length-each}
+use Rattle.fields.proofs.Cuts.{cut-length}
+use Rattle.records.proofs.Items.{length-each}
+use Rattle.records.proofs.Stores.{portal-length}
 use Rattle.polygons.specs.Polygons.{polygonMade}
 use Rattle.sector_tree.specs.Write.{pointsWords}
+use Rattle.sector_tree.proofs.Stores.{point-length}
 use Rattle.ynv_read.specs.Reading.{head, source, polygons, portalCount, portals, cellOf}
 use Rattle.ynv_read.specs.Passes.{polysWords, portalsWords}
 
 pub head-length : (h : Head) → length (headWords h) ≡ 14
 unfolding headWords vecWords
 head-length h = refl
-
-portal-length : (p : Portal) → length (portalWords p) ≡ 11
-unfolding portalWords vecWords
-portal-length p = refl
-
-point-length : (p : Point) → length (pointWords p) ≡ 4
-unfolding pointWords vecWords
-point-length p = refl
 
 module _ (S G : List ℕ) where
   pub polys-count : length (map (polygonMade (source S G)) (polygons S G)) ≡ length (polygons S G)

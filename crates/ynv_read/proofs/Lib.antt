@@ -1,8 +1,9 @@
 pub mod Checks
+pub mod Heads
+pub mod Accepted
 pub mod Exact
 pub mod Named
 pub mod Theorems
-pub mod Heads
 pub mod Lengths
 pub mod Decides
 pub mod Fills

@@ -3,17 +3,14 @@ use Prim.Native.Nat.{ℕ, _*_, _^_, _≤_, _<_}
 use mathlib.Core.Path.{_≡_}
 use mathlib.Core.List.{List, map}
 use lib.ListN.{length}
-use Rattle.fields.specs.Bytes.{le}
+use Rattle.fields.specs.Bytes.{le, cut}
 use Rattle.resource.specs.Section.{resolved}
 use Rattle.strip.specs.Cell.{Cell, each, polygonWords, portalWords, encode}
-use Rattle.strip.specs.Outcome.{Paper, values, refusalOf}
-use Rattle.grammar.specs.Parts.{cut}
 use Rattle.grammar.specs.Derives.{backOf, portalOf}
 use Rattle.lists.specs.Lists.{tableOf, Readable}
 use Rattle.polygons.specs.Polygons.{limitsOf, polygonMade}
 use Rattle.polygons.specs.Passes.{Passed}
 use Rattle.records.specs.Back.{floatsAt}
-use Rattle.ynv_read.specs.declared.Parsed.{Parsed}
 use Rattle.ynv_read.specs.declared.ParseAnswer.{ParseAnswer}
 use Rattle.ynv_read.specs.declared.ParseAnswer.the-variants as ParseAnswer
 use Rattle.ynv_read.specs.declared.Addresses.{Addresses}
@@ -24,11 +21,6 @@ use Rattle.ynv_read.specs.declared.ListsCheck.{ListsCheck}
 use Rattle.ynv_read.specs.declared.ListsCheck.the-variants as ListsCheck
 use Rattle.ynv_read.specs.Reading.{Reading, made, refused, header, head, source, polygons, portalCount, portals, onLists, readCell}
 use Rattle.ynv_read.specs.Parse.{countsOf}
-
--- what each case of the answer says
-abbrev pub paper : ParseAnswer → Paper Parsed
-paper (ParseAnswer.Parsed p) = values p
-paper (ParseAnswer.Refused r) = refusalOf r
 
 -- the answer that a reading asks for, if the strip is long enough
 abbrev pub answerOf : Reading → ParseAnswer

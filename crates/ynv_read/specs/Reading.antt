@@ -3,10 +3,9 @@ use Prim.Native.Nat.{ℕ, _-_, _*_, _%_, _^_}
 use mathlib.Core.Bool.{Bool, cond, _&&_}
 use mathlib.Core.List.{List, [], _∷_, map}
 use lib.Dec.{ltb}
-use Rattle.fields.specs.Bytes.{le}
+use Rattle.fields.specs.Bytes.{le, cut}
 use Rattle.resource.specs.Section.{resolved}
 use Rattle.strip.specs.Cell.{Vec3, Head, Cell}
-use Rattle.grammar.specs.Parts.{cut}
 use Rattle.grammar.specs.Polygons.{linksAt}
 use Rattle.grammar.specs.Derives.{areaOf, backOf, headOf, portalOf, pointOf}
 use Rattle.lists.specs.declared.ListAnswer.{ListAnswer}

@@ -7,5 +7,7 @@ pub mod limits;
 pub mod pages;
 mod rng;
 pub mod sizes;
+pub mod timed;
+pub mod writing;
 
 pub use rng::Rng;

@@ -4,6 +4,7 @@ use rage::ynv::{NavEdge, NavPoint, NavPoly, NavPortal, Ynv};
 
 use crate::cells::{edge_end, empty_grid, vec3};
 use crate::pages::{part, Pages, LISTS};
+use crate::Rng;
 
 /// A grid cell of squares that share no vertex; the last polygon has what is left of the
 /// vertices. Every 16th has a link; there are 100 portals and 500 points.
@@ -114,4 +115,41 @@ pub fn leaping(mut pages: Pages) -> Pages {
         }
     }
     pages
+}
+
+/// A grid cell of so many small polygons anywhere, vertices at random: nearly all different,
+/// and next to each other in the list only by chance.
+pub fn scattered(polys: usize) -> Ynv {
+    let mut rng = Rng::new(7);
+    let mut cell = squares(polys, 4 * polys);
+    for p in &mut cell.polys {
+        let centre = vec3(rng.unit() * 149.0, rng.unit() * 149.0, 10.0);
+        for v in &mut p.vertices {
+            *v = vec3(centre.x + rng.unit(), centre.y + rng.unit(), rng.unit() * 150.0);
+        }
+    }
+    cell
+}
+
+/// Squares that reach over the whole cell, so that every leaf holds every id.
+pub fn wide(polys: usize) -> Ynv {
+    let square = [vec3(1.0, 1.0, 1.0), vec3(149.0, 1.0, 1.0), vec3(149.0, 149.0, 1.0), vec3(1.0, 149.0, 1.0)];
+    let poly = NavPoly {
+        vertices: square.to_vec(),
+        edges: Vec::new(),
+        flags0: 0,
+        flags1: 0,
+        flags2: 0,
+        portal_links: Vec::new(),
+    };
+    Ynv { polys: vec![poly; polys], ..empty_grid() }
+}
+
+/// A grid cell of points alone.
+pub fn with_points(count: usize, position: impl Fn(usize) -> (f32, f32)) -> Ynv {
+    let point = |n: usize| {
+        let (x, y) = position(n);
+        NavPoint { position: vec3(x, y, 1.0), angle: n as u8, kind: 1 }
+    };
+    Ynv { points: (0..count).map(point).collect(), ..empty_grid() }
 }

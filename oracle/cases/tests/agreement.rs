@@ -5,8 +5,8 @@
 use std::collections::BTreeMap;
 
 use cases::{cells, damage, pages, Rng};
-use rage::ynv::{NavEdge, NavEdgeEnd, NavPoint, Ynv};
-use strips::{back, counts, derive, encode, judge_write, laid_out, leaf_boxes, rust_read, rust_write, scan, short};
+use rage::ynv::Ynv;
+use strips::{counts, derive, encode, judge_write, laid_out, reread, rust_read, rust_write, scan};
 use strips::{Refusal, RustRead, RustWrite};
 
 const CASES: u64 = 30_000;
@@ -49,48 +49,12 @@ fn writing() {
     tally("writing", &seen);
 }
 
-/// What reading gives of a written cell, from document 01.
-fn saved(cell: &Ynv) -> Ynv {
-    let (lo, size) = (cell.bb_min, cell.bb_size);
-    let moved = |v: rage::math::Vec3| rage::math::Vec3 {
-        x: back(short(v.x, lo.x, size.x), lo.x, size.x),
-        y: back(short(v.y, lo.y, size.y), lo.y, size.y),
-        z: back(short(v.z, lo.z, size.z), lo.z, size.z),
-    };
-    let cut =
-        |e: NavEdgeEnd| NavEdgeEnd { area_id: e.area_id, poly: e.poly % 16384, unk2: e.unk2 % 4, unk3: e.unk3 % 2048 };
-    let mut out = cell.clone();
-    for p in &mut out.polys {
-        p.vertices.iter_mut().for_each(|v| *v = moved(*v));
-        p.edges.resize(p.vertices.len(), NavEdge::NONE);
-        p.edges.iter_mut().for_each(|e| *e = NavEdge { a: cut(e.a), b: cut(e.b) });
-    }
-    for p in &mut out.portals {
-        (p.from, p.to) = (moved(p.from), moved(p.to));
-        (p.area_from, p.area_to, p.area_unk) = (p.area_from % 16384, p.area_to % 16384, p.area_unk % 16);
-    }
-    // A point stands in the first leaf that holds it; reading takes the leaves backwards.
-    let mut left: Vec<NavPoint> = cell.points.clone();
-    let mut leaves = Vec::new();
-    for (min, max) in leaf_boxes(cell) {
-        let inside = |p: &NavPoint| {
-            let v = p.position;
-            v.x >= min.x && v.x <= max.x && v.y >= min.y && v.y <= max.y
-        };
-        let (stored, rest): (Vec<_>, Vec<_>) = left.into_iter().partition(inside);
-        leaves.push(stored);
-        left = rest;
-    }
-    out.points = leaves.into_iter().rev().flatten().map(|p| NavPoint { position: moved(p.position), ..p }).collect();
-    out
-}
-
 fn read_back(cell: &Ynv, bytes: &[u8]) {
     let RustRead::Cell(read) = rust_read(bytes, &[]) else { panic!("the Rust doesn't read what it wrote") };
     let derived = derive(bytes, &[]).expect("written pages derive a strip");
     let words = encode(&read);
     assert_eq!(words, encode(&derived.cell));
-    assert_eq!(words, encode(&saved(cell)));
+    assert_eq!(words, encode(&reread(cell)));
     assert_eq!(derived.sectors, if cell.content_flags & 4 != 0 { 1 } else { 21 });
     assert_eq!(derive(&[bytes, &[0; 100]].concat(), &[0; 8]).unwrap(), derived);
 }

@@ -2,8 +2,10 @@
 //! length in elements, an array as a pointer.
 
 extern "C" {
-    /// 0 with words, polygons, portals, points, sectors and three zeros in the answer; or
-    /// the refusal's number with its place in answer[0], the others left as they are.
+    // Each gives 0 with its values and zeros in the answer; or the refusal's number with its
+    // place in answer[0], the others left as they are.
+
+    /// Words, polygons, portals, points, sectors.
     fn ynv_parse(
         system: *const u8,
         system_len: usize,
@@ -11,6 +13,27 @@ extern "C" {
         graphics_len: usize,
         strip: *mut u32,
         strip_len: usize,
+        answer: *mut u64,
+    ) -> u32;
+
+    /// The count.
+    fn ynv_count_seams(strip: *const u32, strip_len: usize, answer: *mut u64) -> u32;
+
+    /// The two coordinates; it refuses nothing.
+    fn ynv_cell_for_position(x: f32, y: f32, answer: *mut u64) -> u32;
+
+    /// The four sides as float bits.
+    fn ynv_cell_bounds(cx: u32, cy: u32, answer: *mut u64) -> u32;
+
+    /// 0 with the bytes written and seven zeros in the answer; or the refusal's number with
+    /// its place in answer[0], the others left as they are.
+    fn ynv_serialize(
+        strip: *const u32,
+        strip_len: usize,
+        work: *mut u32,
+        work_len: usize,
+        pages: *mut u8,
+        pages_len: usize,
         answer: *mut u64,
     ) -> u32;
 }
@@ -24,6 +47,32 @@ pub fn parse(system: &[u8], graphics: &[u8], strip: &mut [u32], answer: &mut [u6
             graphics.len(),
             strip.as_mut_ptr(),
             strip.len(),
+            answer.as_mut_ptr(),
+        )
+    }
+}
+
+pub fn count_seams(strip: &[u32], answer: &mut [u64; 8]) -> u32 {
+    unsafe { ynv_count_seams(strip.as_ptr(), strip.len(), answer.as_mut_ptr()) }
+}
+
+pub fn cell_for_position(x: f32, y: f32, answer: &mut [u64; 8]) -> u32 {
+    unsafe { ynv_cell_for_position(x, y, answer.as_mut_ptr()) }
+}
+
+pub fn cell_bounds(cx: u32, cy: u32, answer: &mut [u64; 8]) -> u32 {
+    unsafe { ynv_cell_bounds(cx, cy, answer.as_mut_ptr()) }
+}
+
+pub fn serialize(strip: &[u32], work: &mut [u32], pages: &mut [u8], answer: &mut [u64; 8]) -> u32 {
+    unsafe {
+        ynv_serialize(
+            strip.as_ptr(),
+            strip.len(),
+            work.as_mut_ptr(),
+            work.len(),
+            pages.as_mut_ptr(),
+            pages.len(),
             answer.as_mut_ptr(),
         )
     }

@@ -5,7 +5,16 @@
 pub mod ffi;
 #[cfg(feature = "ynv")]
 pub mod ffi_ynv;
+pub mod guarded;
+pub mod heap;
+pub mod plot;
+#[cfg(feature = "ynv")]
+pub mod races;
 pub mod reading;
 pub mod reference;
+pub mod stacks;
+pub mod tally;
+pub mod timing;
 pub mod under_test;
 pub mod vectors;
+pub mod writing;

@@ -1,6 +1,6 @@
 //! The functions that are compared: the leaves of libleaves.a with the feature `lib`, the
-//! reader of libynv.a with the feature `ynv`, else the judge's own. Floats, numbers and
-//! answers as the C entries have them.
+//! reader, writer and seam count of libynv.a with the feature `ynv`, else the judge's own. Floats,
+//! numbers and answers as the C entries have them.
 
 #[cfg(feature = "lib")]
 pub use crate::ffi::{areas, back, check_strip, place, quarter, short};
@@ -47,7 +47,7 @@ mod own {
 pub use own::*;
 
 #[cfg(feature = "ynv")]
-pub use crate::ffi_ynv::parse;
+pub use crate::ffi_ynv::{count_seams, parse, serialize};
 
 pub const READER: &str = if cfg!(feature = "ynv") {
     "the library (libynv.a)"
@@ -73,4 +73,54 @@ pub fn parse(system: &[u8], graphics: &[u8], strip: &mut [u32], answer: &mut [u6
     strip[..words.len()].copy_from_slice(&words);
     *answer = crate::reading::values(words.len(), strips::counts(&derived.cell), derived.sectors);
     0
+}
+
+pub const WRITER: &str = if cfg!(feature = "ynv") {
+    "the library (libynv.a)"
+} else {
+    "the judge's own pages (the library with --features ynv)"
+};
+
+/// The writer's call by the judge's checks and document 01's layout, without the Rust.
+#[cfg(not(feature = "ynv"))]
+pub fn serialize(strip: &[u32], work: &mut [u32], pages: &mut [u8], answer: &mut [u64; 8]) -> u32 {
+    let made = || {
+        let cell = strips::scan(strip).map_err(|place| strips::Refusal::new(3, place))?;
+        if work.len() / 4 < strip.len() {
+            return Err(strips::Refusal::new(1, 0));
+        }
+        strips::judge_write(&cell)?;
+        let bytes = strips::laid_out(&cell);
+        if bytes.len() > pages.len() {
+            return Err(strips::Refusal::new(2, 0));
+        }
+        Ok(bytes)
+    };
+    match made() {
+        Err(refusal) => {
+            answer[0] = refusal.place as u64;
+            refusal.number
+        }
+        Ok(bytes) => {
+            work[..2 * strip.len()].fill(0x0BAD_0BAD);
+            pages[..bytes.len()].copy_from_slice(&bytes);
+            *answer = crate::writing::values(bytes.len());
+            0
+        }
+    }
+}
+
+/// The seam count's call by the judge.
+#[cfg(not(feature = "ynv"))]
+pub fn count_seams(strip: &[u32], answer: &mut [u64; 8]) -> u32 {
+    match strips::seams(strip) {
+        Err(refusal) => {
+            answer[0] = refusal.place as u64;
+            refusal.number
+        }
+        Ok(count) => {
+            *answer = [count, 0, 0, 0, 0, 0, 0, 0];
+            0
+        }
+    }
 }

@@ -6,6 +6,8 @@ mod guard;
 mod layout;
 mod leaf;
 mod read;
+mod reread;
+mod seams;
 mod strip;
 mod write;
 
@@ -13,6 +15,8 @@ pub use guard::{caught, claimed_bytes, rust_read, rust_write, RustRead, RustWrit
 pub use layout::laid_out;
 pub use leaf::{areas, back, place, quarter_ceil, quarter_floor, short, AreaTable, PAGE_SIZE};
 pub use read::{derive, derived_words, expected_read, Derived, ReadAnswer};
+pub use reread::reread;
+pub use seams::seams;
 pub use strip::{counts, encode, scan, Counts};
 pub use write::{expected_write, judge_write, leaf_boxes, WriteAnswer};
 

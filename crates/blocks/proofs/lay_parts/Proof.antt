@@ -1,19 +1,18 @@
--- `blocks::lay_parts` meets its contract. The loop's invariant: whoever lays out what is left of the parts from here on has laid out all.
+-- `blocks::lay_parts` meets its contract. The loop's invariant, `Parting`: whoever lays out what is left of the parts from here on has laid out all.
 -- The measure is how many parts are left.
-use mathlib.Core.Path.{_≡_, refl, sym, _∙_}
-use mathlib.Core.List.{List, map}
+use mathlib.Core.Path.{_≡_, refl, ap, _∙_}
 use Prim.Native.Nat.{ℕ, _+_, _*_, _^_, _≤_, _<_, _-_}
-use native.Mathlib.Nat.{sub-zero, mul-sub, mul-le-mul-left}
+use mathlib.Core.List.{List}
+use native.Mathlib.Nat.{mul-sub, mul-le-mul-left}
 use native.Mathlib.Omega.{arith}
 use denote.Ref.{now}
 use lib.ListN.{length, take, drop, length-drop}
-use lib.Seq.{length-take-le}
-use Rattle.fields.specs.Bytes.{cat}
-use Rattle.blocks.specs.Layout.{behind, endOf, Laid}
-use Rattle.blocks.specs.Lists.{counts, chunks, cut, sizes}
-use Rattle.blocks.specs.declared.Layout.{Layout}
-use Rattle.blocks.proofs.Layouts.{laid-none, laid-then, one-end}
-use Rattle.blocks.proofs.Lists.{size-turn, room-turn, end-turn, parts-turn}
+use lib.Seq.{length-take-le, drop-drop}
+use Rattle.blocks.specs.Layout.{behind}
+use Rattle.fields.specs.Bytes.{cut}
+use Rattle.fields.proofs.Cuts.{cut-length, cut-drop}
+use Rattle.blocks.proofs.Lists.{size-turn, wide-cut, cat-take}
+use Rattle.blocks.proofs.Parts.{Parting, parting, parting-room, parting-turn, parted}
 use borrow.Author.Needs.{needs}
 use Rattle.blocks.proofs.lay_parts.Statement.{statement}
 use Rattle.blocks.proofs.lay_parts.Tie as tie
@@ -27,17 +26,14 @@ part-long w m first xs h =
 
 abbrev Inv-loop : tie.InvT-loop
 Inv-loop out₀ w per k n items next₀ first₀ left₀ i₀ out next first left i =
-    (i ≤ k)
-    × (first + w * left ≡ w * n)
-    × (length out ≡ length out₀)
-    × (endOf (next .at) (sizes w (counts (k - i) per left)) ≡ endOf (next₀ .at) (sizes w (counts k per n)))
-    × ((r : Layout) (ys : List ℕ) → Laid next (map cat (chunks (k - i) per (cut w left (drop first items)))) r out ys → Laid next₀ (map cat (chunks k per (cut w n items))) r out₀ ys)
+    (first + w * left ≡ w * n) × Parting w per k n (cut w n items) next₀ out₀ next out left (cut w left (drop first items)) i
 
 abbrev μ-loop : tie.MeasureT-loop
 μ-loop out₀ w per k n items next₀ first₀ left₀ i₀ out next first left i = k - i
 
 loop-holds : tie.Need-loop-holds Inv-loop μ-loop
-loop-holds c = (omega arith, omega arith, refl, rw sub-zero, λ r ys g. rw sub-zero at g)
+loop-holds c = let a = c .before .before .args in
+    (omega arith, parting _ _ _ _ _ _ _ (cut-length (a .w) (a .n) (now (a .items))) (wide-cut (a .w) (a .n) (now (a .items)) (c .before .before .pre .1)))
 
 least-requires : tie.Need-least-requires Inv-loop μ-loop
 least-requires c κs = search needs
@@ -54,8 +50,8 @@ fits c =
     let i : l .i < a .k = omega arith in
     let m : c .least .result ≤ l .left = omega arith in (
       size-turn (a .per) (a .k) (l .i) (l .left) (c .least .result) i (c .least .ensures) (a .w) (s .pre .0),
-      omega (arith, s .pre .1, mul-le-mul-left (a .w) m, l .inv .1),
-      omega (arith, s .pre .2, l .inv .3, room-turn (a .per) (a .k) (l .i) (l .left) (c .least .result) i (c .least .ensures) (a .w) (l .next .at)),
+      omega (arith, s .pre .1, mul-le-mul-left (a .w) m, l .inv .0),
+      parting-room _ _ _ _ _ _ _ _ _ _ _ _ (l .inv .1) i _ (c .least .ensures) (s .pre .2),
     )
 
 mul-end : tie.Need-mul-end Inv-loop μ-loop
@@ -97,24 +93,17 @@ loop-again c =
     let m = least .result in
     let i : l .i < a .k = omega arith in
     let le : m ≤ l .left = omega arith in
-    let long = part-long (a .w) m (l .first) (now (a .items)) (fits (c .before .before .before .before .before) .1) in
+    let xs = drop (l .first) (now (a .items)) in
     let e : l .first + a .w * m - l .first ≡ a .w * m = omega arith in
-    let block = c .before .before .write-block .ensures in (
-      omega arith,
-      omega (arith, mul-sub (a .w) (l .left) m, mul-le-mul-left (a .w) le, l .inv .1),
-      omega arith,
-      rw (one-end (a .w * m) long block) (sym (end-turn (a .per) (a .k) (l .i) (l .left) m i (least .ensures) (a .w) (l .next .at)) ∙ l .inv .3),
-      λ r ys g. l .inv .4 r ys (rw (parts-turn (a .per) (a .k) (l .i) (l .left) m (a .w) (l .first) (now (a .items)) i (least .ensures)) (laid-then (rw e at block) g)),
-    )
+    let those = cut-drop (a .w) m (l .left) xs le ∙ ap (cut (a .w) (l .left - m)) (drop-drop (a .w * m) (l .first) (now (a .items))) in
+    let block = rw (e, ← cat-take (a .w) m (l .left) xs le) at (c .before .before .write-block .ensures) in
+    (omega (arith, mul-sub (a .w) (l .left) m, mul-le-mul-left (a .w) le, l .inv .0), parting-turn _ _ _ _ _ _ _ _ _ _ _ _ (l .inv .1) i m (least .ensures) _ _ refl those _ _ (search needs) block)
 
 same-length : tie.Need-same-length Inv-loop μ-loop
-same-length c = omega arith
+same-length c = c .before .loop .inv .1 .long
 
 returns : tie.Need-returns Inv-loop μ-loop
-returns c =
-    let l = c .before .loop in
-    let e : c .before .before .before .before .args .k - l .i ≡ 0 = omega arith in
-    l .inv .4 (l .next) (l .out) (rw e (laid-none (l .next) (l .out)))
+returns c = parted _ _ _ _ _ _ _ _ _ _ _ _ (c .before .loop .inv .1) (c .loop-test .left)
 
 pub lay-parts-spec : {M : Type 1} → statement M
 lay-parts-spec =

@@ -3,8 +3,9 @@ use Prim.Native.Nat.{_/_}
 use native.Mathlib.Nat.{mul-div-le}
 use denote.Ref.{now}
 use lib.ListN.{length}
-use Rattle.blocks.specs.Lists.{perPart, cut}
-use Rattle.blocks.proofs.Lists.{per-room, room-parts, room-offsets, length-cut, wide-cut, front-end, items-end, list-laid}
+use Rattle.fields.specs.Bytes.{cut}
+use Rattle.fields.proofs.Cuts.{cut-length}
+use Rattle.blocks.proofs.Lists.{per-room, wide-cut, front-room, items-room, list-laid}
 use borrow.Author.Needs.{needs}
 use Rattle.blocks.proofs.write_list.Statement.{statement}
 use Rattle.blocks.proofs.write_list.Tie as tie
@@ -27,8 +28,7 @@ lay-parts-requires c κs =
     let a = s .args in
     let xs = now (a .items) in
     let n = length xs / a .w in
-    let front = front-end (a .vft) (a .w) n (c .before .before .before .before .lay-list-front .ensures) in
-    (per-room (a .w) (s .pre .some) (s .pre .page), mul-div-le (length xs) (a .w), rw (front, c .part-count .ensures) (room-parts (s .pre) .below))
+    (per-room (a .w) (s .pre .some) (s .pre .page), mul-div-le (length xs) (a .w), rw (c .part-count .ensures) (front-room (a .vft) (a .w) n (s .pre) (c .before .before .before .before .lay-list-front .ensures) .below))
 
 lay-offsets-requires : tie.Need-lay-offsets-requires
 lay-offsets-requires c κs =
@@ -38,9 +38,8 @@ lay-offsets-requires c κs =
     let xs = now (a .items) in
     let n = length xs / a .w in
     let room = mul-div-le (length xs) (a .w) in
-    let front = front-end (a .vft) (a .w) n (c .before .before .before .before .before .before .before .before .lay-list-front .ensures) in
-    let items = items-end (a .w) (part-count .result) (perPart (a .w)) n (cut (a .w) n xs) (wide-cut (a .w) n xs room) (length-cut (a .w) n xs) (c .before .before .before .lay-parts .ensures) in
-    rw (items, front, part-count .ensures) (room-offsets (s .pre))
+    let front = c .before .before .before .before .before .before .before .before .lay-list-front .ensures in
+    items-room (a .vft) (a .w) n (cut (a .w) n xs) (s .pre) (wide-cut (a .w) n xs room) (cut-length (a .w) n xs) front (rw (part-count .ensures) at (c .before .before .before .lay-parts .ensures))
 
 same-length : tie.Need-same-length
 same-length c = search needs
@@ -54,7 +53,7 @@ returns c =
     let a = c .before .before .before .before .before .before .before .before .before .before .before .before .before .before .before .args in
     let xs = now (a .items) in
     let n = length xs / a .w in
-    list-laid (a .vft) (a .w) n (cut (a .w) n xs) (length-cut (a .w) n xs) front (rw k at parts) offsets
+    list-laid (a .vft) (a .w) n (cut (a .w) n xs) (cut-length (a .w) n xs) front (rw k at parts) offsets
 
 pub write-list-spec : {M : Type 1} → statement M
 write-list-spec =

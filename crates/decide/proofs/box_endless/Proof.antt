@@ -1,6 +1,6 @@
 -- `decide::box_endless` meets its contract. Assumes nothing.
 use Rattle.strip.specs.Reading.{headAt}
-use Rattle.decide.proofs.Firsts.{or-true, or-else}
+use Rattle.pages.proofs.Firsts.{or-true, or-else}
 use borrow.Author.Needs.{needs}
 use Rattle.decide.proofs.box_endless.Statement.{statement}
 use Rattle.decide.proofs.box_endless.Tie as tie

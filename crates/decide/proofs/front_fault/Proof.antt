@@ -1,7 +1,7 @@
 -- `decide::front_fault` meets its contract. Assumes nothing.
 use mathlib.Core.Path.{sym, _∙_}
 use borrow.Author.Tests.{lt-ltb, le-ltb}
-use Rattle.decide.proofs.Firsts.{first-nothing, first-fails, first-passes}
+use Rattle.pages.proofs.Firsts.{first-nothing, first-fails, first-passes}
 use borrow.Author.Needs.{needs}
 use Rattle.decide.proofs.front_fault.Statement.{statement}
 use Rattle.decide.proofs.front_fault.Tie as tie

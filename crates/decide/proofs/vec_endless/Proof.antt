@@ -1,5 +1,5 @@
 -- `decide::vec_endless` meets its contract. Assumes nothing.
-use Rattle.decide.proofs.Firsts.{or-true, or-else}
+use Rattle.pages.proofs.Firsts.{or-true, or-else}
 use borrow.Author.Needs.{needs}
 use Rattle.decide.proofs.vec_endless.Statement.{statement}
 use Rattle.decide.proofs.vec_endless.Tie as tie

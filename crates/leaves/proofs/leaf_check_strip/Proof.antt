@@ -7,7 +7,7 @@ use Rattle.strip.specs.Outcome.{Paper}
 use Rattle.strip.specs.Check.{paper}
 use Rattle.strip.specs.declared.Counts.{Counts}
 use Rattle.leaves.specs.Entries.{numberOf, answerOf}
-use Rattle.leaves.proofs.Three.{put-three}
+use Rattle.fields.proofs.Puts.{put-three}
 use borrow.Author.Needs.{needs}
 use Rattle.leaves.proofs.leaf_check_strip.Statement.{statement}
 use Rattle.leaves.proofs.leaf_check_strip.Tie as tie

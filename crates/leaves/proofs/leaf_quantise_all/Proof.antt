@@ -14,7 +14,8 @@ use Rattle.quantise.specs.Short.{shorts}
 use Rattle.quantise.specs.declared.short.Shorts.{Shorts}
 use Rattle.fields.specs.Bytes.{put}
 use Rattle.fields.proofs.Puts.{put-nil, put-next}
-use Rattle.leaves.specs.Entries.{vertexAt, shortsTo}
+use Rattle.math.specs.Floats.{floatsAt}
+use Rattle.leaves.specs.Entries.{shortsTo}
 use Rattle.leaves.proofs.leaf_quantise_all.Statement.{statement}
 use Rattle.leaves.proofs.leaf_quantise_all.Tie as tie
 
@@ -24,10 +25,10 @@ length-shorts ws lo size zero = refl
 length-shorts ws lo size (suc n) = simp length-append (omega (arith, length-shorts ws lo size n))
 
 -- the shorts of one vertex more, behind those that stand
-one-more : (ws : List ℕ) (lo size : Vec3) (i : ℕ) (out : List ℕ) (q : Shorts) → q ≡ shorts (vertexAt ws (3 * i)) lo size → put (3 * i) (q .x ∷ q .y ∷ q .z ∷ []) (put 0 (shortsTo ws lo size i) out) ≡ put 0 (shortsTo ws lo size (i + 1)) out
+one-more : (ws : List ℕ) (lo size : Vec3) (i : ℕ) (out : List ℕ) (q : Shorts) → q ≡ shorts (floatsAt ws (3 * i)) lo size → put (3 * i) (q .x ∷ q .y ∷ q .z ∷ []) (put 0 (shortsTo ws lo size i) out) ≡ put 0 (shortsTo ws lo size (i + 1)) out
 unfolding shortsTo
 one-more ws lo size i out q e =
-    let v = shorts (vertexAt ws (3 * i)) lo size in
+    let v = shorts (floatsAt ws (3 * i)) lo size in
     let h = put-next (3 * i) 0 (shortsTo ws lo size i) (v .x ∷ v .y ∷ v .z ∷ []) out (length-shorts ws lo size i) in
     rw (e, add-one i) (rw zero-add at h)
 
@@ -40,11 +41,11 @@ Inv-loop vertices bounds out₀ lo size n i₀ out i = (i ≤ n) × (length out 
 abbrev μ-loop : tie.MeasureT-loop
 μ-loop vertices bounds out₀ lo size n i₀ out i = n - i
 
-vertex-requires : tie.Need-vertex-requires Inv-loop μ-loop
-vertex-requires c κs = search needs
+floats-at-requires : tie.Need-floats-at-requires Inv-loop μ-loop
+floats-at-requires c κs = search needs
 
-vertex-requires-2 : tie.Need-vertex-requires-2 Inv-loop μ-loop
-vertex-requires-2 c κs = search needs
+floats-at-requires-2 : tie.Need-floats-at-requires-2 Inv-loop μ-loop
+floats-at-requires-2 c κs = search needs
 
 fewer-requires : tie.Need-fewer-requires Inv-loop μ-loop
 fewer-requires c κs = search needs
@@ -53,11 +54,11 @@ loop-holds : tie.Need-loop-holds Inv-loop μ-loop
 unfolding shortsTo
 loop-holds c = (omega arith, refl, sym (put-nil 0 _))
 
-mul-vertex : tie.Need-mul-vertex Inv-loop μ-loop
-mul-vertex c = let h = both _ _ _ (c .before .before .fewer .ensures) in omega arith
+mul-floats-at : tie.Need-mul-floats-at Inv-loop μ-loop
+mul-floats-at c = let h = both _ _ _ (c .before .before .fewer .ensures) in omega arith
 
-vertex-requires-3 : tie.Need-vertex-requires-3 Inv-loop μ-loop
-vertex-requires-3 c κs = let h = both _ _ _ (c .before .before .fewer .ensures) in omega arith
+floats-at-requires-3 : tie.Need-floats-at-requires-3 Inv-loop μ-loop
+floats-at-requires-3 c κs = let h = both _ _ _ (c .before .before .fewer .ensures) in omega arith
 
 quantise-requires : tie.Need-quantise-requires Inv-loop μ-loop
 quantise-requires c κs = search needs
@@ -80,7 +81,7 @@ loop-again c = let l = c .before .before .before .before .before .before .before
     let q = c .before .before .before .before .quantise in (
       omega arith,
       omega arith,
-      c .before .before .store .ensures ∙ ap (put (3 * l .i) (q .result .x ∷ q .result .y ∷ q .result .z ∷ [])) (l .inv .2) ∙ one-more (now (a .vertices)) (c .before .before .before .before .before .before .before .before .before .before .before .vertex .result) (c .before .before .before .before .before .before .before .before .before .vertex2 .result) (l .i) (now (a .out)) (q .result) (cc),
+      c .before .before .store .ensures ∙ ap (put (3 * l .i) (q .result .x ∷ q .result .y ∷ q .result .z ∷ [])) (l .inv .2) ∙ one-more (now (a .vertices)) (c .before .before .before .before .before .before .before .before .before .before .before .floats-at .result) (c .before .before .before .before .before .before .before .before .before .floats-at2 .result) (l .i) (now (a .out)) (q .result) (cc),
     )
 
 same-length : tie.Need-same-length Inv-loop μ-loop
@@ -98,12 +99,12 @@ leaf-quantise-all-spec =
     (tie.spec
     Inv-loop
     μ-loop
-    vertex-requires
-    vertex-requires-2
+    floats-at-requires
+    floats-at-requires-2
     fewer-requires
     loop-holds
-    mul-vertex
-    vertex-requires-3
+    mul-floats-at
+    floats-at-requires-3
     quantise-requires
     mul-store
     store-requires

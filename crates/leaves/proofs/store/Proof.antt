@@ -1,7 +1,7 @@
 -- `leaves::store` meets its contract.
 use native.Mathlib.Omega.{arith}
 use lib.ListN.{length-set}
-use Rattle.leaves.proofs.Three.{put-three}
+use Rattle.fields.proofs.Puts.{put-three}
 use borrow.Author.Needs.{needs}
 use Rattle.leaves.proofs.store.Statement.{statement}
 use Rattle.leaves.proofs.store.Tie as tie

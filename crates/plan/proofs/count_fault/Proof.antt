@@ -1,6 +1,6 @@
 -- `plan::count_fault` meets its contract. Assumes nothing.
 use borrow.Author.Tests.{lt-ltb, le-ltb}
-use Rattle.decide.proofs.Firsts.{first-nothing, first-fails, first-passes}
+use Rattle.pages.proofs.Firsts.{first-nothing, first-fails, first-passes}
 use Rattle.plan.proofs.count_fault.Statement.{statement}
 use Rattle.plan.proofs.count_fault.Tie as tie
 

@@ -1,12 +1,5 @@
 -- `plan::leaf_fault` meets its contract. Assumes nothing.
-use Prim.Native.Nat.{_+_, _*_, _-_}
-use mathlib.Core.Path.{_≡_}
-use lib.ListN.{take, drop}
-use Rattle.strip.specs.Reading.{polygonsAt, headAt}
-use Rattle.pages.specs.Sectors.{leaves, depthOf, rootBox}
-use Rattle.plan.specs.Plan.{boxes, leafWords, pointsIn}
 use Rattle.plan.proofs.Rest.{leaf-told}
-use native.Mathlib.Omega.{arith}
 use borrow.Author.Needs.{needs}
 use Rattle.plan.proofs.leaf_fault.Statement.{statement}
 use Rattle.plan.proofs.leaf_fault.Tie as tie
@@ -57,15 +50,8 @@ check-leaves-requires : tie.Need-check-leaves-requires
 check-leaves-requires c κs = search needs
 
 returns : tie.Need-returns
-returns c = let s = c .before .before .before .before .before .before .before .before .before .before .args .strip .now in
-    let w = c .before .before .before .before .before .before .before .before .before .before .args .work .now in
-    let n = c .before .before .before .before .before .before .before .before .before .before .args .counts in
-    let at = c .before .before .before .before .before .before .before .tables-end .result in
-    let m1 : at + 3 * n .polys - at ≡ 3 * n .polys = omega arith in
-    let m2 : at + 3 * n .polys + n .points - (at + 3 * n .polys) ≡ n .points = omega arith in
-    let bw : take (at + 3 * n .polys - at) (drop at w) ≡ boxes (polygonsAt s 14 (n .polys)) = rw (m1, c .before .before .before .before .before .before .before .tables-end .ensures) (c .before .before .before .before .before .before .before .before .before .before .pre .1 .boxes-held) in
-    let lw : take (at + 3 * n .polys + n .points - (at + 3 * n .polys)) (drop (at + 3 * n .polys) w) ≡ leafWords (leaves (depthOf (headAt s 0)) (rootBox (headAt s 0))) (pointsIn s n) = rw (m2, c .before .before .before .before .before .before .before .tables-end .ensures) (c .before .before .before .before .before .before .before .before .before .before .pre .1 .leaves-held) in
-    leaf-told s n _ _ _ _ bw lw (c .before .before .before .before .root-box .ensures) (c .check-leaves .ensures)
+returns c =
+    leaf-told _ _ _ (c .before .before .before .before .before .before .before .before .before .before .pre .1) _ (c .before .before .before .before .before .before .before .tables-end .ensures) _ _ (c .before .before .before .before .root-box .ensures) (c .check-leaves .ensures)
 
 pub leaf-fault-spec : {M : Type 1} → statement M
 leaf-fault-spec =

@@ -3,7 +3,7 @@ use Prim.Native.Nat.{_-_, _*_, _≤_}
 use mathlib.Core.Path.{_≡_, _∙_}
 use lib.ListN.{drop}
 use borrow.Author.Needs.{needs}
-use Rattle.grammar.specs.Parts.{cut}
+use Rattle.fields.specs.Bytes.{cut}
 use Rattle.polygon_words.specs.Words.{allBelow}
 use Rattle.polygon_words.proofs.Words.{below-begin, below-more, below-not, below-end}
 use Rattle.polygon_words.proofs.all_below.Statement.{statement}

@@ -4,13 +4,13 @@ use mathlib.Core.Path.{_≡_, refl, sym, ap, _∙_}
 use mathlib.Core.List.{map}
 use lib.ListN.{length, drop}
 use borrow.Author.Needs.{needs}
-use Rattle.fields.specs.Bytes.{put}
+use Rattle.fields.specs.Bytes.{put, cut}
 use Rattle.fields.proofs.Puts.{length-put}
 use Rattle.strip.specs.Cell.{each, edgeWords}
-use Rattle.grammar.specs.Parts.{cut}
 use Rattle.grammar.specs.Polygons.{edgeOf}
 use Rattle.grammar.specs.Derives.{areaOf}
-use Rattle.polygon_words.proofs.Cuts.{put-begin, put-item, put-end}
+use Rattle.lists.specs.Lists.{item}
+use Rattle.records.proofs.Items.{put-begin, put-item, put-end}
 use Rattle.polygon_words.proofs.Words.{edge-six}
 use Rattle.polygon_words.proofs.put_edge_run.Statement.{statement}
 use Rattle.polygon_words.proofs.put_edge_run.Tie as tie
@@ -40,6 +40,7 @@ loop-less : tie.Need-loop-less Inv-loop μ-loop
 loop-less c = search needs
 
 loop-again : tie.Need-loop-again Inv-loop μ-loop
+unfolding item
 loop-again c = (search needs, ap length (c .before .before .put-edge .ensures) ∙ rw (length-put, c .before .before .before .before .before .loop .inv .1), rw (c .before .before .put-edge .ensures) (put-item edgeWords 6 edge-six _ _ _ _ _ (c .before .before .before .before .before .loop .k) _ (c .before .before .before .before .loop-test .taken)) ∙ c .before .before .before .before .before .loop .inv .2)
 
 same-length : tie.Need-same-length Inv-loop μ-loop

@@ -5,14 +5,13 @@ use mathlib.Core.Path.{_≡_, refl, sym, ap, _∙_}
 use mathlib.Core.List.{map}
 use lib.ListN.{length, take, drop}
 use borrow.Author.Needs.{needs}
-use Rattle.fields.specs.Bytes.{put}
+use Rattle.fields.specs.Bytes.{put, cut}
 use Rattle.fields.proofs.Puts.{length-put}
 use Rattle.strip.specs.Cell.{each, edgeWords}
-use Rattle.grammar.specs.Parts.{cut}
 use Rattle.grammar.specs.Polygons.{edgeOf}
 use Rattle.grammar.specs.Derives.{areaOf}
 use Rattle.lists.specs.Cursors.{Stands}
-use Rattle.grammar.proofs.Parts.{cut-length}
+use Rattle.fields.proofs.Cuts.{cut-length}
 use Rattle.polygon_words.proofs.Words.{edge-six}
 use Rattle.polygons.specs.Passes.{itemsIn}
 use Rattle.polygons.proofs.Runs.{left, left-begin, left-end, taken, put-part, put-first, put-none}

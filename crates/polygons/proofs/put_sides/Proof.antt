@@ -5,7 +5,7 @@ use lib.ListN.{length}
 use borrow.Author.Needs.{needs}
 use Rattle.fields.proofs.Puts.{length-put}
 use Rattle.grammar.specs.Derives.{areaOf}
-use Rattle.polygon_words.specs.Words.{backIn}
+use Rattle.records.specs.Back.{backBy}
 use Rattle.polygons.specs.Passes.{itemsIn}
 use Rattle.polygons.proofs.Runs.{length-items}
 use Rattle.polygons.proofs.Writes.{sides-put}
@@ -40,7 +40,7 @@ returns c =
     let start = c .before .before .before .before .before .before .before .before .before .before .before .before .before .before .before .before .before .before .before .before in
     let put-vertices = c .before .before .before .before .before .before .before .before .put-vertices in
     let put-edges = c .before .before .before .before .put-edges in
-    (record { vertex-list = start .pre .0 .0 .vertex-list; index-list = start .pre .0 .0 .index-list; edge-list = start .pre .0 .0 .edge-list; in-vertices = put-vertices .ensures .0; in-indices = put-vertices .ensures .1; in-edges = put-edges .ensures .0 }, put-edges .ensures .1 ∙ rw (put-vertices .ensures .2) (sides-put (areaOf (start .args .header .now)) (backIn (start .args .bb-min) (start .args .bb-size)) (itemsIn (start .args .system .now) (start .args .graphics .now) 6 (start .args .vertices .now)) (itemsIn (start .args .system .now) (start .args .graphics .now) 2 (start .args .indices .now)) (itemsIn (start .args .system .now) (start .args .graphics .now) 8 (start .args .edges .now)) (start .args .start) (start .args .count) (omega (arith, start .pre .1 .in-indices, length-items (start .args .system .now) (start .args .graphics .now) 2 (start .args .indices .now))) (omega (arith, start .pre .1 .in-edges, length-items (start .args .system .now) (start .args .graphics .now) 8 (start .args .edges .now))) _ _))
+    (record { vertex-list = start .pre .0 .0 .vertex-list; index-list = start .pre .0 .0 .index-list; edge-list = start .pre .0 .0 .edge-list; in-vertices = put-vertices .ensures .0; in-indices = put-vertices .ensures .1; in-edges = put-edges .ensures .0 }, put-edges .ensures .1 ∙ rw (put-vertices .ensures .2) (sides-put (areaOf (start .args .header .now)) (backBy (start .args .bb-min) (start .args .bb-size)) (itemsIn (start .args .system .now) (start .args .graphics .now) 6 (start .args .vertices .now)) (itemsIn (start .args .system .now) (start .args .graphics .now) 2 (start .args .indices .now)) (itemsIn (start .args .system .now) (start .args .graphics .now) 8 (start .args .edges .now)) (start .args .start) (start .args .count) (omega (arith, start .pre .1 .in-indices, length-items (start .args .system .now) (start .args .graphics .now) 2 (start .args .indices .now))) (omega (arith, start .pre .1 .in-edges, length-items (start .args .system .now) (start .args .graphics .now) 8 (start .args .edges .now))) _ _))
 
 pub put-sides-spec : {M : Type 1} → statement M
 put-sides-spec =

@@ -6,14 +6,14 @@ use mathlib.Core.Bool.{true}
 use mathlib.Core.List.{map}
 use lib.ListN.{length, drop}
 use borrow.Author.Needs.{needs}
-use Rattle.fields.specs.Bytes.{put}
+use Rattle.fields.specs.Bytes.{put, cut}
 use Rattle.fields.proofs.Puts.{length-put}
 use Rattle.strip.specs.Cell.{each, vecWords}
-use Rattle.grammar.specs.Parts.{cut}
-use Rattle.lists.specs.Lists.{total}
+use Rattle.lists.specs.Lists.{item, total}
 use Rattle.lists.specs.Cursors.{Stands}
-use Rattle.polygon_words.specs.Words.{backIn, allBelow}
-use Rattle.polygon_words.proofs.Cuts.{put-begin, put-item, put-end}
+use Rattle.records.specs.Back.{backBy}
+use Rattle.polygon_words.specs.Words.{allBelow}
+use Rattle.records.proofs.Items.{put-begin, put-item, put-end}
 use Rattle.polygon_words.proofs.Words.{vec-three, below-begin, below-first}
 use Rattle.polygons.specs.Polygons.{corner}
 use Rattle.polygons.specs.Passes.{itemsIn}
@@ -22,7 +22,7 @@ use Rattle.polygons.proofs.put_vertex_run.Statement.{statement}
 use Rattle.polygons.proofs.put_vertex_run.Tie as tie
 
 abbrev Inv-loop : tie.InvT-loop
-Inv-loop system graphics vertices bb-min bb-size run n out₀ at d₀ k₀ out d k = (k ≤ n) × Stands vertices d × (length out ≡ length out₀) × (allBelow (total vertices) (cut 2 (n - k) (drop (2 * k) run)) ≡ true) × (put (at + 3 * k) (each vecWords (map (corner (backIn bb-min bb-size) (itemsIn system graphics 6 vertices)) (cut 2 (n - k) (drop (2 * k) run)))) out ≡ put at (each vecWords (map (corner (backIn bb-min bb-size) (itemsIn system graphics 6 vertices)) (cut 2 n run))) out₀)
+Inv-loop system graphics vertices bb-min bb-size run n out₀ at d₀ k₀ out d k = (k ≤ n) × Stands vertices d × (length out ≡ length out₀) × (allBelow (total vertices) (cut 2 (n - k) (drop (2 * k) run)) ≡ true) × (put (at + 3 * k) (each vecWords (map (corner (backBy bb-min bb-size) (itemsIn system graphics 6 vertices)) (cut 2 (n - k) (drop (2 * k) run)))) out ≡ put at (each vecWords (map (corner (backBy bb-min bb-size) (itemsIn system graphics 6 vertices)) (cut 2 n run))) out₀)
 
 abbrev μ-loop : tie.MeasureT-loop
 μ-loop system graphics vertices bb-min bb-size run n out₀ at d₀ k₀ out d k = n - k
@@ -69,13 +69,14 @@ loop-less : tie.Need-loop-less Inv-loop μ-loop
 loop-less c = omega (arith, c .before .before .before .before .before .before .before .loop-test .taken)
 
 loop-again : tie.Need-loop-again Inv-loop μ-loop
+unfolding item
 loop-again c =
     let start = c .before .before .before .before .before .before .before .before .before .before .before .before .before .before in
     let turn = c .before .before .before .before .before .before .before .before .loop in
     let test = c .before .before .before .before .before .before .before .loop-test in
     let u16-le = c .before .before .before .before .before .before .u16-le in
     let put-vertex = c .before .before .put-vertex in
-    (omega (arith, test .taken), c .before .before .before .before .before .seek .ensures .stands, ap length (put-vertex .ensures) ∙ rw (length-put, turn .inv .2), (below-first _ _ _ (turn .k) (test .taken) (u16-le .ensures) (turn .inv .3)) .1, rw (put-vertex .ensures, corner-is (backIn (start .args .bb-min) (start .args .bb-size)) (start .args .system .now) (start .args .graphics .now) (start .args .vertices .now) (start .args .run .now) (turn .k) (u16-le .ensures) ((below-first _ _ _ (turn .k) (test .taken) (u16-le .ensures) (turn .inv .3)) .0) (c .before .before .before .before .list-item .ensures)) (put-item vecWords 3 vec-three _ _ _ _ _ (turn .k) _ (test .taken)) ∙ turn .inv .4)
+    (omega (arith, test .taken), c .before .before .before .before .before .seek .ensures .stands, ap length (put-vertex .ensures) ∙ rw (length-put, turn .inv .2), (below-first _ _ _ (turn .k) (test .taken) (u16-le .ensures) (turn .inv .3)) .1, rw (put-vertex .ensures, corner-is (backBy (start .args .bb-min) (start .args .bb-size)) (start .args .system .now) (start .args .graphics .now) (start .args .vertices .now) (start .args .run .now) (turn .k) (u16-le .ensures) ((below-first _ _ _ (turn .k) (test .taken) (u16-le .ensures) (turn .inv .3)) .0) (c .before .before .before .before .list-item .ensures)) (put-item vecWords 3 vec-three _ _ _ _ _ (turn .k) _ (test .taken)) ∙ turn .inv .4)
 
 same-length : tie.Need-same-length Inv-loop μ-loop
 same-length c = c .before .loop .inv .2

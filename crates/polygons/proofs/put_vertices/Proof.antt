@@ -6,14 +6,14 @@ use mathlib.Core.Bool.{true}
 use mathlib.Core.List.{map}
 use lib.ListN.{length, take, drop}
 use borrow.Author.Needs.{needs}
-use Rattle.fields.specs.Bytes.{put}
+use Rattle.fields.specs.Bytes.{put, cut}
 use Rattle.fields.proofs.Puts.{length-put}
 use Rattle.strip.specs.Cell.{each, vecWords}
-use Rattle.grammar.specs.Parts.{cut}
 use Rattle.lists.specs.Cursors.{Stands}
 use Rattle.lists.specs.Lists.{total}
-use Rattle.grammar.proofs.Parts.{cut-length}
-use Rattle.polygon_words.specs.Words.{backIn, allBelow}
+use Rattle.fields.proofs.Cuts.{cut-length}
+use Rattle.records.specs.Back.{backBy}
+use Rattle.polygon_words.specs.Words.{allBelow}
 use Rattle.polygon_words.proofs.Words.{vec-three}
 use Rattle.polygons.specs.Passes.{itemsIn}
 use Rattle.polygons.specs.Polygons.{corner}
@@ -22,7 +22,7 @@ use Rattle.polygons.proofs.put_vertices.Statement.{statement}
 use Rattle.polygons.proofs.put_vertices.Tie as tie
 
 abbrev Inv-loop : tie.InvT-loop
-Inv-loop system graphics vertices indices bb-min bb-size start count out₀ at c₀ d₀ k₀ out c d k = (k ≤ count) × Stands vertices d × Stands indices c × (length out ≡ length out₀) × (allBelow (total vertices) (left (itemsIn system graphics 2 indices) start count k) ≡ true) × (put (at + 3 * k) (each vecWords (map (corner (backIn bb-min bb-size) (itemsIn system graphics 6 vertices)) (left (itemsIn system graphics 2 indices) start count k))) out ≡ put at (each vecWords (map (corner (backIn bb-min bb-size) (itemsIn system graphics 6 vertices)) (take count (drop start (itemsIn system graphics 2 indices))))) out₀)
+Inv-loop system graphics vertices indices bb-min bb-size start count out₀ at c₀ d₀ k₀ out c d k = (k ≤ count) × Stands vertices d × Stands indices c × (length out ≡ length out₀) × (allBelow (total vertices) (left (itemsIn system graphics 2 indices) start count k) ≡ true) × (put (at + 3 * k) (each vecWords (map (corner (backBy bb-min bb-size) (itemsIn system graphics 6 vertices)) (left (itemsIn system graphics 2 indices) start count k))) out ≡ put at (each vecWords (map (corner (backBy bb-min bb-size) (itemsIn system graphics 6 vertices)) (take count (drop start (itemsIn system graphics 2 indices))))) out₀)
 
 abbrev μ-loop : tie.MeasureT-loop
 μ-loop system graphics vertices indices bb-min bb-size start count out₀ at c₀ d₀ k₀ out c d k = count - k

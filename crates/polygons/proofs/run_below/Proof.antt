@@ -5,7 +5,7 @@ use mathlib.Core.Path.{_≡_, ap, _∙_}
 use lib.ListN.{take, drop}
 use borrow.Author.Needs.{needs}
 use borrow.Author.Tests.{not-true, not-false}
-use Rattle.grammar.specs.Parts.{cut}
+use Rattle.fields.specs.Bytes.{cut}
 use Rattle.lists.specs.Cursors.{Stands}
 use Rattle.polygon_words.specs.Words.{allBelow}
 use Rattle.polygons.specs.Passes.{itemsIn}

@@ -1,6 +1,6 @@
 -- `read_vectors::answer_agrees` meets its contract, by the answer's cases.
 use mathlib.Core.Path.{ap, sym, _∙_}
-use Rattle.ynv_read.specs.Passes.{paper}
+use Rattle.ynv_read.specs.Parse.{paper}
 use Rattle.read_vectors.proofs.Records.{never, told-cell}
 use borrow.Author.Needs.{needs}
 use Rattle.read_vectors.proofs.answer_agrees.Statement.{statement}

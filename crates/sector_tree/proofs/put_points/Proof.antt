@@ -1,12 +1,14 @@
 -- `put_points` meets its contract. The loop's invariant: what is left to write, stored from here on, gives what is promised.
-use Prim.Native.Nat.{_+_, _-_, _*_, _≤_}
+use Prim.Native.Nat.{ℕ, _+_, _-_, _*_, _≤_}
 use native.Mathlib.Omega.{arith}
-use mathlib.Core.Path.{_≡_, refl, sym, _∙_}
-use lib.ListN.{length, drop}
-use Rattle.fields.specs.Bytes.{put}
-use Rattle.grammar.specs.Parts.{cut}
+use mathlib.Core.Path.{_≡_, refl, sym, ap, _∙_}
+use lib.ListN.{length, take, drop}
+use Rattle.fields.specs.Bytes.{put, cut}
+use Rattle.strip.specs.Cell.{pointWords}
+use Rattle.grammar.specs.Derives.{pointOf}
 use Rattle.sector_tree.specs.Write.{asShorts, pointsWords}
-use Rattle.sector_tree.proofs.Stores.{points-start, points-more, points-end}
+use Rattle.records.proofs.Items.{put-begin, put-item, put-end}
+use Rattle.sector_tree.proofs.Stores.{point-length}
 use borrow.Author.Needs.{needs}
 use Rattle.sector_tree.proofs.put_points.Statement.{statement}
 use Rattle.sector_tree.proofs.put_points.Tie as tie
@@ -18,19 +20,25 @@ abbrev μ-loop : tie.MeasureT-loop
 μ-loop points n strip₀ at i₀ strip i = n - i
 
 loop-holds : tie.Need-loop-holds Inv-loop μ-loop
-loop-holds c = (search needs, refl, points-start _ _ 0 _ _ refl)
+unfolding pointsWords
+loop-holds c = (search needs, refl, put-begin pointWords 4 point-length _ _ _ _ _ _)
 
 loop-again : tie.Need-loop-again Inv-loop μ-loop
+unfolding pointsWords
 loop-again c =
     let k = c .before .before .before .before .before .before .loop in
     let a = c .before .before .before .before .before .before .before .before .before .args in
-    (search needs, c .before .before .put-point .kept .1 .0 ∙ k .inv .1, points-more (a .points .now) (a .n) (k .i) (a .at) (k .strip) (8 * k .i + 8 - 8 * k .i) (omega arith) (c .before .before .before .before .before .loop-test .taken) (c .before .before .put-point .ensures) ∙ k .inv .2)
+    let f = pointOf asShorts in
+    let e : 8 * k .i + 8 - 8 * k .i ≡ 8 = omega arith in
+    let stored = c .before .before .put-point .ensures ∙ ap (λ (w : ℕ). put (a .at + 4 * k .i) (pointWords (f (take w (drop (8 * k .i) (a .points .now))))) (k .strip)) e in
+    (search needs, c .before .before .put-point .kept .1 .0 ∙ k .inv .1, rw stored (put-item pointWords 4 point-length f 8 (a .n) (a .points .now) (a .at) (k .i) (k .strip) (c .before .before .before .before .before .loop-test .taken)) ∙ k .inv .2)
 
 same-length : tie.Need-same-length Inv-loop μ-loop
 same-length c = c .before .loop .inv .1
 
 returns : tie.Need-returns Inv-loop μ-loop
-returns c = sym (points-end (c .before .before .before .before .args .points .now) (c .before .before .before .before .args .n) (c .before .loop .i) _ _ (omega arith)) ∙ c .before .loop .inv .2
+unfolding pointsWords
+returns c = sym (put-end pointWords 4 point-length _ 8 (c .before .before .before .before .args .n) _ _ (c .before .loop .i) _ (omega arith)) ∙ c .before .loop .inv .2
 
 pub put-points-spec : {M : Type 1} → statement M
 put-points-spec =

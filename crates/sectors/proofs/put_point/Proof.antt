@@ -14,11 +14,11 @@ use borrow.Author.Needs.{needs}
 use Rattle.sectors.proofs.put_point.Statement.{statement}
 use Rattle.sectors.proofs.put_point.Tie as tie
 
-add-position-at : tie.Need-add-position-at
-add-position-at c = search needs
+add-floats-at : tie.Need-add-floats-at
+add-floats-at c = search needs
 
-position-at-requires : tie.Need-position-at-requires
-position-at-requires c κs = search needs
+floats-at-requires : tie.Need-floats-at-requires
+floats-at-requires c κs = search needs
 
 quantise-requires : tie.Need-quantise-requires
 quantise-requires c κs = search needs
@@ -51,7 +51,7 @@ returns : tie.Need-returns
 returns c =
     let a = c .before .before .before .before .before .before .before .before .before .before .before .before .args in
     let s = now (a .strip) in
-    let q = c .before .before .before .before .before .before .before .before .quantise .ensures ∙ ap (λ (v : Floats). shorts v (a .lo) (a .size)) (c .before .before .before .before .before .before .before .before .before .position-at .ensures) in
+    let q = c .before .before .before .before .before .before .before .before .quantise .ensures ∙ ap (λ (v : Floats). shorts v (a .lo) (a .size)) (c .before .before .before .before .before .before .before .before .before .floats-at .ensures) in
     let e0 : leBytes 4 (c .before .before .before .before .before .before .pair .result) ≡ leBytes 2 (shorts (floats (vecAt s (a .at + 1))) (a .lo) (a .size) .x) ++ leBytes 2 (shorts (floats (vecAt s (a .at + 1))) (a .lo) (a .size) .y) = rw q at (c .before .before .before .before .before .before .pair .ensures) in
     let e1 : leBytes 4 (c .before .before .before .before .before .pair2 .result) ≡ leBytes 2 (shorts (floats (vecAt s (a .at + 1))) (a .lo) (a .size) .z) ++ leBytes 2 (getD s (a .at) 0 % 65536) = rw q at (c .before .before .before .before .before .pair2 .ensures) in
     c .before .before .put-all .ensures ∙ ap (λ (bs : List ℕ). put (a .p) bs (now (a .out))) (point-words (a .lo) (a .size) s (a .at) _ _ e0 e1)
@@ -60,8 +60,8 @@ pub put-point-spec : {M : Type 1} → statement M
 put-point-spec =
     tie.close
     (tie.spec
-    add-position-at
-    position-at-requires
+    add-floats-at
+    floats-at-requires
     quantise-requires
     mul-bytes
     shared-slice-read-bytes

@@ -1,6 +1,6 @@
 -- `sectors::write_leaf` meets its contract. Assumes nothing.
 use Prim.Native.Nat.{ℕ, _+_, _*_, _^_, _<_}
-use mathlib.Core.Path.{_≡_, refl, sym, ap, subst, _∙_}
+use mathlib.Core.Path.{_≡_, refl, sym, ap, _∙_}
 use mathlib.Core.List.{List}
 use native.Mathlib.Omega.{arith}
 use lib.ListN.{length}
@@ -13,8 +13,8 @@ use Rattle.blocks.specs.Layout.{behind, endOf, Laid}
 use Rattle.pages.specs.Optional.{blockOf, sizeOf}
 use Rattle.pages.specs.Sectors.{quarters, idsOf, grown, pointsFrom, dataFrom}
 use Rattle.pages.specs.Sectors.Sector.{leaf}
-use Rattle.quadtree.specs.Work.{boxBy, boxesIn, pickedFrom, countIn}
-use Rattle.quadtree.proofs.Picks.{ids-of, count-picked}
+use Rattle.quadtree.specs.Work.{boxesIn, pickedFrom, countIn}
+use Rattle.quadtree.proofs.Picks.{count-picked}
 use Rattle.sectors.specs.Written.{Room}
 use Rattle.sectors.proofs.Leaves.{Bounds, bounds, ids-ends, points-ends, leaf-wrote}
 use Rattle.sectors.proofs.write_leaf.Statement.{statement}
@@ -23,9 +23,8 @@ use Rattle.sectors.proofs.write_leaf.Reads as reads
 use Rattle.sectors.proofs.write_leaf.Lts as lts
 use Rattle.blocks.proofs.Layout.alloc.Reads as alloc-reads
 use Rattle.blocks.proofs.pad.Reads as pad-reads
-use Rattle.quadtree.proofs.leaves.count_ids.Reads as count-ids-reads
 use Rattle.quadtree.proofs.leaves.count_points.Reads as count-points-reads
-use Rattle.quadtree.proofs.leaves.quarter_pair.Reads as quarter-pair-reads
+use Rattle.quadtree.proofs.leaves.leaf_ids.Reads as leaf-ids-reads
 use Rattle.sectors.proofs.address_of.Reads as address-of-reads
 use Rattle.sectors.proofs.lay_data.Reads as lay-data-reads
 use Rattle.sectors.proofs.lay_ids.Reads as lay-ids-reads
@@ -34,10 +33,8 @@ use Rattle.sectors.proofs.put_sector.Reads as put-sector-reads
 
 abbrev claims : lts.Claims
 claims = (
-  quarter-pair-reads.Asked,
-  quarter-pair-reads.Learnt,
-  count-ids-reads.Asked,
-  count-ids-reads.Learnt,
+  leaf-ids-reads.Asked,
+  leaf-ids-reads.Learnt,
   count-points-reads.Asked,
   count-points-reads.Learnt,
   pad-reads.Asked,
@@ -73,7 +70,7 @@ abbrev Stored : Type 0
 Stored = lts.After-lay-points claims reads.Pre reads.Post
 
 abbrev begin : Counted → Begin
-begin c = c .before .before .before .before .before .before .before .before .before
+begin c = c .before .before .before .before .before .before .before
 
 abbrev counted : Own → Counted
 counted c = c .before .before .before .before .before
@@ -107,11 +104,8 @@ module _ (s : Begin) where
   own-small : behind end 96 < 2 ^ 28
   own-small = let b = bounded in omega arith
 
-ids-is : (c : Counted) → idsOf (boxBy (c .before .before .before .quarter-pair .result) (c .before .before .quarter-pair2 .result) 0) 0 (boxesIn (now (begin c .args .boxes))) ≡ idsIn (begin c)
-ids-is c = ids-of (begin c .args .b) _ _ (c .before .before .before .quarter-pair .ensures .0) (c .before .before .quarter-pair2 .ensures .0) 0 (boxesIn (now (begin c .args .boxes)))
-
-ids-count : (c : Counted) → c .before .count-ids .result ≡ length (idsIn (begin c))
-ids-count c = c .before .count-ids .ensures ∙ ap length (ids-is c)
+ids-count : (c : Counted) → c .before .leaf-ids .result ≡ length (idsIn (begin c))
+ids-count c = c .before .leaf-ids .ensures
 
 points-count : (c : Counted) → c .count-points .result ≡ length (pointsIn (begin c))
 points-count c =
@@ -121,16 +115,14 @@ points-count c =
     c .count-points .ensures ∙ ap (countIn w (a .spot .leaf) 0) (sym (items-length (pointAt (now (a .strip))) (λ at. at + 4) (length w) (a .points .at))) ∙ count-picked w (a .spot .leaf) 0 ts
 
 -- the sizes of the two blocks, by the counts
-ids-end : (c : Own) → endOf (c .alloc .result .at) (sizeOf (2 * counted c .before .count-ids .result)) ≡ pointsFrom (end (start c)) (length (idsIn (start c)))
+ids-end : (c : Own) → endOf (c .alloc .result .at) (sizeOf (2 * counted c .before .leaf-ids .result)) ≡ pointsFrom (end (start c)) (length (idsIn (start c)))
 ids-end c =
-    ap (λ (j : ℕ). endOf j (sizeOf (2 * counted c .before .count-ids .result))) (c .alloc .ensures)
+    ap (λ (j : ℕ). endOf j (sizeOf (2 * counted c .before .leaf-ids .result))) (c .alloc .ensures)
     ∙ ap (λ (j : ℕ). endOf (behind (end (start c)) 96) (sizeOf (2 * j))) (ids-count (counted c))
 
 ids-laid : (c : Ids) → let k = own c in
     Laid (k .alloc .result) (blockOf (les 2 (idsIn (start k)))) (c .lay-ids .result) (k .before .before .before .pad .last .0) (c .lay-ids .last .0)
-ids-laid c =
-    let k = own c in
-    subst (λ (is : List ℕ). Laid (k .alloc .result) (blockOf (les 2 is)) (c .lay-ids .result) (k .before .before .before .pad .last .0) (c .lay-ids .last .0)) (ids-is (counted k)) (c .lay-ids .ensures)
+ids-laid c = c .lay-ids .ensures
 
 ids-behind : (c : Ids) → c .lay-ids .result .at ≡ pointsFrom (end (start (own c))) (length (idsIn (start (own c))))
 ids-behind c =
@@ -154,29 +146,23 @@ points-behind c =
 data-small : (c : Stored) → behind (c .lay-points .result .at) 32 < 2 ^ 28
 data-small c = let b = bounded (start (own (laidIds c))) in rw (points-behind c) (omega arith)
 
-quarter-pair-requires : tie.Need-quarter-pair-requires
-quarter-pair-requires c κs = tt
-
-quarter-pair-requires-2 : tie.Need-quarter-pair-requires-2
-quarter-pair-requires-2 c κs = tt
-
-count-ids-requires : tie.Need-count-ids-requires
-count-ids-requires c κs = tt
+leaf-ids-requires : tie.Need-leaf-ids-requires
+leaf-ids-requires c κs = tt
 
 count-points-requires : tie.Need-count-points-requires
 count-points-requires c κs = tt
 
 pad-requires : tie.Need-pad-requires
-pad-requires c κs = own-small (c .before .before .before .before .before .before .before .before .before .before)
+pad-requires c κs = own-small (c .before .before .before .before .before .before .before .before)
 
 alloc-requires : tie.Need-alloc-requires
-alloc-requires c κs = own-small (c .before .before .before .before .before .before .before .before .before .before .before .before .before)
+alloc-requires c κs = own-small (c .before .before .before .before .before .before .before .before .before .before .before)
 
 lay-ids-requires : tie.Need-lay-ids-requires
 lay-ids-requires c κs =
     let k = c .before in
     let b = bounded (start k) in
-    (counted k .before .count-ids .ensures, omega (arith, ids-count (counted k)), omega (arith, ids-end k))
+    (counted k .before .leaf-ids .ensures, omega (arith, ids-count (counted k)), omega (arith, ids-end k))
 
 lay-points-requires : tie.Need-lay-points-requires
 lay-points-requires c κs =
@@ -230,17 +216,17 @@ address-of-requires-3 c κs = data-small (c .before .before .before .before .bef
 put-sector-requires : tie.Need-put-sector-requires
 put-sector-requires c κs = tt
 
-add-t37 : tie.Need-add-t37
-add-t37 c = omega (arith, c .before .before .before .before .before .before .before .before .before .before .before .before .before .before .before .before .before .before .before .before .before .before .before .before .before .before .before .before .before .before .before .before .before .pre .0 .0)
+add-t35 : tie.Need-add-t35
+add-t35 c = omega (arith, c .before .before .before .before .before .before .before .before .before .before .before .before .before .before .before .before .before .before .before .before .before .before .before .before .before .before .before .before .before .before .before .pre .0 .0)
 
-cast-t38 : tie.Need-cast-t38
-cast-t38 c =
+cast-t36 : tie.Need-cast-t36
+cast-t36 c =
     let k = own (laidIds (c .before .before .before .before .before .before .before .before .before .before .before .before .before)) in
     let b = bounded (start k) in
     omega (arith, points-count (counted k))
 
-add-t39 : tie.Need-add-t39
-add-t39 c =
+add-t37 : tie.Need-add-t37
+add-t37 c =
     let k = own (laidIds (c .before .before .before .before .before .before .before .before .before .before .before .before .before)) in
     let b = bounded (start k) in
     omega (arith, points-count (counted k))
@@ -270,9 +256,7 @@ pub write-leaf-spec : {M : Type 1} → statement M
 write-leaf-spec =
     tie.close
     (tie.spec
-    quarter-pair-requires
-    quarter-pair-requires-2
-    count-ids-requires
+    leaf-ids-requires
     count-points-requires
     pad-requires
     alloc-requires
@@ -287,8 +271,8 @@ write-leaf-spec =
     lay-data-requires
     address-of-requires-3
     put-sector-requires
+    add-t35
+    cast-t36
     add-t37
-    cast-t38
-    add-t39
     same-length
     returns)

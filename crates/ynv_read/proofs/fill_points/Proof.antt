@@ -1,5 +1,5 @@
 -- `fill_points` meets its contract. The cell's box is what shorts are turned back in.
-use Rattle.ynv_read.proofs.Heads.{points-back}
+use Rattle.ynv_read.proofs.Heads.{back-is}
 use mathlib.Core.Path.{_∙_}
 use borrow.Author.Needs.{needs}
 use Rattle.ynv_read.proofs.fill_points.Statement.{statement}
@@ -10,7 +10,7 @@ put-tree-points-requires c κs = rw (c .before .root-address .ensures) (c .befor
 
 returns : tie.Need-returns
 returns c =
-    let back = points-back (c .before .before .before .before .before .before .before .before .before .before .before .args .system .now) (c .before .before .before .before .before .before .before .before .before .before .before .args .graphics .now) (c .before .before .before .before .before .before .before .frame-of .ensures) in
+    let back = back-is (c .before .before .before .before .before .before .before .before .before .before .before .args .system .now) (c .before .before .before .before .before .before .before .before .before .before .before .args .graphics .now) (c .before .before .before .before .before .before .before .frame-of .ensures) in
     (c .before .before .put-tree-points .ensures .0 ∙ rw (c .before .before .before .before .root-address .ensures), c .before .before .put-tree-points .ensures .1 ∙ rw (c .before .before .before .before .root-address .ensures, back))
 
 pub fill-points-spec : {M : Type 1} → statement M

@@ -1,5 +1,5 @@
 -- `fill_portals` meets its contract. The cell's box is what shorts are turned back in.
-use Rattle.ynv_read.proofs.Heads.{portals-back}
+use Rattle.ynv_read.proofs.Heads.{back-is}
 use Rattle.ynv_read.specs.Passes.{portalsWords}
 use mathlib.Core.Path.{_∙_}
 use borrow.Author.Needs.{needs}
@@ -12,7 +12,7 @@ put-portals-requires c κs = rw (c .before .before .portal-count .ensures .0, c 
 returns : tie.Need-returns
 unfolding portalsWords
 returns c =
-    let back = portals-back (c .before .before .before .before .before .before .before .before .before .before .before .before .args .system .now) (c .before .before .before .before .before .before .before .before .before .before .before .before .args .graphics .now) (c .before .before .before .before .before .before .before .before .frame-of .ensures) in
+    let back = back-is (c .before .before .before .before .before .before .before .before .before .before .before .before .args .system .now) (c .before .before .before .before .before .before .before .before .before .before .before .before .args .graphics .now) (c .before .before .before .before .before .before .before .before .frame-of .ensures) in
     (rw (c .before .before .before .before .before .portal-count .ensures .0), c .before .before .put-portals .ensures ∙ rw (c .before .before .before .before .before .portal-count .ensures .0, c .before .before .before .before .portals-of .ensures, back))
 
 pub fill-portals-spec : {M : Type 1} → statement M

@@ -1,44 +1,14 @@
 //! Compares the leaf functions with the Rust itself, and `check_strip` with the judge.
 //! Prints cases and differences per function; exits 1 if there is any difference.
 
-use std::fmt::Debug;
 use std::process::exit;
 
 use cases::cells::vec3;
 use cases::floats::{any, axis, on_axis, ODD};
 use cases::{damage, Rng};
+use compare::tally::Tally;
 use compare::{reference, under_test};
 use rage::math::Vec3;
-
-/// Differences shown per function.
-const SHOWN: u64 = 5;
-
-struct Tally {
-    name: &'static str,
-    cases: u64,
-    differences: u64,
-}
-
-impl Tally {
-    fn new(name: &'static str) -> Tally {
-        Tally { name, cases: 0, differences: 0 }
-    }
-
-    fn compare<I: Debug, O: PartialEq + Debug>(&mut self, input: I, ours: O, rust: O) {
-        self.cases += 1;
-        if ours != rust {
-            self.differences += 1;
-            if self.differences <= SHOWN {
-                println!("{}: {input:x?}: {ours:x?}, expected {rust:x?}", self.name);
-            }
-        }
-    }
-
-    fn done(self) -> u64 {
-        println!("{:<16} {:>9} cases {:>9} differences", self.name, self.cases, self.differences);
-        self.differences
-    }
-}
 
 fn bits(v: Vec3) -> [u32; 3] {
     [v.x.to_bits(), v.y.to_bits(), v.z.to_bits()]

@@ -1,14 +1,29 @@
-//! Calls the reader on a thread with a stack of 1 MB (or as many KB as the argument says)
-//! with the deepest trees: 4,096 sectors one below the other, and sectors that are their
-//! own sub. Prints what was answered; a stack too small ends the program.
+//! How many bytes of stack each call needs, the library's and the Rust's, and how many are
+//! lent to the one and taken from the heap by the other, a markdown table. The library's calls are then made on a thread with a stack of 1 MB (or as many KB
+//! as the argument says) and held to their answers; a stack too small ends the program. The
+//! reader has the deepest trees, 4,096 sectors one below the other, and sectors that are
+//! their own sub; both calls have cells of one sector and of 21, up to the largest.
 
 use std::env;
+use std::hint::black_box;
 use std::process::exit;
+use std::sync::atomic::Ordering;
 use std::thread::Builder;
 
 use cases::cells::empty_vehicle;
 use cases::pages::{self, Pages, SYSTEM};
-use compare::reading::{call, Read};
+use cases::timed::SIZES;
+use compare::heap::{self, Heap};
+use compare::reading::{self, Read};
+use compare::stacks;
+use compare::under_test::{parse, serialize};
+use compare::writing::{self, Write};
+use rage::resource::{container, NO_COPY};
+use rage::ynv::{parse_ynv, serialize_ynv, Ynv};
+use strips::{encode, laid_out};
+
+#[global_allocator]
+static HEAP: Heap = Heap;
 
 /// The empty vehicle cell, its root its own sub.
 fn own_sub(sub: usize) -> Pages {
@@ -29,20 +44,75 @@ fn chain_with_points(sectors: usize) -> Pages {
     pages
 }
 
+/// A call that is held to its answer, and the bare calls of both sides for their stack.
+struct Case {
+    name: String,
+    /// Bytes that ours is lent to write to.
+    lent: usize,
+    bare: Box<dyn FnMut() + Send>,
+    rust: Box<dyn FnMut() + Send>,
+    held: Box<dyn FnOnce() -> Result<u32, String> + Send>,
+}
+
+fn reading(name: &str, pages: Pages) -> Case {
+    let read = Read::of(&pages);
+    let length = read.lent(usize::MAX).map_or(15, |(words, _)| words.len());
+    let (system, graphics) = (pages.system.clone(), pages.graphics.clone());
+    let (mut strip, mut answer) = (vec![0; length], [0; 8]);
+    let bare = Box::new(move || {
+        parse(&system, &graphics, &mut strip, &mut answer);
+    });
+    let data = container(&pages.system, &pages.graphics);
+    let rust = Box::new(move || drop(black_box(parse_ynv(&data))));
+    let held = Box::new(move || reading::call(&pages, &read, length));
+    Case { name: format!("reading, {name}"), lent: 4 * length, bare, rust, held }
+}
+
+fn writing(name: &str, cell: Ynv) -> Case {
+    let strip = encode(&cell);
+    let words = strip.clone();
+    let room = laid_out(&cell).len();
+    let (mut work, mut pages, mut answer) = (vec![0; 4 * words.len()], vec![0; room], [0; 8]);
+    let bare = Box::new(move || {
+        serialize(&words, &mut work, &mut pages, &mut answer);
+    });
+    let rust = Box::new(move || {
+        NO_COPY.store(true, Ordering::Relaxed);
+        drop(black_box(serialize_ynv(&cell)));
+        NO_COPY.store(false, Ordering::Relaxed);
+    });
+    let (write, lent) = (Write::of(&strip), 16 * strip.len() + room);
+    let held = Box::new(move || writing::call(&strip, &write, 4 * strip.len(), room).map(|(number, _)| number));
+    Case { name: format!("writing, {name}"), lent, bare, rust, held }
+}
+
+fn cases() -> Vec<Case> {
+    let own_sub = |sub| reading(&format!("a sector that is its own sub {sub}"), own_sub(sub));
+    let mut out: Vec<Case> = (0..4).map(own_sub).collect();
+    out.push(reading("4,096 sectors one below the other, a point in each", chain_with_points(4096)));
+    out.push(reading("4,097 sectors one below the other", chain_with_points(4097)));
+    for size in SIZES {
+        out.push(reading(size.name, Pages::written(&(size.make)())));
+    }
+    for size in SIZES {
+        out.push(writing(size.name, (size.make)()));
+    }
+    out
+}
+
 fn main() {
     let size: usize = env::args().nth(1).map_or(1024, |text| text.parse().expect("a stack's size in KB"));
-    let mut cases: Vec<(String, Pages)> =
-        (0..4).map(|sub| (format!("a sector that is its own sub {sub}"), own_sub(sub))).collect();
-    cases.push(("4,096 sectors one below the other, a point in each".into(), chain_with_points(4096)));
-    cases.push(("4,097 sectors one below the other".into(), chain_with_points(4097)));
-    for (name, pages) in cases {
-        let read = Read::of(&pages);
-        let length = 15 + 4 * 4096;
-        let thread = Builder::new().stack_size(1024 * size).spawn(move || call(&pages, &read, length));
+    println!("Bytes. Ours also ran on a stack of {size} KB, with the answer that it must give.\n");
+    println!("| call | answer | stack, ours | stack, Rust | lent, ours | heap, Rust |");
+    println!("|---|---|---|---|---|---|");
+    for mut case in cases() {
+        let (ours, rust) = (stacks::needed(&mut *case.bare), stacks::needed(&mut *case.rust));
+        let (lent, taken) = (case.lent, heap::most(&mut *case.rust));
+        let (name, thread) = (case.name, Builder::new().stack_size(1024 * size).spawn(case.held));
         match thread.expect("a thread").join().expect("no panic") {
-            Ok(number) => println!("stack of {size} KB, {name}: ok, answers {number}"),
+            Ok(number) => println!("| {name} | {number} | {ours} | {rust} | {lent} | {taken} |"),
             Err(text) => {
-                println!("stack of {size} KB, {name}: DIFFERENT, {text}");
+                println!("{name}: stack of {size} KB: DIFFERENT, {text}");
                 exit(1);
             }
         }

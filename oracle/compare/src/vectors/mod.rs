@@ -1,7 +1,7 @@
 //! The lists of vectors that a program without Rust replays, in 32-bit little-endian words.
 //! The leaves' list has records `[tag, n_in, n_out, in.., out..]`, the last one
 //! `[0, 0, 0]`; one module per group of tags; `all` names them in the list's order. The
-//! reader's list has a form of its own: `reading`.
+//! reader's list and the writer's have forms of their own: `reading`, `writing`.
 
 mod areas;
 mod places;
@@ -9,6 +9,7 @@ mod quarters;
 pub mod reading;
 mod shorts;
 mod strip;
+pub mod writing;
 
 /// No list is longer.
 pub const MOST_BYTES: usize = 100_000;

@@ -27,7 +27,8 @@ pub struct Readings {
     pub counts: BTreeMap<u32, usize>,
 }
 
-fn padded(bytes: &[u8]) -> impl Iterator<Item = u32> + '_ {
+/// Bytes as words, the last one filled with zeros.
+pub fn padded(bytes: &[u8]) -> impl Iterator<Item = u32> + '_ {
     bytes.chunks(4).map(|c| c.iter().rev().fold(0, |w, &byte| w << 8 | byte as u32))
 }
 

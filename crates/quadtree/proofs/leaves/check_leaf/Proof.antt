@@ -5,52 +5,40 @@ use native.Mathlib.Omega.{arith}
 use lib.ListN.{length}
 use denote.Ref.{now}
 use Rattle.strip.specs.Cell.{Point}
-use Rattle.pages.specs.Sectors.{quarters, idsOf, grown, leafCounts}
-use Rattle.quadtree.specs.Work.{boxesIn, countIn, pickedFrom}
-use Rattle.quadtree.proofs.Picks.{ids-of, count-picked}
+use Rattle.pages.specs.Sectors.{grown, leafCounts}
+use Rattle.quadtree.specs.Work.{countIn, pickedFrom}
+use Rattle.quadtree.proofs.Picks.{count-picked}
 use Rattle.quadtree.proofs.Tellings.{tells-17, tells-18, tells-none}
 use Rattle.quadtree.proofs.leaves.check_leaf.Statement.{statement}
 use Rattle.quadtree.proofs.leaves.check_leaf.Tie as tie
 use Rattle.quadtree.proofs.leaves.check_leaf.Reads as reads
 use Rattle.quadtree.proofs.leaves.check_leaf.Lts as lts
-use Rattle.quadtree.proofs.leaves.count_ids.Reads as count-ids-reads
 use Rattle.quadtree.proofs.leaves.count_points.Reads as count-points-reads
-use Rattle.quadtree.proofs.leaves.quarter_pair.Reads as quarter-pair-reads
+use Rattle.quadtree.proofs.leaves.leaf_ids.Reads as leaf-ids-reads
 
 abbrev claims : lts.Claims
-claims = (quarter-pair-reads.Asked, quarter-pair-reads.Learnt, count-ids-reads.Asked, count-ids-reads.Learnt, count-points-reads.Asked, count-points-reads.Learnt)
+claims = (leaf-ids-reads.Asked, leaf-ids-reads.Learnt, count-points-reads.Asked, count-points-reads.Learnt)
 
 abbrev Begin : Type 0
 Begin = lts.Start claims reads.Pre reads.Post
 
 abbrev Ids : Type 0
-Ids = lts.After-count-ids claims reads.Pre reads.Post
+Ids = lts.After-leaf-ids claims reads.Pre reads.Post
 
 abbrev start : Ids → Begin
-start c = c .before .before .before .before .before
+start c = c .before .before .before
 
--- the two counts are the leaf's
-ids-count : (c : Ids) → c .count-ids .result ≡ length (idsOf (quarters (start c .args .b)) 0 (boxesIn (now (start c .args .boxes))))
-ids-count c =
-    c .count-ids .ensures
-    ∙ ap length (ids-of (start c .args .b) _ _ (c .before .before .quarter-pair .ensures .0) (c .before .quarter-pair2 .ensures .0) 0 (boxesIn (now (start c .args .boxes))))
-
+-- the points that are counted are the leaf's
 points-count : (s : Begin) (ts : List Point) → length ts ≡ length (now (s .args .leafs))
     → countIn (now (s .args .leafs)) (s .args .leaf) 0 (length (now (s .args .leafs))) ≡ length (pickedFrom (now (s .args .leafs)) (s .args .leaf) 0 ts)
 points-count s ts l = ap (countIn (now (s .args .leafs)) (s .args .leaf) 0) (sym l) ∙ count-picked (now (s .args .leafs)) (s .args .leaf) 0 ts
 
-quarter-pair-requires : tie.Need-quarter-pair-requires
-quarter-pair-requires c κs = tt
-
-quarter-pair-requires-2 : tie.Need-quarter-pair-requires-2
-quarter-pair-requires-2 c κs = tt
-
-count-ids-requires : tie.Need-count-ids-requires
-count-ids-requires c κs = tt
+leaf-ids-requires : tie.Need-leaf-ids-requires
+leaf-ids-requires c κs = tt
 
 returns : tie.Need-returns
 unfolding grown leafCounts
-returns c ts l = let s = start (c .before) in tells-17 _ _ (s .args .leaf) (omega (arith, ids-count (c .before), c .if1 .taken))
+returns c ts l = let s = start (c .before) in tells-17 _ _ (s .args .leaf) (omega (arith, c .before .leaf-ids .ensures, c .if1 .taken))
 
 count-points-requires : tie.Need-count-points-requires
 count-points-requires c κs = tt
@@ -60,22 +48,20 @@ unfolding grown leafCounts
 returns-2 c ts l =
     let k = c .before .before .before in
     let s = start k in
-    tells-18 _ _ (s .args .leaf) (omega (arith, ids-count k, c .before .before .if1 .left)) (omega (arith, points-count s ts l, c .before .count-points .ensures, c .if2 .taken))
+    tells-18 _ _ (s .args .leaf) (omega (arith, k .leaf-ids .ensures, c .before .before .if1 .left)) (omega (arith, points-count s ts l, c .before .count-points .ensures, c .if2 .taken))
 
 returns-3 : tie.Need-returns-3
 unfolding grown leafCounts
 returns-3 c ts l =
     let k = c .before .before .before in
     let s = start k in
-    tells-none _ _ (s .args .leaf) (omega (arith, ids-count k, c .before .before .if1 .left)) (omega (arith, points-count s ts l, c .before .count-points .ensures, c .if2 .left))
+    tells-none _ _ (s .args .leaf) (omega (arith, k .leaf-ids .ensures, c .before .before .if1 .left)) (omega (arith, points-count s ts l, c .before .count-points .ensures, c .if2 .left))
 
 pub check-leaf-spec : {M : Type 1} → statement M
 check-leaf-spec =
     tie.close
     (tie.spec
-    quarter-pair-requires
-    quarter-pair-requires-2
-    count-ids-requires
+    leaf-ids-requires
     returns
     count-points-requires
     returns-2

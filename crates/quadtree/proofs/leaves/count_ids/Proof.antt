@@ -36,6 +36,9 @@ meets-at-requires c κs = omega arith
 one-if-requires : tie.Need-one-if-requires Inv-loop μ-loop
 one-if-requires c κs = tt
 
+cast-n : tie.Need-cast-n Inv-loop μ-loop
+cast-n c = omega (arith, c .one-if .ensures, keep-one (c .before .meets-at .result))
+
 add-n : tie.Need-add-n Inv-loop μ-loop
 add-n c = omega (arith, c .one-if .ensures, keep-one (c .before .meets-at .result))
 
@@ -74,6 +77,7 @@ count-ids-spec =
     mul-meets-at
     meets-at-requires
     one-if-requires
+    cast-n
     add-n
     add-i
     loop-less

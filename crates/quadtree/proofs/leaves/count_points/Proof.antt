@@ -2,11 +2,10 @@
 use mathlib.Core.Path.{_≡_}
 use Prim.Native.Nat.{_+_, _-_, _≤_}
 use native.Mathlib.Omega.{arith}
-use lib.Dec.{eqb}
-use lib.ListN.{length, getD}
+use lib.ListN.{length}
 use denote.Ref.{now}
 use Rattle.quadtree.specs.Work.{countIn}
-use Rattle.quadtree.proofs.Picks.{keep-one, count-turn, count-end}
+use Rattle.quadtree.proofs.Picks.{count-next, count-few, count-end}
 use Rattle.quadtree.proofs.leaves.count_points.Statement.{statement}
 use Rattle.quadtree.proofs.leaves.count_points.Tie as tie
 
@@ -22,20 +21,20 @@ loop-holds c =
     let e : n - 0 ≡ n = omega arith in
     (omega arith, omega arith, rw e (omega arith))
 
-mul-one-if : tie.Need-mul-one-if Inv-loop μ-loop
-mul-one-if c = omega arith
+part-end-requires : tie.Need-part-end-requires Inv-loop μ-loop
+part-end-requires c κs = omega arith
 
-shared-slice-read-one-if : tie.Need-shared-slice-read-one-if Inv-loop μ-loop
-shared-slice-read-one-if c = omega arith
+count-part-requires : tie.Need-count-part-requires Inv-loop μ-loop
+count-part-requires c κs = (omega arith, omega arith, omega arith)
 
-one-if-requires : tie.Need-one-if-requires Inv-loop μ-loop
-one-if-requires c κs = tt
+cast-n : tie.Need-cast-n Inv-loop μ-loop
+cast-n c = omega arith
 
 add-n : tie.Need-add-n Inv-loop μ-loop
-add-n c = omega (arith, c .one-if .ensures, keep-one (eqb (getD (now (c .before .before .before .before .before .args .leafs)) (c .before .before .before .loop .i) 0) (c .before .before .before .before .before .args .k)))
-
-add-i : tie.Need-add-i Inv-loop μ-loop
-add-i c = omega arith
+add-n c =
+    let t = c .before .before .before in
+    let a = t .before .before .args in
+    omega (arith, c .count-part .ensures, count-few (now (a .leafs)) (a .k) (t .loop .i) (c .before .part-end .result - t .loop .i))
 
 loop-less : tie.Need-loop-less Inv-loop μ-loop
 loop-less c = omega arith
@@ -45,9 +44,10 @@ loop-again c =
     let t = c .before .before .before in
     let a = t .before .before .args in
     let w = now (a .leafs) in
-    let e = count-turn w (a .k) (t .loop .i) (length w) (omega arith) in
-    let k = keep-one (eqb (getD w (t .loop .i) 0) (a .k)) in
-    (omega arith, omega (arith, c .one-if .ensures), omega (arith, c .one-if .ensures))
+    let j = c .before .part-end .result in
+    let e = count-next w (a .k) (t .loop .i) j (length w) (omega arith) (omega arith) in
+    let m = count-few w (a .k) (t .loop .i) (j - t .loop .i) in
+    (omega arith, omega (arith, c .count-part .ensures), omega (arith, c .count-part .ensures))
 
 returns : tie.Need-returns Inv-loop μ-loop
 returns c =
@@ -63,11 +63,10 @@ count-points-spec =
     Inv-loop
     μ-loop
     loop-holds
-    mul-one-if
-    shared-slice-read-one-if
-    one-if-requires
+    part-end-requires
+    count-part-requires
+    cast-n
     add-n
-    add-i
     loop-less
     loop-again
     returns)

@@ -24,8 +24,8 @@ loop-holds : tie.Need-loop-holds Inv-loop μ-loop
 unfolding ofBits neg
 loop-holds c = swept-begin _ _ _ _ _ (c .before .new .ensures) (c .new2 .ensures)
 
-vertex-at-requires : tie.Need-vertex-at-requires Inv-loop μ-loop
-vertex-at-requires c κs =
+floats-at-requires : tie.Need-floats-at-requires Inv-loop μ-loop
+floats-at-requires c κs =
     let g = c .before .loop .inv in
     omega (arith, g .here, c .before .before .before .before .before .pre)
 
@@ -49,11 +49,11 @@ loop-less c = omega (arith, c .before .before .before .loop-test .taken)
 loop-again : tie.Need-loop-again Inv-loop μ-loop
 loop-again c =
     let at-test = c .before .before .before in
-    swept-turn _ _ _ _ _ _ _ (at-test .before .loop .inv) (c .before .before .vertex-at .result) _ _ (at-test .loop-test .taken) (c .before .before .vertex-at .ensures) (c .before .min .ensures) (c .max .ensures)
+    swept-turn _ _ _ _ _ _ _ (at-test .before .loop .inv) (c .before .before .floats-at .result) _ _ (at-test .loop-test .taken) (c .before .before .floats-at .ensures) (c .before .min .ensures) (c .max .ensures)
 
 returns : tie.Need-returns Inv-loop μ-loop
 returns c = swept-end _ _ _ _ _ _ _ (c .before .loop .inv) _ refl refl (c .loop-test .left)
 
 pub bounds-of-spec : {M : Type 1} → statement M
 bounds-of-spec =
-    tie.close (tie.spec Inv-loop μ-loop new-requires new-requires-2 loop-holds vertex-at-requires min-requires max-requires add-place add-i loop-less loop-again returns)
+    tie.close (tie.spec Inv-loop μ-loop new-requires new-requires-2 loop-holds floats-at-requires min-requires max-requires add-place add-i loop-less loop-again returns)

@@ -1,18 +1,17 @@
 -- `put_portals` meets its contract. Invariant: what is left of the portals, stored from here on, gives what is promised.
-use native.Mathlib.Numerals.{unary-clauses}
 use native.Mathlib.Omega.{arith}
 use mathlib.Core.Path.{_≡_, refl, sym, ap, _∙_}
 use mathlib.Core.List.{map}
 use Prim.Native.Nat.{ℕ, _+_, _-_, _*_, _≤_}
 use lib.ListN.{length, take, drop}
 use borrow.Author.Needs.{needs}
-use Rattle.fields.specs.Bytes.{put}
+use Rattle.fields.specs.Bytes.{put, cut}
 use Rattle.strip.specs.Cell.{each, portalWords}
-use Rattle.grammar.specs.Parts.{cut}
 use Rattle.grammar.specs.Derives.{portalOf}
 use Rattle.fields.proofs.Puts.{length-put}
 use Rattle.records.specs.Back.{backBy}
-use Rattle.records.proofs.Stores.{item-stored, items-stored, portal-length}
+use Rattle.records.proofs.Items.{put-begin, put-item, put-end}
+use Rattle.records.proofs.Stores.{portal-length}
 use Rattle.records.proofs.portal.put_portals.Statement.{statement}
 use Rattle.records.proofs.portal.put_portals.Tie as tie
 
@@ -27,7 +26,7 @@ abbrev μ-loop : tie.MeasureT-loop
 μ-loop portals n bb-min bb-size strip₀ at i₀ strip i = n - i
 
 loop-holds : tie.Need-loop-holds Inv-loop μ-loop
-loop-holds c = (search needs, refl, simp unary-clauses)
+loop-holds c = (search needs, refl, put-begin portalWords 11 portal-length _ _ _ _ _ _)
 
 put-portal-requires : tie.Need-put-portal-requires Inv-loop μ-loop
 put-portal-requires c κs = omega (arith, c .before .before .before .loop .inv .1)
@@ -39,13 +38,13 @@ loop-again c =
     let f = portalOf (backBy (c .before .before .before .before .before .before .before .before .before .args .bb-min) (c .before .before .before .before .before .before .before .before .before .args .bb-size)) in
     let e : 28 * i + 28 - 28 * i ≡ 28 = omega arith in
     let stored = c .before .before .put-portal .ensures ∙ ap (λ (k : ℕ). put (c .before .before .before .before .before .before .before .before .before .args .at + 11 * i) (portalWords (f (take k (drop (28 * i) bs)))) (c .before .before .before .before .before .before .loop .strip)) e in
-    (search needs, ap length stored ∙ length-put _ _ _ ∙ c .before .before .before .before .before .before .loop .inv .1, rw stored (item-stored portalWords f 28 11 portal-length (c .before .before .before .before .before .before .before .before .before .args .at) (c .before .before .before .before .before .before .before .before .before .args .n) i bs (c .before .before .before .before .before .before .loop .strip) (search needs) ∙ c .before .before .before .before .before .before .loop .inv .2))
+    (search needs, ap length stored ∙ length-put _ _ _ ∙ c .before .before .before .before .before .before .loop .inv .1, rw stored (put-item portalWords 11 portal-length f 28 (c .before .before .before .before .before .before .before .before .before .args .n) bs (c .before .before .before .before .before .before .before .before .before .args .at) i (c .before .before .before .before .before .before .loop .strip) (search needs) ∙ c .before .before .before .before .before .before .loop .inv .2))
 
 same-length : tie.Need-same-length Inv-loop μ-loop
 same-length c = c .before .loop .inv .1
 
 returns : tie.Need-returns Inv-loop μ-loop
-returns c = sym (items-stored portalWords _ 28 _ (c .before .before .before .before .args .n) (c .before .loop .i) _ (c .before .loop .strip) (search needs)) ∙ c .before .loop .inv .2
+returns c = sym (put-end portalWords 11 portal-length _ 28 (c .before .before .before .before .args .n) _ _ (c .before .loop .i) (c .before .loop .strip) (search needs)) ∙ c .before .loop .inv .2
 
 pub put-portals-spec : {M : Type 1} → statement M
 put-portals-spec =

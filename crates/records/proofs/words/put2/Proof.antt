@@ -1,7 +1,7 @@
 -- `put2` meets its contract. Two stores are one `put`.
 use native.Mathlib.Omega.{arith}
 use lib.ListN.{length-set}
-use Rattle.records.proofs.Stores.{put-two}
+use Rattle.fields.proofs.Puts.{put-two}
 use borrow.Author.Needs.{needs}
 use Rattle.records.proofs.words.put2.Statement.{statement}
 use Rattle.records.proofs.words.put2.Tie as tie

@@ -1,7 +1,7 @@
 -- `put3` meets its contract. Three stores are one `put`.
 use native.Mathlib.Omega.{arith}
 use lib.ListN.{length-set}
-use Rattle.records.proofs.Stores.{put-three}
+use Rattle.fields.proofs.Puts.{put-three}
 use borrow.Author.Needs.{needs}
 use Rattle.records.proofs.words.put3.Statement.{statement}
 use Rattle.records.proofs.words.put3.Tie as tie

@@ -1,0 +1,61 @@
+//! The C entries of libynv.a (include/ynv.h) and a safe call of each: the only unsafe code of the crate.
+//!
+//! A slice passes as a pointer and its length in elements, the answer as a pointer to its eight words. Each entry
+//! returns 0 or a refusal's number, and takes every content of what it is lent.
+
+pub type Answer = [u64; 8];
+
+extern "C" {
+    fn ynv_parse(
+        system: *const u8,
+        system_len: usize,
+        graphics: *const u8,
+        graphics_len: usize,
+        strip: *mut u32,
+        strip_len: usize,
+        answer: *mut u64,
+    ) -> u32;
+    fn ynv_serialize(
+        strip: *const u32,
+        strip_len: usize,
+        work: *mut u32,
+        work_len: usize,
+        pages: *mut u8,
+        pages_len: usize,
+        answer: *mut u64,
+    ) -> u32;
+    fn ynv_count_seams(strip: *const u32, strip_len: usize, answer: *mut u64) -> u32;
+    fn ynv_cell_for_position(x: f32, y: f32, answer: *mut u64) -> u32;
+    fn ynv_cell_bounds(cx: u32, cy: u32, answer: *mut u64) -> u32;
+}
+
+pub fn parse(system: &[u8], graphics: &[u8], strip: &mut [u32], answer: &mut Answer) -> u32 {
+    let (out, room) = (strip.as_mut_ptr(), strip.len());
+    // SAFETY: pointers and lengths are those of slices, non-null and aligned even where empty. What is written, strip
+    // and answer, is borrowed mutably, so it overlaps nothing and nobody else uses it until the call returns.
+    unsafe {
+        ynv_parse(system.as_ptr(), system.len(), graphics.as_ptr(), graphics.len(), out, room, answer.as_mut_ptr())
+    }
+}
+
+pub fn serialize(strip: &[u32], work: &mut [u32], pages: &mut [u8], answer: &mut Answer) -> u32 {
+    let (scratch, scratch_len) = (work.as_mut_ptr(), work.len());
+    let (out, room) = (pages.as_mut_ptr(), pages.len());
+    // SAFETY: as in `parse`; what is written is work, pages and answer, each borrowed mutably.
+    unsafe { ynv_serialize(strip.as_ptr(), strip.len(), scratch, scratch_len, out, room, answer.as_mut_ptr()) }
+}
+
+pub fn count_seams(strip: &[u32], answer: &mut Answer) -> u32 {
+    // SAFETY: as in `parse`; only the answer is written.
+    unsafe { ynv_count_seams(strip.as_ptr(), strip.len(), answer.as_mut_ptr()) }
+}
+
+pub fn cell_for_position(x: f32, y: f32, answer: &mut Answer) -> u32 {
+    // SAFETY: the answer is borrowed mutably and has eight words; every float is taken.
+    unsafe { ynv_cell_for_position(x, y, answer.as_mut_ptr()) }
+}
+
+pub fn cell_bounds(cx: u32, cy: u32, answer: &mut Answer) -> u32 {
+    // SAFETY: the answer is borrowed mutably and has eight words; every number is taken.
+    unsafe { ynv_cell_bounds(cx, cy, answer.as_mut_ptr()) }
+}

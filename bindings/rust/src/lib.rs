@@ -1,0 +1,237 @@
+//! Navmesh cells: unpacked pages of a `.ynv` to strips, and strips to pages.
+//!
+//! Safe calls over libynv.a, each function of which is proved against the scope document: it takes every input, ends,
+//! and keeps its promise (docs/PROMISES.md of the repository). A call either accepts or answers a [`Refusal`].
+//!
+//! A strip is a cell as 32-bit words, one record after the other; include/ynv.h of the repository has its layout. This
+//! one is a vehicle's cell without a polygon, so it has the cell's record and the end only:
+//!
+//! ```
+//! let mut strip = vec![0; 15];
+//! strip[0] = 1 << 28; // kind 1, the cell
+//! strip[1] = 4; // content flags: a vehicle
+//! strip[2] = 10_000; // area id
+//! strip[14] = 5 << 28; // kind 5, the end
+//!
+//! let pages = ynv::serialize(&strip)?;
+//! assert_eq!(pages.len(), 688);
+//!
+//! let (again, counts) = ynv::parse(&pages, &[])?;
+//! assert_eq!(again, strip);
+//! assert_eq!((counts.polys, counts.sectors), (0, 1));
+//! # Ok::<(), ynv::Refusal>(())
+//! ```
+//!
+//! [`parse`] and [`serialize`] make the memory that they need; [`parse_into`] and [`serialize_into`] use the caller's
+//! and allocate nothing. A call uses less than 1 MB of stack.
+
+#![deny(missing_docs, unsafe_code)]
+
+#[allow(unsafe_code)]
+mod ffi;
+mod refusal;
+
+pub use refusal::Refusal;
+
+use ffi::Answer;
+use refusal::TOO_SHORT;
+
+/// Words that any strip takes which is read from pages that [`serialize`] wrote: 16,383 polygons, 67,582 vertices and
+/// edges, 8,192 links, 585 portals and 32,768 points make so many.
+pub const MOST_WORDS: usize = 819_484;
+
+/// Bytes that any written cell takes: at most 200 blocks, and a block moves the end by at most 32,768.
+pub const MOST_BYTES: usize = 200 * 32_768;
+
+/// How much a cell that was read has.
+#[derive(Debug, Clone, Copy, PartialEq, Eq)]
+pub struct Counts {
+    /// Words of the strip.
+    pub words: usize,
+    /// Polygons.
+    pub polys: usize,
+    /// Portals.
+    pub portals: usize,
+    /// Points.
+    pub points: usize,
+    /// Sectors visited; one that is reached twice counts twice.
+    pub sectors: usize,
+}
+
+/// The answer of an accepted call, or the refusal with its place.
+fn accepted(number: u32, answer: Answer) -> Result<Answer, Refusal> {
+    match number {
+        0 => Ok(answer),
+        number => Err(Refusal { number, place: answer[0] }),
+    }
+}
+
+/// Reads a cell's pages, system and graphics section, into a new strip.
+///
+/// It lends [`strip_words`], which is enough for pages that [`serialize`] wrote. Pages from elsewhere may hold a longer
+/// cell, since polygons may share what they name: then it asks again with [`MOST_WORDS`], and a strip that is longer
+/// still is refused with 2. [`parse_into`] has no such limit.
+///
+/// ```
+/// let refusal = ynv::parse(b"no pages", &[]).unwrap_err();
+/// assert_eq!(refusal.number, 30);
+/// assert_eq!(refusal.to_string(), "refused 30: The pages have no whole header.");
+/// ```
+pub fn parse(system: &[u8], graphics: &[u8]) -> Result<(Vec<u32>, Counts), Refusal> {
+    let words = strip_words(system, graphics);
+    match parse_lending(words, system, graphics) {
+        Err(refusal) if refusal.number == TOO_SHORT && words < MOST_WORDS => {
+            parse_lending(MOST_WORDS, system, graphics)
+        }
+        answer => answer,
+    }
+}
+
+fn parse_lending(words: usize, system: &[u8], graphics: &[u8]) -> Result<(Vec<u32>, Counts), Refusal> {
+    let mut strip = vec![0; words];
+    let counts = parse_into(system, graphics, &mut strip)?;
+    strip.truncate(counts.words);
+    strip.shrink_to_fit();
+    Ok((strip, counts))
+}
+
+/// Reads a cell's pages into the lent strip, whose first `words` words are the cell then; the others stay as they were,
+/// and a refusal changes none.
+///
+/// ```
+/// # let mut strip = vec![0; 15];
+/// # (strip[0], strip[1], strip[14]) = (1 << 28, 4, 5 << 28);
+/// # let pages = ynv::serialize(&strip)?;
+/// let mut lent = [7; 20];
+/// let counts = ynv::parse_into(&pages, &[], &mut lent)?;
+/// assert_eq!(lent[..counts.words], strip);
+/// assert_eq!(lent[counts.words..], [7; 5]);
+///
+/// let too_short = ynv::parse_into(&pages, &[], &mut lent[..14]).unwrap_err();
+/// assert_eq!(too_short.number, 2);
+/// # Ok::<(), ynv::Refusal>(())
+/// ```
+pub fn parse_into(system: &[u8], graphics: &[u8], strip: &mut [u32]) -> Result<Counts, Refusal> {
+    let mut answer = [0; 8];
+    let number = ffi::parse(system, graphics, strip, &mut answer);
+    let [words, polys, portals, points, sectors, ..] = accepted(number, answer)?.map(|count| count as usize);
+    Ok(Counts { words, polys, portals, points, sectors })
+}
+
+/// Writes a strip's cell as pages, a system section.
+///
+/// It lends [`work_words`] and [`pages_bytes`], so it is refused neither with 1 nor with 2.
+///
+/// ```
+/// let refusal = ynv::serialize(&[1 << 28]).unwrap_err();
+/// assert_eq!((refusal.number, refusal.place), (3, 1)); // the cell's record ends early
+/// ```
+pub fn serialize(strip: &[u32]) -> Result<Vec<u8>, Refusal> {
+    let mut work = vec![0; work_words(strip)];
+    let mut pages = vec![0; pages_bytes(strip)];
+    let length = serialize_into(strip, &mut work, &mut pages)?;
+    pages.truncate(length);
+    pages.shrink_to_fit();
+    Ok(pages)
+}
+
+/// Writes a strip's cell into the lent pages and returns how many bytes it takes; the others stay as they were, and a
+/// refusal changes none. Work may hold anything, before and after.
+///
+/// ```
+/// # let mut strip = vec![0; 15];
+/// # (strip[0], strip[1], strip[14]) = (1 << 28, 4, 5 << 28);
+/// let mut work = vec![0; ynv::work_words(&strip)];
+/// let mut pages = [0; 1000];
+/// assert_eq!(ynv::serialize_into(&strip, &mut work, &mut pages)?, 688);
+///
+/// let refused = |work: &mut [u32], pages: &mut [u8]| ynv::serialize_into(&strip, work, pages).unwrap_err().number;
+/// assert_eq!(refused(&mut work[1..], &mut pages), 1);
+/// assert_eq!(refused(&mut work, &mut pages[..687]), 2);
+/// # Ok::<(), ynv::Refusal>(())
+/// ```
+pub fn serialize_into(strip: &[u32], work: &mut [u32], pages: &mut [u8]) -> Result<usize, Refusal> {
+    let mut answer = [0; 8];
+    let number = ffi::serialize(strip, work, pages, &mut answer);
+    Ok(accepted(number, answer)?[0] as usize)
+}
+
+/// Counts the seams of a strip: halves of its edges, surplus ones too, whose area differs from the cell's by 1 or 100.
+///
+/// ```
+/// // Cell 4040 with a triangle that has one edge: half a names cell 4041, half b the cell itself.
+/// let triangle = [2 << 28 | 1 << 12 | 3, 0, 0, 0];
+/// let edge = [4041, 0, 0, 4040, 0, 0];
+/// let mut strip = vec![0; 14];
+/// (strip[0], strip[2]) = (1 << 28, 4040);
+/// strip.extend(triangle);
+/// strip.extend([0; 9]); // its vertices
+/// strip.extend(edge);
+/// strip.push(5 << 28);
+/// assert_eq!(ynv::count_seams(&strip)?, 1);
+/// # Ok::<(), ynv::Refusal>(())
+/// ```
+pub fn count_seams(strip: &[u32]) -> Result<u64, Refusal> {
+    let mut answer = [0; 8];
+    let number = ffi::count_seams(strip, &mut answer);
+    Ok(accepted(number, answer)?[0])
+}
+
+/// The cell (x, y) of the map's grid in which a position lies: 100 by 100 cells of 150 from -6000. A position outside
+/// the map gives the nearest cell, a NaN coordinate 0.
+///
+/// ```
+/// assert_eq!(ynv::cell_for_position(-1500.0, 2000.0), (30, 53));
+/// assert_eq!(ynv::cell_for_position(f32::INFINITY, f32::NAN), (99, 0));
+/// ```
+pub fn cell_for_position(x: f32, y: f32) -> (u32, u32) {
+    let mut answer = [0; 8];
+    // This call refuses nothing.
+    ffi::cell_for_position(x, y, &mut answer);
+    (answer[0] as u32, answer[1] as u32)
+}
+
+/// The bounds of a cell of the grid: min x, min y, max x, max y. 5 refuses a coordinate above 99.
+///
+/// ```
+/// assert_eq!(ynv::cell_bounds(30, 53)?, (-1500.0, 1950.0, -1350.0, 2100.0));
+/// assert_eq!(ynv::cell_bounds(0, 100).unwrap_err().number, 5);
+/// # Ok::<(), ynv::Refusal>(())
+/// ```
+pub fn cell_bounds(cx: u32, cy: u32) -> Result<(f32, f32, f32, f32), Refusal> {
+    let mut answer = [0; 8];
+    let number = ffi::cell_bounds(cx, cy, &mut answer);
+    let [x0, y0, x1, y1, ..] = accepted(number, answer)?.map(|bits| f32::from_bits(bits as u32));
+    Ok((x0, y0, x1, y1))
+}
+
+/// Words of strip to lend for pages that [`serialize`] wrote: one for each byte, since every record takes at least as
+/// many bytes in pages as words in a strip; at most [`MOST_WORDS`].
+///
+/// ```
+/// assert_eq!(ynv::strip_words(&[0; 688], &[]), 688);
+/// ```
+pub fn strip_words(system: &[u8], graphics: &[u8]) -> usize {
+    system.len().saturating_add(graphics.len()).min(MOST_WORDS)
+}
+
+/// Words of work to lend for a strip: four for each of its words.
+///
+/// ```
+/// assert_eq!(ynv::work_words(&[0; 15]), 60);
+/// ```
+pub fn work_words(strip: &[u32]) -> usize {
+    4 * strip.len()
+}
+
+/// Bytes of pages to lend for a strip, from its length alone: 20 for each word and 8,192, at most [`MOST_BYTES`].
+///
+/// The dearest words are a triangle's, 128 bytes to 13 words; list headers, sectors, tables and alignment take less
+/// than 4,096 bytes more; and skipping to the next page at most doubles the whole.
+///
+/// ```
+/// assert_eq!(ynv::pages_bytes(&[0; 15]), 8_492);
+/// ```
+pub fn pages_bytes(strip: &[u32]) -> usize {
+    strip.len().saturating_mul(20).saturating_add(8_192).min(MOST_BYTES)
+}

@@ -1,0 +1,125 @@
+//! The crate's calls on the sample cell, on large cells, and on input that they refuse.
+
+use ynv::{count_seams, parse, parse_into, serialize, serialize_into, Refusal};
+
+/// P12's vehicle: 688 bytes of pages.
+const SAMPLE: &[u8] = include_bytes!("../../../crates/cellsum/stdin");
+
+/// A map cell's record: area 4040 in a box from 0 to 150.
+fn cell() -> Vec<u32> {
+    let mut words = vec![1 << 28, 1, 4040, 0, 0];
+    words.extend([0f32, 0.0, 0.0, 150.0, 150.0, 150.0, 150.0, 150.0, 150.0].map(f32::to_bits));
+    words
+}
+
+/// A polygon without links or edges, of corners that no other of a cell's first 65,536 shares. Every other one lies at
+/// the far end of the box, so that the polygon touches every leaf.
+fn polygon(number: usize, corners: usize) -> Vec<u32> {
+    let mut words = vec![2 << 28 | corners as u32, 0, 0, 0];
+    for corner in (number * corners..).take(corners) {
+        let side = if corner % 2 == 0 { 0.0 } else { 150.0 };
+        let height = (corner % 65_536) as f32 * 150.0 / 65_535.0;
+        words.extend([side, side, height].map(f32::to_bits));
+    }
+    words
+}
+
+fn strip(polygons: usize, corners: usize) -> Vec<u32> {
+    let mut words = cell();
+    (0..polygons).for_each(|number| words.extend(polygon(number, corners)));
+    words.push(5 << 28);
+    words
+}
+
+fn refusal(number: u32, place: u64) -> Refusal {
+    Refusal { number, place }
+}
+
+#[test]
+fn the_sample_there_and_back() {
+    let (strip, counts) = parse(SAMPLE, &[]).unwrap();
+    assert_eq!((strip.len(), counts.words, counts.sectors), (15, 15, 1));
+    assert_eq!((counts.polys, counts.portals, counts.points), (0, 0, 0));
+    assert_eq!(strip[2], 10_000);
+    assert_eq!(serialize(&strip).unwrap(), SAMPLE);
+}
+
+#[test]
+fn lent_memory_is_enough() {
+    // 8,192 polygons are the most that a leaf takes, and 67,582 corners the most that a cell takes.
+    for (polygons, corners) in [(0, 3), (1, 3), (341, 3), (342, 3), (8192, 3), (8192, 8), (33, 2047)] {
+        let written = strip(polygons, corners);
+        let pages = serialize(&written).unwrap();
+        let (read, counts) = parse(&pages, &[]).unwrap();
+        assert_eq!((counts.polys, counts.words), (polygons, read.len()));
+        assert_eq!(read.len(), written.len() + 6 * polygons * corners, "as many edges as vertices");
+        assert!(read.len() <= ynv::strip_words(&pages, &[]));
+        assert!(pages.len() <= ynv::pages_bytes(&written));
+        // A quarter box may move when a corner has become its short, but then no byte moves any more.
+        let again = serialize(&read).unwrap();
+        assert_eq!(again.len(), pages.len());
+        assert!(serialize(&parse(&again, &[]).unwrap().0).unwrap() == again);
+    }
+}
+
+/// Pages of one polygon, with the list of polygons naming its one part so many times.
+fn repeated(times: u32) -> Vec<u8> {
+    let mut pages = serialize(&strip(1, 2047)).unwrap();
+    let word = |pages: &[u8], at: usize| u32::from_le_bytes(pages[at..at + 4].try_into().unwrap());
+    let offset = |pages: &[u8], at: usize| (word(pages, at) - 0x5000_0000) as usize;
+    let list = offset(&pages, 0x118);
+    let table = offset(&pages, list + 0x10);
+    let entry = pages[table..table + 16].to_vec();
+    let moved = pages.len() as u32 + 0x5000_0000;
+    pages.extend(entry.repeat(times as usize));
+    for (at, value) in [(list + 8, times), (list + 0x10, moved), (list + 0x20, times)] {
+        pages[at..at + 4].copy_from_slice(&value.to_le_bytes());
+    }
+    pages
+}
+
+#[test]
+fn a_cell_with_more_words_than_bytes() {
+    let polygon = 4 + 9 * 2047;
+    let pages = repeated(40);
+    let (strip, counts) = parse(&pages, &[]).unwrap();
+    assert_eq!((strip.len(), counts.polys), (15 + 40 * polygon, 40));
+    assert!(strip.len() > pages.len());
+
+    let pages = repeated(50);
+    assert_eq!(parse(&pages, &[]), Err(refusal(2, 0)));
+    let mut lent = vec![0; 15 + 50 * polygon];
+    assert_eq!(parse_into(&pages, &[], &mut lent).unwrap().words, lent.len());
+}
+
+#[test]
+fn refusals_change_nothing() {
+    let mut lent = [7; 15];
+    assert_eq!(parse_into(&SAMPLE[..687], &[], &mut lent), Err(refusal(34, 0)));
+    assert_eq!(parse_into(SAMPLE, &[], &mut lent[..14]), Err(refusal(2, 0)));
+    assert_eq!(lent, [7; 15]);
+
+    let strip = strip(3, 3);
+    let (mut work, mut pages) = (vec![0; ynv::work_words(&strip)], vec![7; ynv::pages_bytes(&strip)]);
+    assert_eq!(serialize_into(&strip, &mut work[1..], &mut pages), Err(refusal(1, 0)));
+    assert_eq!(serialize_into(&strip, &mut work, &mut pages[..100]), Err(refusal(2, 0)));
+    assert!(pages.iter().all(|&byte| byte == 7));
+}
+
+#[test]
+fn refusals_name_their_place() {
+    let mut two_corners = cell();
+    two_corners.extend([polygon(0, 3), polygon(1, 2), vec![5 << 28]].concat());
+    assert_eq!(serialize(&two_corners), Err(refusal(12, 1)));
+
+    let mut no_end = strip(2, 3);
+    no_end.pop();
+    assert_eq!(serialize(&no_end), Err(refusal(3, no_end.len() as u64)));
+    assert_eq!(count_seams(&no_end), Err(refusal(3, no_end.len() as u64)));
+    assert_eq!(count_seams(&[]), Err(refusal(3, 0)));
+
+    // The list of indices lies where there are no bytes.
+    let mut lost = SAMPLE.to_vec();
+    lost[0x80..0x84].copy_from_slice(&0x5FFF_FFFFu32.to_le_bytes());
+    assert_eq!(parse(&lost, &[]), Err(refusal(35, 2)));
+}

@@ -1,0 +1,4 @@
+pub mod Cut
+pub mod Sides
+pub mod Refusals
+pub mod Examples

@@ -1,0 +1,68 @@
+-- The sides of the grid's cells: each is 150 * c - 6000 exactly, since no step rounds, a cell ends where the next one begins, and the cell
+-- at a low side is that side's. One test over the hundred coordinates.
+use Prim.Native.Nat.{ℕ, zero, suc, _+_, _*_, _<_}
+use mathlib.Core.Path.{_≡_, refl, subst, sym}
+use mathlib.Core.Bool.{Bool, true, false, _&&_}
+use mathlib.Core.Logic.{⊎-elim}
+use native.Mathlib.Omega.{arith}
+use native.Mathlib.Nat.{eq-or-lt-of-le}
+use lib.Dec.{eqb}
+use lib.Ieee.{Float, nan, inf, fin, up, down, add, sub, mul, div, ofInt}
+use borrow.Author.Tests.{eqb-true}
+use Rattle.strip.proofs.Judged.{both}
+use Rattle.cell_grid.specs.Grid.{inGrid, coordinate, lowSide, highSide}
+
+-- x is 150 * c - 6000
+abbrev pub IsSide : Float → ℕ → Type 0
+IsSide nan c = ⊥
+IsSide (inf s) c = ⊥
+IsSide (fin true m e) c = m * up e + 150 * c * down e ≡ 6000 * down e
+IsSide (fin false m e) c = m * up e + 6000 * down e ≡ 150 * c * down e
+
+isSide : Float → ℕ → Bool
+isSide nan c = false
+isSide (inf s) c = false
+isSide (fin true m e) c = eqb (m * up e + 150 * c * down e) (6000 * down e)
+isSide (fin false m e) c = eqb (m * up e + 6000 * down e) (150 * c * down e)
+
+is-side : (x : Float) (c : ℕ) → isSide x c ≡ true → IsSide x c
+unfolding isSide
+is-side nan c h = let z : _≡_ {A = ℕ} 0 1 = cc in absurd (omega arith)
+is-side (inf s) c h = let z : _≡_ {A = ℕ} 0 1 = cc in absurd (omega arith)
+is-side (fin true m e) c h = eqb-true _ _ h
+is-side (fin false m e) c h = eqb-true _ _ h
+
+pub record Sides (c : ℕ) : Type 0 where
+  pub low : IsSide (lowSide c) c
+  pub high : IsSide (highSide c) (suc c)
+  pub own : coordinate (lowSide c) ≡ c
+
+test : ℕ → Bool
+unfolding isSide
+test c = isSide (lowSide c) c && (isSide (highSide c) (suc c) && eqb (coordinate (lowSide c)) c)
+
+tested : (c : ℕ) → test c ≡ true → Sides c
+unfolding test
+tested c h =
+    let a = both (isSide (lowSide c) c) _ h in
+    let b = both (isSide (highSide c) (suc c)) _ (a .1) in
+    record { low = is-side (lowSide c) c (a .0); high = is-side (highSide c) (suc c) (b .0); own = eqb-true _ _ (b .1) }
+
+-- a test passes below a bound
+passes : (ℕ → Bool) → ℕ → Bool
+passes f zero = true
+passes f (suc n) = f n && passes f n
+
+passed : (f : ℕ → Bool) (n : ℕ) → passes f n ≡ true → (c : ℕ) → c < n → f c ≡ true
+unfolding passes
+passed f zero h c k = absurd (omega arith)
+passed f (suc n) h c k =
+    let b = both (f n) (passes f n) h in
+    ⊎-elim (λ (e : c ≡ n). subst (λ (x : ℕ). f x ≡ true) (sym e) (b .0)) (λ (l : c < n). passed f n (b .1) c l) (eq-or-lt-of-le (omega arith))
+
+all-pass : passes test 100 ≡ true
+unfolding passes test isSide lowSide highSide coordinate inGrid add sub mul div ofInt
+all-pass = refl
+
+pub sides : (c : ℕ) → c < 100 → Sides c
+sides c h = tested c (passed test 100 all-pass c h)

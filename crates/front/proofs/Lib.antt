@@ -1,0 +1,6 @@
+pub mod Records
+pub mod Optional
+pub mod Turns
+pub mod Behind
+pub mod Cells
+pub mod Planned

@@ -1,0 +1,150 @@
+// How long the pages are, from counts alone: by it an output is known to be too short before a byte is stored.
+ghost use mathlib.Core.Path.{_≡_};
+ghost use mathlib.Core.List.{[], _∷_};
+ghost use Prim.Native.Nat.{_+_, _*_, _/_, _%_, _^_, _≤_, _<_};
+ghost use lib.ListN.{length};
+ghost use Rattle.pages.specs.Optional.{sizeOf};
+ghost use Rattle.pages.specs.Sectors.{depthBy, byteCount};
+ghost use Rattle.pages.specs.Pages.{sectors, pages};
+ghost use Rattle.plan.specs.Ready.{cellAt, Ready};
+ghost use Rattle.front.specs.Ends.{sum, reached, Within, leafSizes, sizesBy, listsEnd, pagesEnd};
+use blocks::Layout;
+use decide::Decision;
+use quantise::bounds::Aabb;
+
+// The end of the blocks so far, and the bytes in them.
+pub struct Reach {
+    pub at: usize,
+    pub bytes: u32,
+}
+
+// Behind one more block.
+fn next(r: Reach, size: usize) -> Reach
+    requires { ⌜ Within r (size ∷ []) ⌝ }
+    ensures { λ q. ⌜ q ≡ reached r (size ∷ []) ⌝ }
+{
+    let l = Layout { at: r.at };
+    let end = l.alloc(size);
+    Reach {
+        at: end.at,
+        bytes: r.bytes + size as u32,
+    }
+}
+
+// Behind a block that stands only where there is something.
+fn next_some(r: Reach, size: usize) -> Reach
+    requires { ⌜ Within r (sizeOf size) ⌝ }
+    ensures { λ q. ⌜ q ≡ reached r (sizeOf size) ⌝ }
+{
+    if size == 0 {
+        return r;
+    }
+    next(r, size)
+}
+
+// Behind a leaf's blocks: its sector, ids, points and data.
+fn leaf_end(r: Reach, ids: usize, points: usize) -> Reach
+    requires { ⌜ Within r (leafSizes ids points) ⌝ }
+    ensures { λ q. ⌜ q ≡ reached r (leafSizes ids points) ⌝ }
+{
+    let sector = next(r, 96);
+    let behind_ids = next_some(sector, 2 * ids);
+    let behind_points = next_some(behind_ids, 8 * points);
+    next(behind_points, 32)
+}
+
+// The layout behind the four lists.
+fn lists_end(vertices: usize, corners: usize, polys: usize) -> Layout
+    requires { ⌜ (vertices ≤ 65536) × (corners ≤ 67582) × (polys ≤ 16383) × (listsEnd vertices corners polys < 2 ^ 28) ⌝ }
+    ensures { λ r. ⌜ r .at ≡ listsEnd vertices corners polys ⌝ }
+{
+    let header = Layout::new().alloc(368);
+    let behind_vertices = blocks::list_end(header, 6, vertices);
+    let behind_indices = blocks::list_end(behind_vertices, 2, corners);
+    let behind_edges = blocks::list_end(behind_indices, 8, corners);
+    blocks::list_end(behind_edges, 48, polys)
+}
+
+// Behind the blocks of the leaf with this box and this number, by the words of quarter boxes and of points' leaves.
+fn leaf_by<'a>(r: Reach, b: Aabb, leaf: u32, boxes: &'a [u32], leafs: &'a [u32]) -> Reach
+    requires { ⌜ Within r (sizesBy (now boxes) (now leafs) 0 leaf b) ⌝ }
+    ensures { λ q. ⌜ q ≡ reached r (sizesBy (now (boxes .entry)) (now (leafs .entry)) 0 leaf b) ⌝ }
+{
+    let ids = quadtree::leaves::leaf_ids(boxes, b);
+    let points = quadtree::leaves::count_points(leafs, leaf);
+    leaf_end(r, ids, points)
+}
+
+// The same of a box and all below it, `depth` splits down, with `width` leaves, numbered from `leaf` on.
+fn tree_end<'a>(
+    r: Reach,
+    b: Aabb,
+    depth: u32,
+    width: u32,
+    leaf: u32,
+    boxes: &'a [u32],
+    leafs: &'a [u32],
+) -> Reach
+    requires { ⌜ (width ≡ 4 ^ depth) × (leaf + 4 ^ depth < 2 ^ 32) × Within r (sizesBy (now boxes) (now leafs) depth leaf b) ⌝ }
+    ensures { λ q. ⌜ q ≡ reached r (sizesBy (now (boxes .entry)) (now (leafs .entry)) depth leaf b) ⌝ }
+{
+    if depth == 0 {
+        return leaf_by(r, b, leaf, boxes, leafs);
+    }
+    let d = depth - 1;
+    let w = width / 4;
+    let subs = quadtree::boxes::split(b);
+    let r0 = next(r, 96);
+    let r1 = tree_end(r0, subs.s0, d, w, leaf, boxes, leafs);
+    let r2 = tree_end(r1, subs.s1, d, w, leaf + w, boxes, leafs);
+    let r3 = tree_end(r2, subs.s2, d, w, leaf + 2 * w, boxes, leafs);
+    tree_end(r3, subs.s3, d, w, leaf + 3 * w, boxes, leafs)
+}
+
+// Behind a cell's sectors.
+fn sectors_end<'a>(r: Reach, content: u32, b: Aabb, boxes: &'a [u32], leafs: &'a [u32]) -> Reach
+    requires { ⌜ Within r (sizesBy (now boxes) (now leafs) (depthBy (content / 2 ^ 2 % 2)) 0 b) ⌝ }
+    ensures { λ q. ⌜ q ≡ reached r (sizesBy (now (boxes .entry)) (now (leafs .entry)) (depthBy (content / 2 ^ 2 % 2)) 0 b) ⌝ }
+{
+    if content / 4 % 2 == 0 {
+        return tree_end(r, b, 2, 16, 0, boxes, leafs);
+    }
+    tree_end(r, b, 0, 1, 0, boxes, leafs)
+}
+
+// The end behind all blocks, and the bytes in the sectors' blocks: by the counts of the writer's first pass, the cell's content flags and box, and the
+// words behind its tables.
+fn blocks_end<'a>(d: Decision, content: u32, b: Aabb, boxes: &'a [u32], leafs: &'a [u32]) -> Reach
+    requires { ⌜ (d .vertices ≤ 65536) × (d .corners ≤ 67582) × (d .counts .polys ≤ 16383)
+        × (pagesEnd (d .vertices) (d .corners) (d .counts .polys) (d .counts .portals) (d .links) (sizesBy (now boxes) (now leafs) (depthBy (content / 2 ^ 2 % 2)) 0 b) < 2 ^ 28) ⌝ }
+    ensures { λ r. ⌜ r .at ≡ pagesEnd (d .vertices) (d .corners) (d .counts .polys) (d .counts .portals) (d .links) (sizesBy (now (boxes .entry)) (now (leafs .entry)) (depthBy (content / 2 ^ 2 % 2)) 0 b) ⌝ }
+    ensures { λ r. ⌜ r .bytes ≡ sum (sizesBy (now (boxes .entry)) (now (leafs .entry)) (depthBy (content / 2 ^ 2 % 2)) 0 b) ⌝ }
+{
+    let counts = d.counts;
+    let lists = lists_end(d.vertices, d.corners, counts.polys);
+    let start = Reach {
+        at: lists.at,
+        bytes: 0,
+    };
+    let sectors = sectors_end(start, content, b, boxes, leafs);
+    let portals = next_some(sectors, 28 * counts.portals);
+    let links = next_some(portals, 2 * d.links);
+    Reach {
+        at: links.at,
+        bytes: sectors.bytes,
+    }
+}
+
+// The length of the pages of a planned strip, and the bytes of its sectors, leaves, ids and points, which count for the header's total.
+pub fn pages_end(strip: &[u32], d: Decision, work: &[u32]) -> Reach
+    requires { ⌜ Ready (now strip) (now work) d ⌝ }
+    ensures { λ r. ⌜ r .at ≡ length (pages (cellAt (now (strip .entry)) (d .counts))) ⌝ }
+    ensures { λ r. ⌜ r .bytes ≡ byteCount (sectors (cellAt (now (strip .entry)) (d .counts))) ⌝ }
+{
+    let counts = d.counts;
+    let at = decide::tables_end(strip);
+    let mid = at + 3 * counts.polys;
+    let end = mid + counts.points;
+    let b = plan::root_box(strip);
+    blocks_end(d, strip[1], b, &work[at..mid], &work[mid..end])
+}

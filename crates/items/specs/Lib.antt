@@ -1,0 +1,3 @@
+pub mod Words
+pub mod Made
+pub mod Records

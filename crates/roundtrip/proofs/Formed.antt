@@ -1,0 +1,67 @@
+-- The cell that is read again fits a strip where the cell that was saved does, so that its words scan to it. Assumes nothing.
+use Prim.Native.Nat.{ℕ, _%_, _^_, _<_}
+use native.Mathlib.Omega.{arith}
+use mathlib.Core.Path.{_≡_, refl, _∙_}
+use mathlib.Core.List.{List, [], _∷_, map}
+use lib.ListN.{length, length-map}
+use Rattle.math.specs.declared.vec3.Vec3.{Vec3 as Floats}
+use Rattle.strip.specs.Cell.{Half, Edge, Polygon, Portal, Point, Cell, HalfFits, EdgeFits, PolygonFits, PortalFits, PointFits, Fits, encode}
+use Rattle.strip.specs.Scan.{Scanned, scan}
+use Rattle.strip.proofs.Exact.{scan-fits}
+use Rattle.grammar.proofs.Runs.{all-map, all-images}
+use Rattle.pages.specs.Items.{Corner, cornersIn}
+use Rattle.pages.specs.Sectors.{preorder}
+use Rattle.pages.specs.Pages.{loOf, extentOf, sectors}
+use Rattle.pages.specs.Reread.{halfAgain, edgeAgain, positionAgain, polygonAgain, portalAgain, pointAgain, reread}
+use Rattle.pages.proofs.Placed.{length-corners}
+use Rattle.readback.proofs.Root.{sectors-points}
+
+half-fits : (h : Half) → HalfFits (halfAgain h)
+unfolding halfAgain
+half-fits h = record { unk3 = omega arith; unk2 = omega arith }
+
+edge-fits : (e : Edge) → EdgeFits (edgeAgain e)
+unfolding edgeAgain
+edge-fits e = record { a = half-fits (e .a); b = half-fits (e .b) }
+
+module _ (lo size : Floats) where
+  -- as many edges as vertices
+  polygon-fits : (p : Polygon) → PolygonFits p → PolygonFits (polygonAgain lo size p)
+  unfolding polygonAgain
+  polygon-fits p f =
+      let vertices = length-map (p .vertices) (positionAgain lo size) in
+      let edges = length-map (cornersIn lo size p) (λ k. edgeAgain (k .edge)) ∙ length-corners lo size (p .vertices) (p .edges) in
+      record {
+        vertex-count = rw vertices (f .vertex-count);
+        edge-count = rw edges (f .vertex-count);
+        link-count = f .link-count;
+        flags0 = f .flags0;
+        links = f .links;
+        edges = all-images EdgeFits (λ k. edgeAgain (k .edge)) (λ k. edge-fits (k .edge)) (cornersIn lo size p);
+      }
+
+  portal-fits : (p : Portal) → PortalFits p → PortalFits (portalAgain lo size p)
+  unfolding portalAgain
+  portal-fits p f = record {
+    kind = f .kind;
+    angle = f .angle;
+    flags-unk = f .flags-unk;
+    poly-from = f .poly-from;
+    area-from = omega arith;
+    area-unk = omega arith;
+  }
+
+  point-fits : (t : Point) → PointFits t → PointFits (pointAgain lo size t)
+  unfolding pointAgain
+  point-fits t f = record { angle = f .angle; kind = f .kind }
+
+reread-fits : (c : Cell) → Fits c → Fits (reread c)
+unfolding reread
+reread-fits c f = record {
+  polys = all-map PolygonFits PolygonFits (polygonAgain (loOf c) (extentOf c)) (polygon-fits (loOf c) (extentOf c)) (c .polys) (f .polys);
+  portals = all-map PortalFits PortalFits (portalAgain (loOf c) (extentOf c)) (portal-fits (loOf c) (extentOf c)) (c .portals) (f .portals);
+  points = all-map PointFits PointFits (pointAgain (loOf c) (extentOf c)) (point-fits (loOf c) (extentOf c)) (preorder (sectors c)) (sectors-points c PointFits (f .points));
+}
+
+pub reread-scans : (c : Cell) → Fits c → scan (encode (reread c)) ≡ Scanned.ok (reread c)
+reread-scans c f = scan-fits (encode (reread c)) (reread c) .1 (reread-fits c f, refl)

@@ -1,0 +1,177 @@
+-- The two calls one after the other. Where writing accepts (`saves`, `saved`), the lent pages as they are then open again (`opened`), and the strip that is read
+-- has what has to be kept (`returned`): for every strip of words, work, pages, graphics section and lent strip. Assumes nothing.
+use Prim.Native.Nat.{ℕ, _/_, _≤_, _<_}
+use native.Mathlib.Omega.{arith}
+use mathlib.Core.Path.{_≡_, refl, sym, ap, subst, _∙_}
+use mathlib.Core.Bool.{Bool, true, false}
+use mathlib.Core.List.{List, [], _∷_, _++_, map}
+use mathlib.Core.Logic.{_⊎_, inl, inr, ⊎-elim}
+use lib.Dec.{leb}
+use lib.ListN.{length, take, drop}
+use lib.Seq.{take-append-seam}
+use borrow.Author.Tests.{leb-true, leb-false}
+use Rattle.strip.specs.Cell.{Portal, Point, Cell, Words, InRange, encode}
+use Rattle.strip.specs.Scan.{Scanned, ok, fault, scan}
+use Rattle.strip.specs.Outcome.{Outcome, values, refusal, shown, left}
+use Rattle.strip.specs.Outcome as Outcome
+use Rattle.strip.specs.Check.{onCell}
+use Rattle.strip.proofs.Exact.{scan-exact}
+use Rattle.grammar.specs.Polygons.{Each, none, more}
+use Rattle.grammar.specs.Derives.{Derives}
+use Rattle.ynv_read.specs.declared.Parsed.{Parsed}
+use Rattle.ynv_read.specs.Parse.{countsOf}
+use Rattle.ynv_read.proofs.Theorems.{accepted-exactly, too-short-exactly}
+use Rattle.pages.specs.Sectors.{sectorCount, preorder}
+use Rattle.pages.specs.Pages.{loOf, extentOf, sectors, pages}
+use Rattle.pages.specs.Checks.{Verdict, fine, refused, cellVerdict, onVerdict, cellOutcome}
+use Rattle.pages.specs.Reread.{portalAgain, pointAgain, reread}
+use Rattle.pages.specs.Accepted.{Accepted}
+use Rattle.pages.proofs.Accepted.{accepted}
+use Rattle.pages.proofs.Placed.{pages-short}
+use Rattle.readback.proofs.Whole.{makes}
+use Rattle.readback.proofs.Kept.{reread-kept}
+use Rattle.roundtrip.specs.RoundTrip.{saving, savedPages, opening, openedStrip, Saved, Opened, KeptPortal, KeptPoint, Returned}
+use Rattle.roundtrip.proofs.Formed.{reread-scans}
+
+-- ---- portals and points of the cell that is read again
+
+each-image : {A B : Type 0} (R : A → B → Type 0) (f : A → B) → ((a : A) → R a (f a)) → (l : List A) → Each R l (map f l)
+each-image R f good [] = none
+each-image R f good (a ∷ l) = more (good a) (each-image R f good l)
+
+portals-kept : (c : Cell) → Each KeptPortal (c .portals) (reread c .portals)
+unfolding reread portalAgain
+portals-kept c = each-image KeptPortal (portalAgain (loOf c) (extentOf c)) one (c .portals)
+  where
+    one : (p : Portal) → KeptPortal p (portalAgain (loOf c) (extentOf c) p)
+    one p = record {
+      kind = refl;
+      angle = refl;
+      flags-unk = refl;
+      poly-from = refl;
+      poly-to = refl;
+      area-from = refl;
+      area-to = refl;
+      area-unk = refl;
+    }
+
+points-kept : (c : Cell) → Each KeptPoint (preorder (sectors c)) (reread c .points)
+unfolding reread pointAgain
+points-kept c = each-image KeptPoint (pointAgain (loOf c) (extentOf c)) (λ t. record { angle = refl; kind = refl }) (preorder (sectors c))
+
+head-kept : (c : Cell) → reread c .head ≡ c .head
+unfolding reread
+head-kept c = refl
+
+-- ---- reading the pages of an accepted cell, with any tail behind them
+
+module _ (c : Cell) (range : InRange c) (acc : Accepted c) (tail graphics lent : List ℕ) where
+  abbrev S : List ℕ
+  S = pages c ++ tail
+
+  abbrev P : Parsed
+  P = countsOf (reread c) (sectorCount (sectors c))
+
+  derived : Derives S graphics (encode (reread c))
+  derived = record { sectors = sectorCount (sectors c); cell = reread c; makes = makes c tail graphics range acc; strip = refl }
+
+  enough : length (encode (reread c)) ≤ length lent → opening S graphics lent ≡ Outcome.done P (encode (reread c))
+  unfolding derived
+  enough h = accepted-exactly S graphics (length lent) P (encode (reread c)) .1 (record { derived = derived; fits = h; counts = refl })
+
+  lacking : length lent < length (encode (reread c)) → opening S graphics lent ≡ Outcome.refused 2 0
+  lacking h = too-short-exactly S graphics (length lent) .1 (encode (reread c), derived, h)
+
+  -- one of the two
+  either : ((length (encode (reread c)) ≤ length lent) × (opening S graphics lent ≡ Outcome.done P (encode (reread c)))) ⊎ (opening S graphics lent ≡ Outcome.refused 2 0)
+  either = by (leb (length (encode (reread c))) (length lent)) refl
+    where
+      by : (b : Bool) → leb (length (encode (reread c))) (length lent) ≡ b
+          → ((length (encode (reread c)) ≤ length lent) × (opening S graphics lent ≡ Outcome.done P (encode (reread c)))) ⊎ (opening S graphics lent ≡ Outcome.refused 2 0)
+      by true e = let h = leb-true (length (encode (reread c))) (length lent) e in inl (h, enough h)
+      by false e = inr (lacking (leb-false (length (encode (reread c))) (length lent) e))
+
+  opens : Opened c S graphics lent
+  opens = record {
+    counts = λ h. ap shown (enough h);
+    words = λ h. ap (λ (o : Outcome Parsed). left o lent) (enough h);
+    too-short = λ h. ap shown (lacking h);
+    no-other = λ number place said.
+        ⊎-elim
+        (λ (h, e). let f : values P ≡ refusal number place = sym (ap shown e) ∙ said in let z : _≡_ {A = ℕ} 0 1 = cc in absurd (omega arith))
+        (λ e. let f : _≡_ {A = Outcome.Paper Parsed} (refusal 2 0) (refusal number place) = sym (ap shown e) ∙ said in (cc, cc))
+        either;
+  }
+
+  again : Returned c P (encode (reread c))
+  again = record {
+    cell = reread c;
+    formed = reread-scans c (range .fits);
+    counts = refl;
+    head = head-kept c;
+    polygons = reread-kept c;
+    portals = portals-kept c;
+    points = points-kept c;
+    whole = refl;
+  }
+
+  returns : (p : Parsed) → shown (opening S graphics lent) ≡ values p → Returned c p (take (p .words) (openedStrip S graphics lent))
+  returns p said =
+      ⊎-elim
+      (λ (h, e).
+      let same : P ≡ p = let f : values P ≡ values p = sym (ap shown e) ∙ said in cc in
+      let strip : openedStrip S graphics lent ≡ encode (reread c) ++ drop (length (encode (reread c))) lent = ap (λ (o : Outcome Parsed). left o lent) e in
+      rw (← same, strip, take-append-seam (encode (reread c)) (drop (length (encode (reread c))) lent)) again)
+      (λ e. let f : _≡_ {A = Outcome.Paper Parsed} (refusal 2 0) (values p) = sym (ap shown e) ∙ said in let z : _≡_ {A = ℕ} 0 1 = cc in absurd (omega arith))
+      either
+
+-- ---- the two calls
+
+-- writing accepts the strip of a cell that passes every check, with work and pages long enough
+pub saves : {A : Type 0} (answer : Cell → A) (strip : List ℕ) (work : ℕ) (old : List ℕ) (c : Cell) → scan strip ≡ ok c → length strip ≤ work / 4 → Accepted c → length (pages c) ≤ length old
+    → shown (saving answer strip work old) ≡ values (answer c)
+saves answer strip work old c formed long acc fits = rw (formed, accepted (length strip) work (length old) c .1 (long, acc, fits))
+
+-- writing said v of a strip of words
+module _ {A : Type 0} (answer : Cell → A) (strip : List ℕ) (work : ℕ) (old : List ℕ) (words : Words strip) (v : A) (said : shown (saving answer strip work old) ≡ values v) where
+  pub saved : Saved answer strip work old v (savedPages answer strip work old)
+  saved = by (scan strip) refl said
+    where
+      on : (c : Cell) → scan strip ≡ ok c → (w : Verdict) → cellVerdict (length strip) work (length old) c ≡ w → shown (onVerdict w (Outcome.done (answer c) (pages c))) ≡ values v
+          → Saved answer strip work old v (left (onVerdict w (Outcome.done (answer c) (pages c))) old)
+      on c e fine f h =
+          let a = accepted (length strip) work (length old) c .0 f in
+          record {
+            cell = c;
+            formed = e;
+            answered = cc;
+            work-fits = a .0;
+            accepted = a .1;
+            pages-fit = a .2;
+            short = pages-short c (a .1);
+            bytes = refl;
+          }
+      on c e (refused number place) f h = let z : _≡_ {A = ℕ} 0 1 = cc in absurd (omega arith)
+
+      by : (s : Scanned) → scan strip ≡ s → shown (onCell (cellOutcome answer (length strip) work (length old)) s) ≡ values v
+          → Saved answer strip work old v (left (onCell (cellOutcome answer (length strip) work (length old)) s) old)
+      by (ok c) e h = on c e (cellVerdict (length strip) work (length old) c) refl h
+      by (fault number place) e h = let z : _≡_ {A = ℕ} 0 1 = cc in absurd (omega arith)
+
+  -- the length that the answer says is that of what was written, where the answer says a cell's length
+  pub length-answered : (said-length : A → ℕ) → ((c : Cell) → said-length (answer c) ≡ length (pages c)) → said-length v ≡ length (pages (saved .cell))
+  length-answered said-length says = ap said-length (saved .answered) ∙ says (saved .cell)
+
+  module _ (graphics lent : List ℕ) where
+    range : InRange (saved .cell)
+    range = scan-exact strip words (saved .cell) .0 (saved .formed) .0
+
+    abbrev tail : List ℕ
+    tail = drop (length (pages (saved .cell))) old
+
+    pub opened : Opened (saved .cell) (savedPages answer strip work old) graphics lent
+    opened = rw (saved .bytes) (opens (saved .cell) range (saved .accepted) tail graphics lent)
+
+    pub returned : (p : Parsed) → shown (opening (savedPages answer strip work old) graphics lent) ≡ values p
+        → Returned (saved .cell) p (take (p .words) (openedStrip (savedPages answer strip work old) graphics lent))
+    returned = rw (saved .bytes) (returns (saved .cell) range (saved .accepted) tail graphics lent)

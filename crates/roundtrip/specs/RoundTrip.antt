@@ -1,0 +1,89 @@
+-- Writing and then reading: a strip is saved into lent pages, and these are read into a lent strip. What the two calls say and leave, one after the other.
+-- Definitions only.
+use Prim.Native.Nat.{ℕ, _/_, _%_, _^_, _≤_, _<_}
+use mathlib.Core.Path.{_≡_}
+use mathlib.Core.List.{List, _++_}
+use lib.ListN.{length, drop}
+use Rattle.strip.specs.Cell.{Portal, Point, Cell, encode}
+use Rattle.strip.specs.Scan.{Scanned, scan}
+use Rattle.strip.specs.Outcome.{Outcome, values, refusal, shown, left}
+use Rattle.grammar.specs.Polygons.{Each}
+use Rattle.ynv_read.specs.declared.Parsed.{Parsed}
+use Rattle.ynv_read.specs.Parse.{countsOf, parseOutcome}
+use Rattle.pages.specs.Sectors.{sectorCount, preorder}
+use Rattle.pages.specs.Pages.{sectors, pages}
+use Rattle.pages.specs.Checks.{writeOutcome}
+use Rattle.pages.specs.Reread.{reread}
+use Rattle.pages.specs.Accepted.{Accepted}
+use Rattle.readback.specs.Kept.{Kept}
+
+-- ---- the two calls
+
+-- What writing a strip decides, with so many words of work, into lent pages that hold `old`; `answer` says what an accepted cell is answered with.
+module _ {A : Type 0} (answer : Cell → A) (strip : List ℕ) (work : ℕ) (old : List ℕ) where
+  abbrev pub saving : Outcome A
+  saving = writeOutcome answer strip work (length old)
+
+  -- the lent pages when it returns, with whatever stands behind what was written
+  abbrev pub savedPages : List ℕ
+  savedPages = left saving old
+
+-- What reading the pages decides, with any graphics section, into a lent strip; and that strip when it returns.
+module _ (pages graphics lent : List ℕ) where
+  abbrev pub opening : Outcome Parsed
+  opening = parseOutcome pages graphics (length lent)
+
+  abbrev pub openedStrip : List ℕ
+  openedStrip = left opening lent
+
+-- ---- what holds of them
+
+-- Writing said v, and the lent pages are `after` now. The strip stands for a cell that every check passes; work and pages were long enough; what was
+-- written are the cell's pages, below 2^28 bytes, and the rest of the lent ones stays.
+pub record Saved {A : Type 0} (answer : Cell → A) (strip : List ℕ) (work : ℕ) (old : List ℕ) (v : A) (after : List ℕ) : Type 0 where
+  pub cell : Cell
+  pub formed : scan strip ≡ Scanned.ok cell
+  pub answered : v ≡ answer cell
+  pub work-fits : length strip ≤ work / 4
+  pub accepted : Accepted cell
+  pub pages-fit : length (pages cell) ≤ length old
+  pub short : length (pages cell) < 2 ^ 28
+  pub bytes : after ≡ pages cell ++ drop (length (pages cell)) old
+
+-- Reading the pages that c was saved in, into a lent strip: one with room for the cell as it is read again gets its words and keeps the rest; a shorter
+-- one is refused with 2; nothing else is ever said.
+pub record Opened (c : Cell) (saved graphics lent : List ℕ) : Type 0 where
+  pub counts : length (encode (reread c)) ≤ length lent → shown (opening saved graphics lent) ≡ values (countsOf (reread c) (sectorCount (sectors c)))
+  pub words : length (encode (reread c)) ≤ length lent → openedStrip saved graphics lent ≡ encode (reread c) ++ drop (length (encode (reread c))) lent
+  pub too-short : length lent < length (encode (reread c)) → shown (opening saved graphics lent) ≡ refusal 2 0
+  pub no-other : (number place : ℕ) → shown (opening saved graphics lent) ≡ refusal number place → (number ≡ 2) × (place ≡ 0)
+
+-- a portal p that was saved, read as q: areas are cut to their bits
+pub record KeptPortal (p q : Portal) : Type 0 where
+  pub kind : q .kind ≡ p .kind
+  pub angle : q .angle ≡ p .angle
+  pub flags-unk : q .flags-unk ≡ p .flags-unk
+  pub poly-from : q .poly-from ≡ p .poly-from
+  pub poly-to : q .poly-to ≡ p .poly-to
+  pub area-from : q .area-from ≡ p .area-from % 2 ^ 14
+  pub area-to : q .area-to ≡ p .area-to % 2 ^ 14
+  pub area-unk : q .area-unk ≡ p .area-unk % 2 ^ 4
+
+pub record KeptPoint (p q : Point) : Type 0 where
+  pub angle : q .angle ≡ p .angle
+  pub kind : q .kind ≡ p .kind
+
+-- Strip in, strip out: reading said p, and w are the words that it gave. They stand for a cell that has what c, which was saved, has to keep.
+pub record Returned (c : Cell) (p : Parsed) (w : List ℕ) : Type 0 where
+  pub cell : Cell
+  pub formed : scan w ≡ Scanned.ok cell
+  pub counts : p ≡ countsOf cell (sectorCount (sectors c))
+  -- content flags, area id, version, vft and box
+  pub head : cell .head ≡ c .head
+  -- every polygon in order, with flags, vertex count, links and edges
+  pub polygons : Each Kept (c .polys) (cell .polys)
+  pub portals : Each KeptPortal (c .portals) (cell .portals)
+  -- points leaf by leaf; one in no leaf is gone
+  pub points : Each KeptPoint (preorder (sectors c)) (cell .points)
+  -- and nothing is left open: positions are those of the grid of shorts
+  pub whole : cell ≡ reread c

@@ -1,0 +1,50 @@
+-- The seam count: the halves of all of a strip's edges, surplus ones too, whose area differs from the cell's by 1 or 100 as whole numbers. Definitions only.
+use Prim.Native.Nat.{ℕ, _+_, _-_}
+use mathlib.Core.List.{List, [], _∷_}
+use mathlib.Core.Bool.{Bool, true, false, _||_}
+use lib.Dec.{eqb}
+use Rattle.strip.specs.Cell.{Cell, Half, Edge, Polygon}
+use Rattle.strip.specs.Scan.{scan}
+use Rattle.strip.specs.Outcome.{Outcome, done, Paper, values, refusalOf}
+use Rattle.strip.specs.Check.{onCell}
+use Rattle.seams.specs.declared.SeamAnswer.{SeamAnswer}
+use Rattle.seams.specs.declared.SeamAnswer.the-variants.{Count, Refused}
+
+-- how far apart two areas are, as whole numbers: nothing wraps
+abbrev pub apart : ℕ → ℕ → ℕ
+apart a b = (a - b) + (b - a)
+
+-- which areas touch
+unfoldable pub touch : ℕ → ℕ → Bool
+touch a b = eqb (apart a b) 1 || eqb (apart a b) 100
+
+-- which halves are counted in the cell of an area
+unfoldable pub counted : ℕ → Half → Bool
+counted own h = touch own (h .area)
+
+abbrev pub one : Bool → ℕ
+one true = 1
+one false = 0
+
+-- how many halves pass a test, of edges and of polygons
+unfoldable pub edgeCount : (Half → Bool) → List Edge → ℕ
+edgeCount test [] = 0
+edgeCount test (e ∷ es) = one (test (e .a)) + one (test (e .b)) + edgeCount test es
+
+unfoldable pub halfCount : (Half → Bool) → List Polygon → ℕ
+halfCount test [] = 0
+halfCount test (p ∷ ps) = edgeCount test (p .edges) + halfCount test ps
+
+abbrev pub seams : Cell → ℕ
+seams c = halfCount (counted (c .head .area)) (c .polys)
+
+-- what each case of `count_seams`'s answer says, and what the call has to decide
+abbrev pub paper : SeamAnswer → Paper ℕ
+paper (Count n) = values n
+paper (Refused r) = refusalOf r
+
+abbrev pub seamed : Cell → Outcome ℕ
+seamed c = done (seams c) []
+
+abbrev pub seamOutcome : List ℕ → Outcome ℕ
+seamOutcome s = onCell seamed (scan s)

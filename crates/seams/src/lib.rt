@@ -1,0 +1,79 @@
+// The seam count: how many halves of a strip's edges lie towards a neighbouring cell.
+ghost use mathlib.Core.Path.{_≡_};
+ghost use Prim.Native.Nat.{_+_, _*_, _≤_};
+ghost use lib.ListN.{length};
+ghost use Rattle.strip.specs.Reading.{halfAt, edgesAt, polygonsAt, afterPolygons};
+ghost use Rattle.strip.specs.Outcome.{shown};
+ghost use Rattle.seams.specs.Seams as Seams;
+ghost use Rattle.seams.specs.Seams.{one, counted, edgeCount, halfCount, paper, seamOutcome};
+use strip::Refusal;
+use strip::StripAnswer;
+
+pub enum SeamAnswer {
+    Count(u64),
+    Refused(Refusal),
+}
+
+// Whether the cells of two areas touch.
+fn touch(own: u32, area: u32) -> bool
+    ensures { λ r. ⌜ r ≡ Seams.touch own area ⌝ }
+{
+    let apart = if own < area { area - own } else { own - area };
+    match apart {
+        1 | 100 => true,
+        _ => false,
+    }
+}
+
+// 1 if the half at `at` is counted, otherwise 0.
+fn half_seams(strip: &[u32], at: usize, own: u32) -> u64
+    requires { ⌜ at + 3 ≤ length (now strip) ⌝ }
+    ensures { λ r. ⌜ (r ≡ one (counted own (halfAt (now (strip .entry)) at))) × (r ≤ 1) ⌝ }
+{
+    if touch(own, strip[at]) { 1 } else { 0 }
+}
+
+// The counted halves of `n` edges from `at` on.
+fn edge_seams(strip: &[u32], at: usize, n: usize, own: u32) -> u64
+    requires { ⌜ at + 6 * n ≤ length (now strip) ⌝ }
+    ensures { λ r. ⌜ (r ≡ edgeCount (counted own) (edgesAt (now (strip .entry)) at n)) × (r ≤ 2 * n) ⌝ }
+{
+    let mut count: u64 = 0;
+    let mut place = at;
+    for i in 0..n {
+        count += half_seams(strip, place, own);
+        count += half_seams(strip, place + 3, own);
+        place += 6;
+    }
+    count
+}
+
+// The counted halves of the first `n` polygons, surplus edges included.
+fn poly_seams(strip: &[u32], n: usize, own: u32) -> u64
+    requires { ⌜ afterPolygons (now strip) 14 n ≤ length (now strip) ⌝ }
+    ensures { λ r. ⌜ r ≡ halfCount (counted own) (polygonsAt (now (strip .entry)) 14 n) ⌝ }
+{
+    let mut count: u64 = 0;
+    let mut at: usize = 14;
+    for i in 0..n {
+        let p = strip::poly_at(strip, at);
+        let edge_at = p.edge_at;
+        let edges = p.edges;
+        count += edge_seams(strip, edge_at, edges, own);
+        at = p.next;
+    }
+    count
+}
+
+// How many halves of all the strip's edges lie towards a neighbour, or refusal 3 with its place.
+pub fn count_seams(strip: &[u32]) -> SeamAnswer
+    ensures { λ r. ⌜ paper r ≡ shown (seamOutcome (now (strip .entry))) ⌝ }
+{
+    match strip::check_strip(strip) {
+        StripAnswer::WellFormed(n) => {
+            let polys = n.polys;
+            SeamAnswer::Count(poly_seams(strip, polys, strip[2]))
+        }
+        StripAnswer::Refused(r) => SeamAnswer::Refused(r),
+    }
+}

@@ -1,0 +1,82 @@
+-- What a record tells, from the tests that the program makes.
+use Prim.Native.Nat.{ℕ, _+_, _*_, _%_, _≤_, min}
+use native.Mathlib.Omega.{arith}
+use native.Mathlib.Numerals.{add-one}
+use mathlib.Core.Path.{_≡_, ap, sym, _∙_}
+use mathlib.Core.Bool.{true, false}
+use mathlib.Core.List.{List, _++_}
+use lib.ListN.{length, take, drop, getD, length-take}
+use borrow.Author.Tests.{eq-eqb, ne-eqb}
+use Rattle.fields.specs.Bytes.{le}
+use Rattle.strip.specs.Outcome.{Paper, refusal, values, shown, left}
+use Rattle.ynv_write.specs.Serialize.{serializeOutcome}
+use Rattle.ynv_write.specs.declared.Written.{Written}
+use Rattle.write_vectors.specs.Runs.{Unrolled}
+use Rattle.write_vectors.specs.Agreement.{told, toldLength, sumUpTo, checksum, lent, lentWork, between, outcomeOf, pagesOf, SameBytes, Untouched, PagesAgree, Agrees, untouchedBytes, Tallied}
+use Rattle.write_vectors.specs.declared.Record.{Record}
+use Rattle.write_vectors.specs.declared.Tally.{Tally}
+
+pub never : {A : Type 0} → false ≡ true → A
+never e = absurd (let z : _≡_ {A = ℕ} 0 1 = cc in omega arith)
+
+module _ (b : List ℕ) (at : ℕ) where
+  pub told-written : (w : Written) → le 4 b (at + 12) ≡ 0 → w .length ≡ le 4 b (at + 16) → values w ≡ told b at
+  unfolding told
+  told-written w e q = rw (eq-eqb (le 4 b (at + 12)) 0 e, ← q)
+
+  pub told-refusal : (n place : ℕ) → (le 4 b (at + 12) ≡ 0 → ⊥) → n ≡ le 4 b (at + 12) → place ≡ le 4 b (at + 16) → refusal n place ≡ told b at
+  unfolding told
+  told-refusal n place h e f = rw (ne-eqb (le 4 b (at + 12)) 0 h) (cc)
+
+  pub told-some : (n : ℕ) → le 4 b (at + 12) ≡ 0 → n ≡ le 4 b (at + 16) → n ≡ toldLength b at
+  unfolding toldLength
+  told-some n e q = rw (eq-eqb (le 4 b (at + 12)) 0 e) q
+
+  pub told-none : (le 4 b (at + 12) ≡ 0 → ⊥) → 0 ≡ toldLength b at
+  unfolding toldLength
+  told-none h = rw (ne-eqb (le 4 b (at + 12)) 0 h)
+
+-- a tally holds further on
+pub later : (n a b : ℕ) (t : Tally) → Tallied n a t → a ≤ b → Tallied n b t
+later n a b t g h = record { few = omega (arith, g .few); part = g .part; shown = g .shown; all = g .all }
+
+-- the checksum of one byte more, and of all of them
+module _ (xs : List ℕ) (k s : ℕ) where
+  pub sum-next : s ≡ sumUpTo xs k → (s * 2654435761 + getD xs k 0 + 1) % 4294967291 ≡ sumUpTo xs (k + 1)
+  unfolding sumUpTo
+  sum-next e = rw (e, add-one k)
+
+  pub sum-all : k ≤ length xs → length xs ≤ k → s ≡ sumUpTo xs k → s ≡ sumUpTo xs (length xs)
+  sum-all h g e = let all : length xs ≡ k = omega arith in rw all e
+
+-- what a call with a part of the work and of the pages says and leaves
+module _ (b : List ℕ) (at : ℕ) (strip work old : List ℕ) (g : ℕ) (d : g ≡ lentWork b at) (long : 856000 ≡ length work) (f : ℕ) (e : f ≡ lent b at (length old)) where
+  part-length : length (take f old) ≡ f
+  part-length = simp length-take (omega arith)
+
+  work-length : length (take g work) ≡ g
+  work-length = simp length-take (omega arith)
+
+  pub answered : (p : Paper Written) → p ≡ shown (serializeOutcome strip (length (take g work)) (length (take f old))) → p ≡ shown (outcomeOf b at strip (length old))
+  unfolding outcomeOf
+  answered p q = rw (work-length, part-length, d, e) at q
+
+  pub pages-left : (new : List ℕ) → new ≡ left (serializeOutcome strip (length (take g work)) (length (take f old))) (take f old) → new ++ drop f old ≡ pagesOf b at strip old
+  unfolding pagesOf outcomeOf
+  pages-left new q = rw (q, work-length, part-length, d, e)
+
+-- the pages' three tests
+pub pages-agreed : (b : List ℕ) (at : ℕ) (r : Record) (pages : List ℕ) (f : ℕ) → f ≡ min (toldLength b at) (length pages) → checksum (take f pages) ≡ le 4 b (at + 20)
+    → SameBytes (between b (r .bytes) (r .«bytes_end»)) pages → Untouched f pages → PagesAgree b at r pages
+pages-agreed b at r pages f e s t u = record { sum = rw (← e) s; bytes = t; rest = rw (← e) u }
+
+-- a strip that was made in s, pages u that nothing was written into yet, and x when the strip was written
+pub agreed : (b : List ℕ) (at : ℕ) (r : Record) (s strip u x : List ℕ) (p : Paper Written) → 214000 ≡ length s → Unrolled (between b (r .runs) (r .bytes)) (length s) strip → u ≡ untouchedBytes → 1400000 ≡ length u
+    → p ≡ shown (outcomeOf b at strip (length u)) → p ≡ told b at → x ≡ pagesOf b at strip u → PagesAgree b at r x → Agrees b at r
+agreed b at r s strip u x p room made all len says tells leaves same =
+    record {
+      strip = strip;
+      runs = rw room made;
+      answer = ap (λ (n : ℕ). shown (outcomeOf b at strip n)) len ∙ sym says ∙ tells;
+      pages = rw (← all, ← leaves) same;
+    }

@@ -1,0 +1,14 @@
+-- `write_vectors::untouched` meets its contract.
+use Prim.Native.Nat.{ℕ}
+use mathlib.Core.Path.{refl, sym}
+use lib.ListN.{length-replicate}
+use Rattle.write_vectors.specs.Agreement.{untouchedBytes}
+use Rattle.write_vectors.proofs.untouched.Statement.{statement}
+use Rattle.write_vectors.proofs.untouched.Tie as tie
+
+returns : tie.Need-returns
+unfolding untouchedBytes
+returns c = (refl, sym (length-replicate {A = ℕ} 1400000 0xD1))
+
+pub untouched-spec : {M : Type 1} → statement M
+untouched-spec = tie.close (tie.spec returns)

@@ -1,0 +1,17 @@
+-- `ynv::refuse` meets its contract.
+use mathlib.Core.Path.{refl}
+use mathlib.Core.List.{[], _∷_}
+use denote.Ref.{now}
+use Rattle.ynv.proofs.Stores.{stored-first}
+use borrow.Author.Needs.{needs}
+use Rattle.ynv.proofs.refuse.Statement.{statement}
+use Rattle.ynv.proofs.refuse.Tie as tie
+
+element-write-answer : tie.Need-element-write-answer
+element-write-answer c = search needs
+
+returns : tie.Need-returns
+returns c = let a = c .args in (refl, stored-first (a .refusal .place ∷ []) (now (a .answer)))
+
+pub refuse-spec : {M : Type 1} → statement M
+refuse-spec = tie.close (tie.spec element-write-answer returns)

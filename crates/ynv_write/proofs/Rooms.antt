@@ -1,0 +1,82 @@
+-- An accepted cell leaves room for each part of its pages: the ends of its blocks stay below 2^28. Assumes nothing.
+use Prim.Native.Nat.{ℕ, _*_, _^_, _≤_, _<_}
+use mathlib.Core.Path.{_≡_, refl}
+use mathlib.Core.List.{List, [], _∷_, _++_}
+use native.Mathlib.Omega.{arith}
+use lib.ListN.{length}
+use Rattle.strip.specs.Cell.{Cell}
+use Rattle.blocks.specs.Layout.{endOf, behind}
+use Rattle.blocks.specs.Lists.{partCount, partSizes, offsetSizes, listSizes}
+use Rattle.blocks.proofs.Layouts.{end-ge}
+use Rattle.pages.specs.Optional.{sizeOf}
+use Rattle.pages.specs.Sectors as Sectors
+use Rattle.pages.specs.Sectors.{Sector, byteCount}
+use Rattle.pages.specs.Sectors.Sector.{leaf, node}
+use Rattle.pages.specs.Pages.{allCorners, vertices, links, sectors, counts, endHeader, endVertices, endIndices, endEdges, endPolygons, endSectors, endPortals}
+use Rattle.pages.specs.Accepted.{Accepted}
+use Rattle.pages.proofs.Placed.{few-corners, pages-short}
+use Rattle.front.specs.Ends.{pagesEnd}
+use Rattle.front.proofs.Behind.{end-sum, ListRooms, list-rooms}
+use Rattle.front.proofs.Cells.{sum-tree, cell-end}
+use Rattle.ynv_write.specs.Filled.{ListsFilled, RestFilled, Near}
+use Rattle.ynv_write.specs.declared.ListEnds.{ListEnds}
+use Rattle.ynv_write.specs.declared.RestEnds.{RestEnds}
+
+-- the first of some blocks ends before the last
+first-near : (end n : ℕ) (ns : List ℕ) → behind end n ≤ endOf end (n ∷ ns)
+first-near end n ns = end-ge (behind end n) ns
+
+header-near : (end w n : ℕ) → behind end 48 ≤ endOf end (listSizes w n)
+header-near end w n = first-near end 48 (16 * partCount w n ∷ (partSizes w n ++ offsetSizes (partCount w n)))
+
+root-near : (end : ℕ) (t : Sector) → behind end 96 ≤ endOf end (Sectors.sizes t)
+unfolding Sectors.sizes
+root-near end (leaf b is ts) = first-near end 96 (sizeOf (2 * length is) ++ (sizeOf (8 * length ts) ++ (32 ∷ [])))
+root-near end (node b t0 t1 t2 t3) = first-near end 96 (Sectors.sizes t0 ++ (Sectors.sizes t1 ++ (Sectors.sizes t2 ++ Sectors.sizes t3)))
+
+module _ (c : Cell) (acc : Accepted c) where
+  -- ---- ends
+
+  pub links-below : endOf (endPortals (counts c) (sectors c)) (sizeOf (2 * length (links c))) < 2 ^ 28
+  unfolding endPortals endSectors endPolygons endEdges endIndices endVertices endHeader counts
+  links-below =
+      let below : pagesEnd (length (vertices c)) (length (allCorners c)) (length (c .polys)) (length (c .portals)) (length (links c)) (Sectors.sizes (sectors c)) < 2 ^ 28 = omega (arith, cell-end c, pages-short c acc) in
+      below
+
+  pub portals-below : endOf (endSectors (counts c) (sectors c)) (sizeOf (28 * length (c .portals))) < 2 ^ 28
+  unfolding endPortals counts
+  portals-below = omega (arith, links-below, end-ge (endPortals (counts c) (sectors c)) (sizeOf (2 * length (links c))))
+
+  sectors-below : endSectors (counts c) (sectors c) < 2 ^ 28
+  sectors-below = omega (arith, portals-below, end-ge (endSectors (counts c) (sectors c)) (sizeOf (28 * length (c .portals))))
+
+  lists-below : endPolygons (counts c) (sectors c) < 2 ^ 28
+  unfolding endSectors
+  lists-below = omega (arith, sectors-below, end-ge (endPolygons (counts c) (sectors c)) (Sectors.sizes (sectors c)))
+
+  pub bytes-few : byteCount (sectors c) < 2 ^ 28
+  unfolding endSectors
+  bytes-few = omega (arith, sectors-below, end-sum (endPolygons (counts c) (sectors c)) (Sectors.sizes (sectors c)), sum-tree (sectors c))
+
+  -- ---- the lists
+
+  pub rooms : ListRooms (length (vertices c)) (length (allCorners c)) (length (c .polys))
+  unfolding endPolygons endEdges endIndices endVertices endHeader counts
+  rooms = list-rooms (length (vertices c)) (length (allCorners c)) (length (c .polys)) (acc .few-vertices) (few-corners c acc) (acc .few-polygons) lists-below
+
+  -- ---- the blocks that the header names
+
+  module _ {xs ys ws zs : List ℕ} {a : ListEnds} {b : RestEnds} (f : ListsFilled c xs ys a) (g : RestFilled c (a .polygons) ws zs b) where
+    pub all-near : (q m : ℕ) → q ≡ length (c .portals) → m ≡ length (links c) → Near a b q m
+    unfolding endSectors endEdges endIndices endVertices endHeader counts
+    all-near q m eq em = record {
+      vertices = rw (f .header) (omega (arith, rooms .vertices _ refl .below, header-near (endHeader (counts c) (sectors c)) 6 (length (vertices c))));
+      indices = rw (f .vertices) (omega (arith, rooms .indices _ refl .below, header-near (endVertices (counts c) (sectors c)) 2 (length (allCorners c))));
+      edges = rw (f .indices) (omega (arith, rooms .edges _ refl .below, header-near (endIndices (counts c) (sectors c)) 8 (length (allCorners c))));
+      polygons = rw (f .edges) (omega (arith, rooms .polygons _ refl .below, header-near (endEdges (counts c) (sectors c)) 48 (length (c .polys))));
+      root = rw (f .polygons) (omega (arith, sectors-below, root-near (endPolygons (counts c) (sectors c)) (sectors c)));
+      portals = rw (g .sectors-end, eq) portals-below;
+      links = rw (g .portals-end, em) links-below;
+      few-portals = omega (arith, eq, acc .few-portals);
+      few-links = omega (arith, em, acc .few-links);
+    }

@@ -1,0 +1,132 @@
+-- The header, stored last, completes the pages; and what the call then answers. Assumes nothing.
+use Prim.Native.Nat.{ℕ, _-_, _≤_, _<_}
+use mathlib.Core.Path.{_≡_, refl, sym, ap, subst, _∙_}
+use mathlib.Core.List.{List, _∷_, _++_, append-assoc}
+use native.Mathlib.Omega.{arith}
+use lib.ListN.{length}
+use lib.Dec.{ltb}
+use borrow.Author.Tests.{lt-ltb, le-ltb}
+use Rattle.fields.specs.Bytes.{put, zeros}
+use Rattle.fields.proofs.Puts.{put-nil}
+use Rattle.strip.specs.Cell.{Cell}
+use Rattle.strip.specs.Outcome.{refused, done, values, shown}
+use Rattle.strip.specs.Reading.{headAt}
+use Rattle.areas.specs.Areas.{idsOf}
+use Rattle.blocks.specs.Layout.{placeOf, pagesOf, Laid}
+use Rattle.blocks.specs.declared.Layout.{Layout}
+use Rattle.blocks.proofs.Layouts.{laid-then, laid-before}
+use Rattle.pages.specs.Pages as Pages
+use Rattle.pages.specs.Pages.{Places, headerBytes, vertices, areas, links, sectors, counts, placesOf, header, blocks, pages, endHeader}
+use Rattle.pages.specs.Sectors.{byteCount}
+use Rattle.pages.specs.Checks.{fine, when, at, onVerdict}
+use Rattle.pages.proofs.Sizes.{header-length}
+use Rattle.pages.proofs.Placed.{few-corners}
+use Rattle.decide.specs.declared.Decision.{Decision}
+use Rattle.plan.specs.Plan.{Planned}
+use Rattle.plan.specs.Ready.{cellAt, Ready}
+use Rattle.plan.proofs.Ready.{ready, verdict-of, refused-so}
+use Rattle.front.proofs.Planned.{vertex-count, polygon-count, portal-count, link-count}
+use Rattle.ynv_write.specs.Serialize.{writtenOf, serializeOutcome}
+use Rattle.ynv_write.specs.Filled.{listsOf, restOf, Left, ListsFilled, RestFilled, placesBy, Near, countsBy, Few, Filled}
+use Rattle.ynv_write.specs.declared.ListEnds.{ListEnds}
+use Rattle.ynv_write.specs.declared.RestEnds.{RestEnds}
+use Rattle.ynv_write.proofs.Rooms.{all-near, bytes-few}
+
+-- ---- of a cell's pages
+
+header-long : (c : Cell) → length (header c) ≡ 368
+unfolding header
+header-long c = header-length (c .head) (placesOf (counts c) (sectors c)) (counts c) (areas c)
+
+blocks-apart : (c : Cell) → header c ∷ (listsOf c ++ restOf c) ≡ blocks c
+unfolding blocks listsOf restOf
+blocks-apart c = simp append-assoc
+
+-- the header stands at the front, where nothing is skipped
+place-first : placeOf 0 368 ≡ 0
+unfolding placeOf
+place-first = refl
+
+skips-nothing : (xs : List ℕ) → put 0 (zeros (placeOf 0 368 - 0)) xs ≡ xs
+skips-nothing xs = rw place-first (put-nil 0 xs)
+
+header-last : (c : Cell) {a b : Layout} {xs ys : List ℕ} → a .at ≡ endHeader (counts c) (sectors c) → Laid a (listsOf c ++ restOf c) b xs ys
+    → put 0 (header c) ys ≡ put 0 (pages c) xs
+unfolding endHeader pages
+header-last c {a} {b} {xs} {ys} e f =
+    let front : Layout = record { at = 0 } in
+    let all : Laid front (header c ∷ (listsOf c ++ restOf c)) b xs (put (placeOf 0 368) (header c) ys) =
+    laid-before {l = front} (header-long c) e (subst (λ (zs : List ℕ). Laid a (listsOf c ++ restOf c) b zs ys) (sym (skips-nothing xs)) f) in
+    ap (λ (k : ℕ). put k (header c) ys) (sym place-first) ∙ all .bytes ∙ ap (λ (bs : List (List ℕ)). put 0 (pagesOf bs) xs) (blocks-apart c)
+
+-- ---- of a planned strip
+
+module _ (s w : List ℕ) (d : Decision) (R : Ready s w d) where
+  pub few : (b : ℕ) → b ≡ byteCount (sectors (cellAt s (d .counts))) → Few d b
+  few b e = record {
+    vertices = omega (arith, vertex-count s w d R, R .accepted .few-vertices);
+    corners = omega (arith, R .tabled .corner-count, few-corners (cellAt s (d .counts)) (R .accepted));
+    polys = omega (arith, polygon-count s w d R, R .accepted .few-polygons);
+    portals = omega (arith, portal-count s w d R, R .accepted .few-portals);
+    links = omega (arith, link-count s w d R, R .accepted .few-links);
+    bytes = omega (arith, e, bytes-few (cellAt s (d .counts)) (R .accepted));
+  }
+
+  module _ {x0 x1 x2 : List ℕ} {a : ListEnds} {b : RestEnds} (f : ListsFilled (cellAt s (d .counts)) x0 x1 a) (g : RestFilled (cellAt s (d .counts)) (a .polygons) x1 x2 b) where
+    pub near : Near a b (d .counts .portals) (d .links)
+    near = all-near (cellAt s (d .counts)) (R .accepted) f g (d .counts .portals) (d .links) (portal-count s w d R) (link-count s w d R)
+
+    places-are : placesBy a b (d .counts .portals) (d .links) ≡ placesOf (counts (cellAt s (d .counts))) (sectors (cellAt s (d .counts)))
+    unfolding placesOf counts
+    places-are = rw (f .header, f .vertices, f .indices, f .edges, f .polygons, g .sectors-end, g .portals-end, ← (portal-count s w d R), ← (link-count s w d R))
+
+    areas-are : idsOf (d .areas) ≡ areas (cellAt s (d .counts))
+    unfolding areas
+    areas-are = R .tabled .areas
+
+    counts-are : (n : ℕ) → n ≡ byteCount (sectors (cellAt s (d .counts))) → countsBy d (b .points) n ≡ counts (cellAt s (d .counts))
+    unfolding counts
+    counts-are n e =
+        rw (← (vertex-count s w d R), ← (R .tabled .corner-count), areas-are, ← (polygon-count s w d R), ← (portal-count s w d R), ← (link-count s w d R), g .points, e)
+
+    -- the blocks behind the header, and the header stored before them
+    header-is : (p : Places) (n : Pages.Counts) → p ≡ placesBy a b (d .counts .portals) (d .links) → (t : ℕ) → t ≡ byteCount (sectors (cellAt s (d .counts))) → n ≡ countsBy d (b .points) t
+        → headerBytes (headAt s 0) p n (idsOf (d .areas)) ≡ header (cellAt s (d .counts))
+    unfolding header
+    header-is p n ep t et en = rw (ep, en, places-are, counts-are t et, areas-are)
+
+    pub filled : {w' : List ℕ} → Left s (d .counts) w w' → (p : Places) → p ≡ placesBy a b (d .counts .portals) (d .links)
+        → (t : ℕ) → t ≡ byteCount (sectors (cellAt s (d .counts))) → (n : Pages.Counts) → n ≡ countsBy d (b .points) t
+        → {x3 : List ℕ} → x3 ≡ put 0 (headerBytes (headAt s 0) p n (idsOf (d .areas))) x2 → Filled s (d .counts) w w' x0 x3
+    filled k p ep t et n en e3 = record {
+      bytes = e3 ∙ ap (λ (h : List ℕ). put 0 h x2) (header-is p n ep t et en) ∙ header-last (cellAt s (d .counts)) (f .header) (laid-then (f .laid) (g .laid));
+      long = k .long;
+      beyond = k .beyond;
+    }
+
+-- ---- the answer, after the plan P
+
+module _ (s w w' : List ℕ) (d : Decision) (P : Planned s w w' d) (out : ℕ) where
+  pub refuses : (d .fault ≡ 0 → ⊥) → serializeOutcome s (length w) out ≡ refused (d .fault) (d .place)
+  unfolding serializeOutcome
+  refuses ne = refused-so s w w' d writtenOf out P ne
+
+  module _ (z : d .fault ≡ 0) where
+    decided : serializeOutcome s (length w) out
+        ≡ onVerdict (at 0 (when (ltb out (length (pages (cellAt s (d .counts))))) 2) fine) (done (writtenOf (cellAt s (d .counts))) (pages (cellAt s (d .counts))))
+    unfolding serializeOutcome
+    decided = rw (ready s w w' d P z .scanned, verdict-of s w w' d out P z)
+
+    pub too-short : out < length (pages (cellAt s (d .counts))) → serializeOutcome s (length w) out ≡ refused 2 0
+    unfolding at
+    too-short h = decided ∙ rw (lt-ltb out (length (pages (cellAt s (d .counts)))) h)
+
+    pub writes : length (pages (cellAt s (d .counts))) ≤ out
+        → serializeOutcome s (length w) out ≡ done (writtenOf (cellAt s (d .counts))) (pages (cellAt s (d .counts)))
+    unfolding at
+    writes h = decided ∙ rw (le-ltb out (length (pages (cellAt s (d .counts)))) h)
+
+    -- and says its length
+    pub told : length (pages (cellAt s (d .counts))) ≤ out → {n : ℕ} → n ≡ length (pages (cellAt s (d .counts)))
+        → values (record { length = n }) ≡ shown (serializeOutcome s (length w) out)
+    told h e = rw (writes h, e)

@@ -1,0 +1,2 @@
+pub mod Serialize
+pub mod Filled

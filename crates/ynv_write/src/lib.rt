@@ -1,0 +1,256 @@
+// The writer: `serialize_ynv` decides with the plan, and only when nothing is refused fills the lent pages.
+ghost use mathlib.Core.Path.{_≡_};
+ghost use Prim.Native.Nat.{_+_, _*_, _≤_};
+ghost use lib.ListN.{length};
+ghost use Rattle.fields.specs.Bytes.{put};
+ghost use Rattle.strip.specs.Reading.{afterPolygons};
+ghost use Rattle.areas.specs.Areas.{idsOf};
+ghost use Rattle.blocks.specs.Layout.{Laid};
+ghost use Rattle.blocks.specs.Lists.{listSizes, listBlocks, Room};
+ghost use Rattle.pages.specs.Items.{edgeItems};
+ghost use Rattle.items.specs.Made.{edgeWords, cornersAt};
+ghost use Rattle.strip.specs.Outcome.{shown, left};
+ghost use Rattle.pages.specs.Sectors.{byteCount};
+ghost use Rattle.pages.specs.Pages.{links, counts, sectors, endPolygons};
+ghost use Rattle.front.specs.Front.{placesIn, countsIn};
+ghost use Rattle.plan.specs.Ready.{cellAt, Ready};
+ghost use Rattle.ynv_write.specs.Serialize.{paper, serializeOutcome};
+ghost use Rattle.ynv_write.specs.Filled.{Kept, Left, ListsFilled, SectorsFilled, RestFilled, placesBy, Near, countsBy, Few, Filled};
+use areas::Areas;
+use blocks::Layout;
+use decide::Decision;
+use front::Addresses;
+use front::Totals;
+use sectors::Points;
+use sectors::Spot;
+use strip::Counts;
+use strip::Refusal;
+
+const HEADER_SIZE: usize = 368;
+
+const LIST_HEADER_SIZE: usize = 48;
+
+const SECTOR_SIZE: usize = 96;
+
+// What an accepted strip came to: the pages' length in bytes.
+pub struct Written {
+    pub length: usize,
+}
+
+pub enum SerializeAnswer {
+    Written(Written),
+    Refused(Refusal),
+}
+
+// The layouts behind the header and behind each list.
+pub struct ListEnds {
+    pub header: Layout,
+    pub vertices: Layout,
+    pub indices: Layout,
+    pub edges: Layout,
+    pub polygons: Layout,
+}
+
+// The layouts behind sectors, portals and links, and how many points are stored.
+pub struct RestEnds {
+    pub sectors: Layout,
+    pub portals: Layout,
+    pub links: Layout,
+    pub points: u32,
+}
+
+// The list of edges, by the area table. Its items are made in work from `base` on.
+fn fill_edges(
+    pages: &mut [u8],
+    l: Layout,
+    strip: &[u32],
+    n: usize,
+    corners: usize,
+    areas: Areas,
+    work: &mut [u32],
+    base: usize,
+) -> Layout
+    requires { ⌜ (afterPolygons (now strip) 14 n ≤ length (now strip)) × (corners ≡ length (cornersAt (now strip) n)) × (base + 2 * corners ≤ length (now work))
+        × Room (l .at) 8 corners (listSizes 8 corners) ⌝ }
+    ensures { λ r. ⌜ Laid l (listBlocks (l .at) 1080158440 8 (edgeItems (idsOf areas) (cornersAt (now (strip .entry)) n))) r (now (pages .entry)) (now (pages .exit)) ⌝ }
+    ensures { λ _. ⌜ now (work .exit) ≡ put base (edgeWords (idsOf areas) (cornersAt (now (strip .entry)) n)) (now (work .entry)) ⌝ }
+{
+    let ids = areas.ids;
+    items::lay_edges(pages, l, strip, n, corners, &ids, areas.len, work, base)
+}
+
+// The four lists, behind the place that is kept for the header. Edges are made in work, in the words of vertices that are laid out by then.
+fn fill_lists(pages: &mut [u8], strip: &[u32], d: Decision, work: &mut [u32]) -> ListEnds
+    requires { ⌜ Ready (now strip) (now work) d ⌝ }
+    ensures { λ r. ⌜ ListsFilled (cellAt (now (strip .entry)) (d .counts)) (now (pages .entry)) (now (pages .exit)) r ⌝ }
+    ensures { λ _. ⌜ Left (now (strip .entry)) (d .counts) (now (work .entry)) (now (work .exit)) ⌝ }
+{
+    let words = strip.len();
+    let at = decide::chain_count(words);
+    let counts = d.counts;
+    let n = counts.polys;
+    let corners = d.corners;
+    let header = Layout::new().alloc(HEADER_SIZE);
+    let vertices = items::lay_vertices(pages, header, work, at, d.vertices);
+    let indices = items::lay_indices(pages, vertices, work, at + 2 * (words / 3), corners);
+    let edges = fill_edges(pages, indices, strip, n, corners, d.areas, work, at);
+    let boxes = decide::tables_end(strip);
+    let end = boxes + 3 * n;
+    let polygons = items::lay_polygons(pages, edges, strip, n, &work[boxes..end]);
+    ListEnds {
+        header,
+        vertices,
+        indices,
+        edges,
+        polygons,
+    }
+}
+
+// The sectors, of which `depth` is 2, or 0 where content bit 2 is set.
+fn fill_sectors<'a>(
+    pages: &mut [u8],
+    strip: &'a [u32],
+    n: Counts,
+    work: &'a [u32],
+    l: Layout,
+) -> Spot
+    requires { ⌜ Kept (now strip) (now work) n × (l .at ≡ endPolygons (counts (cellAt (now strip) n)) (sectors (cellAt (now strip) n))) ⌝ }
+    ensures { λ r. ⌜ SectorsFilled (cellAt (now (strip .entry)) n) l (now (pages .entry)) (now (pages .exit)) r ⌝ }
+{
+    let at = decide::tables_end(strip);
+    let mid = at + 3 * n.polys;
+    let end = mid + n.points;
+    let b = plan::root_box(strip);
+    let lo = decide::floats_at(strip, 5);
+    let size = decide::floats_at(strip, 11);
+    let points = Points {
+        at: strip.len() - 1 - 4 * n.points,
+        lo,
+        size,
+    };
+    let spot = Spot {
+        layout: l,
+        leaf: 0,
+        first: 0,
+    };
+    let depth = quadtree::boxes::depth_of(strip[1]);
+    sectors::write_sector(
+        pages,
+        spot,
+        b,
+        depth,
+        &work[at..mid],
+        &work[mid..end],
+        strip,
+        points,
+    )
+}
+
+// What stands behind the lists: sectors, portals, links.
+fn fill_rest<'a>(
+    pages: &mut [u8],
+    strip: &'a [u32],
+    d: Decision,
+    work: &'a [u32],
+    l: Layout,
+) -> RestEnds
+    requires { ⌜ Kept (now strip) (now work) (d .counts) × (d .links ≡ length (links (cellAt (now strip) (d .counts))))
+        × (l .at ≡ endPolygons (counts (cellAt (now strip) (d .counts))) (sectors (cellAt (now strip) (d .counts)))) ⌝ }
+    ensures { λ r. ⌜ RestFilled (cellAt (now (strip .entry)) (d .counts)) l (now (pages .entry)) (now (pages .exit)) r ⌝ }
+{
+    let counts = d.counts;
+    let lo = decide::floats_at(strip, 5);
+    let size = decide::floats_at(strip, 11);
+    let spot = fill_sectors(pages, strip, counts, work, l);
+    let sectors = spot.layout;
+    let first = strip.len() - 1 - 4 * counts.points - 11 * counts.portals;
+    let portals = front::lay_portals(pages, sectors, strip, first, counts.portals, lo, size);
+    let links = front::lay_links(pages, portals, strip, counts.polys, d.links);
+    RestEnds {
+        sectors,
+        portals,
+        links,
+        points: spot.first,
+    }
+}
+
+// The addresses of what is laid out.
+fn addresses(d: Decision, lists: ListEnds, rest: RestEnds) -> Addresses
+    requires { ⌜ Near lists rest (d .counts .portals) (d .links) ⌝ }
+    ensures { λ r. ⌜ placesIn r ≡ placesBy lists rest (d .counts .portals) (d .links) ⌝ }
+{
+    let counts = d.counts;
+    Addresses {
+        vertices: sectors::address_of(lists.header, LIST_HEADER_SIZE),
+        indices: sectors::address_of(lists.vertices, LIST_HEADER_SIZE),
+        edges: sectors::address_of(lists.indices, LIST_HEADER_SIZE),
+        polygons: sectors::address_of(lists.edges, LIST_HEADER_SIZE),
+        root: sectors::address_of(lists.polygons, SECTOR_SIZE),
+        portals: sectors::address_of(rest.sectors, 28 * counts.portals),
+        links: sectors::address_of(rest.portals, 2 * d.links),
+    }
+}
+
+// How many areas there are. A length above 32 counts as 32.
+fn area_count(areas: Areas) -> u32
+    ensures { λ r. ⌜ r ≡ length (idsOf areas) ⌝ }
+{
+    blocks::least(areas.len, 32) as u32
+}
+
+// How many there are of each; `bytes` are those of the sectors.
+fn totals(d: Decision, points: u32, bytes: u32) -> Totals
+    requires { ⌜ Few d bytes ⌝ }
+    ensures { λ r. ⌜ countsIn r ≡ countsBy d points bytes ⌝ }
+{
+    let counts = d.counts;
+    let items = 6 * d.vertices + 10 * d.corners + 48 * counts.polys + 28 * counts.portals;
+    Totals {
+        vertices: d.vertices as u32,
+        indices: d.corners as u32,
+        areas: area_count(d.areas),
+        polygons: counts.polys as u32,
+        points,
+        portals: counts.portals as u32,
+        links: d.links as u32,
+        total: bytes + items as u32,
+    }
+}
+
+// The pages of a planned strip, whose sectors have so many bytes. The header is stored last, when all addresses are known.
+fn fill(strip: &[u32], d: Decision, bytes: u32, work: &mut [u32], pages: &mut [u8])
+    requires { ⌜ Ready (now strip) (now work) d × (bytes ≡ byteCount (sectors (cellAt (now strip) (d .counts)))) ⌝ }
+    ensures { λ _. ⌜ Filled (now (strip .entry)) (d .counts) (now (work .entry)) (now (work .exit)) (now (pages .entry)) (now (pages .exit)) ⌝ }
+{
+    let lists = fill_lists(pages, strip, d, work);
+    let rest = fill_rest(pages, strip, d, work, lists.polygons);
+    let a = addresses(d, lists, rest);
+    let n = totals(d, rest.points, bytes);
+    let areas = d.areas;
+    front::put_header(pages, strip, a, n, areas);
+}
+
+// Writes the cell of a strip into the lent pages. A refusal leaves them as they were. Work is for the call's own use: four words to a word of the strip.
+pub fn serialize_ynv(strip: &[u32], work: &mut [u32], pages: &mut [u8]) -> SerializeAnswer
+    ensures answer { λ r. ⌜ paper r ≡ shown (serializeOutcome (now (strip .entry)) (length (now (work .entry))) (length (now (pages .entry)))) ⌝ }
+    ensures pages { λ _. ⌜ now (pages .exit) ≡ left (serializeOutcome (now (strip .entry)) (length (now (work .entry))) (length (now (pages .entry)))) (now (pages .entry)) ⌝ }
+    ensures work { λ _. ⌜ length (now (work .exit)) ≡ length (now (work .entry)) ⌝ }
+{
+    let d = plan::plan(strip, work);
+    if d.fault != 0 {
+        return SerializeAnswer::Refused(Refusal {
+            number: d.fault,
+            place: d.place,
+        });
+    }
+    let reach = front::ends::pages_end(strip, d, work);
+    let length = reach.at;
+    if pages.len() < length {
+        return SerializeAnswer::Refused(Refusal {
+            number: 2,
+            place: 0,
+        });
+    }
+    fill(strip, d, reach.bytes, work, pages);
+    SerializeAnswer::Written(Written { length })
+}

@@ -1,0 +1,77 @@
+//! The cells and pages that are timed and counted, by name.
+
+use rage::ynv::Ynv;
+
+use crate::cells::empty_vehicle;
+use crate::pages::Pages;
+use crate::sizes::{divided, leaping, repeated, scattered, squares, wide, with_empty_parts, with_points};
+
+pub struct Named<T> {
+    pub name: &'static str,
+    pub make: fn() -> T,
+}
+
+const fn named<T>(name: &'static str, make: fn() -> T) -> Named<T> {
+    Named { name, make }
+}
+
+pub fn largest() -> Ynv {
+    squares(16_383, 65_536)
+}
+
+/// Cells by size.
+pub const SIZES: [Named<Ynv>; 8] = [
+    named("the empty vehicle cell", empty_vehicle),
+    named("the empty grid cell", || squares(0, 0)),
+    named("500 polygons, 2,000 vertices", || squares(500, 2000)),
+    named("1,000 polygons, 4,000 vertices", || squares(1000, 4000)),
+    named("2,000 polygons, 8,000 vertices", || squares(2000, 8000)),
+    named("5,000 polygons, 20,000 vertices", || squares(5000, 20_000)),
+    named("10,000 polygons, 40,000 vertices", || squares(10_000, 40_000)),
+    named("the largest: 16,383 polygons, 65,536 vertices", largest),
+];
+
+/// Where a point lies so that each of the 16 leaves gets as many as any other.
+fn in_leaf(n: usize) -> (f32, f32) {
+    (37.5 * (n % 4) as f32 + 1.0, 37.5 * (n / 4 % 4) as f32 + 1.0)
+}
+
+/// Cells that cost the writer more than their size says.
+pub const COSTLY: [Named<Ynv>; 4] = [
+    named("16,383 polygons, vertices at random", || scattered(16_383)),
+    named("8,192 polygons in each of 16 leaves", || wide(8192)),
+    named("2,048 points in each of 16 leaves", || with_points(16 * 2048, in_leaf)),
+    named("100,000 points in no leaf", || with_points(100_000, |_| (-900.0, 0.0))),
+];
+
+fn cell() -> Pages {
+    Pages::written(&squares(5000, 20_000))
+}
+
+fn in_parts(most: u32) -> Pages {
+    divided(cell(), &[1, 2, 3, 4], most)
+}
+
+fn leaps_in_parts(most: u32) -> Pages {
+    divided(leaping(cell()), &[1], most)
+}
+
+/// The reader's greatest vectors on the other side.
+pub fn vertices_repeated() -> Pages {
+    repeated(cell(), 1, 100)
+}
+
+/// The pages of 5,000 polygons and 20,000 vertices with other part tables.
+pub const PART_TABLES: [Named<Pages>; 11] = [
+    named("as written", cell),
+    named("every list in parts of 64", || in_parts(64)),
+    named("every list in parts of 8", || in_parts(8)),
+    named("every list in parts of 1", || in_parts(1)),
+    named("indices leap from the first vertex to the last", || leaping(cell())),
+    named("the same, vertices in parts of 64", || leaps_in_parts(64)),
+    named("the same, vertices in parts of 8", || leaps_in_parts(8)),
+    named("the same, vertices in parts of 1", || leaps_in_parts(1)),
+    named("the same, 10,000 empty vertex parts between", || with_empty_parts(leaping(cell()), 10_000)),
+    named("vertex parts named 100 times over", vertices_repeated),
+    named("polygon parts named 10 times over", || repeated(cell(), 4, 10)),
+];

@@ -1,0 +1,137 @@
+//! Compares `cell_for_position` and `cell_bounds` with the Rust itself, and `count_seams`
+//! with the judge. Prints cases and differences per function; exits 1 if there is any
+//! difference.
+
+use std::process::exit;
+
+use cases::floats::{any, ODD};
+use cases::{damage, Rng};
+use compare::ffi_ynv;
+use compare::tally::Tally;
+use rage::ynv;
+use strips::{encode, seams, Refusal};
+
+/// What stands in the answer before a call.
+const DIRTY: [u64; 8] = [0xD1_5EA5ED; 8];
+
+/// The number and the answer that a call must leave.
+fn expected<const N: usize>(values: Result<[u64; N], Refusal>) -> (u32, [u64; 8]) {
+    match values {
+        Ok(values) => {
+            let mut answer = [0; 8];
+            answer[..N].copy_from_slice(&values);
+            (0, answer)
+        }
+        Err(refusal) => {
+            let mut answer = DIRTY;
+            answer[0] = refusal.place as u64;
+            (refusal.number, answer)
+        }
+    }
+}
+
+fn called(call: impl FnOnce(&mut [u64; 8]) -> u32) -> (u32, [u64; 8]) {
+    let mut answer = DIRTY;
+    (call(&mut answer), answer)
+}
+
+/// A coordinate at a border of the grid's cells, or `off` floats beside it.
+fn beside_border(k: i32, off: i32) -> f32 {
+    let x = -6000.0 + 150.0 * k as f32;
+    f32::from_bits(x.to_bits().wrapping_add_signed(off))
+}
+
+fn cell_for_position() -> u64 {
+    let mut tally = Tally::new("cell_for_position");
+    let mut one = |x: f32, y: f32| {
+        let (cx, cy) = ynv::cell_for_position(x, y);
+        let ours = called(|answer| ffi_ynv::cell_for_position(x, y, answer));
+        tally.compare((x.to_bits(), y.to_bits()), ours, expected(Ok([u64::from(cx), u64::from(cy)])));
+    };
+    let mut floats: Vec<f32> = ODD.map(f32::from_bits).to_vec();
+    floats.extend([1e-30, -1e-30, 9000.0, -6150.0, 3e9, -3e9]);
+    floats.extend((-2..103).flat_map(|k| (-3..4).map(move |off| beside_border(k, off))));
+    for &x in &floats {
+        for &y in &floats {
+            one(x, y);
+        }
+    }
+    let mut rng = Rng::new(21);
+    for _ in 0..600_000 {
+        let near = beside_border(rng.below(105) as i32 - 2, rng.below(4001) as i32 - 2000);
+        let (x, y) = (any(&mut rng), any(&mut rng));
+        one(x, y);
+        one(near, x);
+        one(y, near);
+    }
+    tally.done()
+}
+
+fn cell_bounds() -> u64 {
+    let mut tally = Tally::new("cell_bounds");
+    let mut one = |cx: u32, cy: u32| {
+        let (x0, y0, x1, y1) = ynv::cell_bounds(cx, cy);
+        let sides = [x0, y0, x1, y1].map(|side| u64::from(side.to_bits()));
+        // Document 01 adds the refusal.
+        let judged = if cx > 99 || cy > 99 { Err(Refusal::new(5, 0)) } else { Ok(sides) };
+        tally.compare((cx, cy), called(|answer| ffi_ynv::cell_bounds(cx, cy, answer)), expected(judged));
+    };
+    for cx in 0..1000 {
+        for cy in 0..1000 {
+            one(cx, cy);
+        }
+    }
+    let mut rng = Rng::new(22);
+    for _ in 0..100_000 {
+        let far = rng.pick(&[100, 101, 255, 256, 65_535, 65_536, 1 << 31, u32::MAX]);
+        let (some, near) = (rng.u32(), rng.below(100) as u32);
+        one(far, near);
+        one(near, far);
+        one(some, near);
+        one(near, some);
+    }
+    tally.done()
+}
+
+/// How far apart areas are tried, both ways and wrapping.
+const APART: [u32; 12] = [0, 1, 1, 1, 2, 10, 99, 100, 100, 101, 16_383, 1 << 31];
+
+/// A well-formed strip whose halves lie in and beside the cell's row and column.
+fn neighbours(rng: &mut Rng) -> Vec<u32> {
+    let mut cell = damage::small(rng);
+    if rng.once_in(2) {
+        cell.area_id = rng.pick(&[0, 1, 99, 100, 9_999, 10_000, 16_283, 16_382, 16_383, u32::MAX, u32::MAX - 99]);
+    }
+    let own = cell.area_id;
+    for edge in cell.polys.iter_mut().flat_map(|poly| &mut poly.edges) {
+        for half in [&mut edge.a, &mut edge.b] {
+            if !rng.once_in(8) {
+                let apart = rng.pick(&APART);
+                half.area_id = if rng.once_in(2) { own.wrapping_add(apart) } else { own.wrapping_sub(apart) };
+            }
+        }
+    }
+    encode(&cell)
+}
+
+fn count_seams() -> u64 {
+    let mut tally = Tally::new("count_seams");
+    let mut rng = Rng::new(23);
+    let mut halves = 0;
+    for n in 0..1_200_000 {
+        let strip = if n % 2 == 0 { neighbours(&mut rng) } else { damage::strip(&mut rng) };
+        let judged = seams(&strip);
+        halves += judged.unwrap_or(0);
+        let ours = called(|answer| ffi_ynv::count_seams(&strip, answer));
+        tally.compare(&strip, ours, expected(judged.map(|count| [count])));
+    }
+    println!("{halves} halves counted");
+    tally.done()
+}
+
+fn main() {
+    println!("libynv.a, compared with the Rust (count_seams: with the judge)");
+    if cell_for_position() + cell_bounds() + count_seams() > 0 {
+        exit(1);
+    }
+}

@@ -1,0 +1,128 @@
+//! Compares the writer with the Rust: cells at the limits, and 200,000 seeded strips (or as
+//! many as the first argument says, from the case that the second says). Each with room and
+//! work exactly enough, room one byte short, more of both, work one word short, and any
+//! less; what is accepted is read back, with nothing and with dirty bytes behind the
+//! pages and a random graphics section beside them. Prints how often each number was
+//! answered, by shape, and what differs; exits 1 if anything does.
+
+use std::collections::BTreeMap;
+use std::env;
+use std::process::exit;
+
+use cases::writing::SHAPES;
+use cases::{limits, Rng};
+use compare::under_test::WRITER;
+use compare::writing::{call, Reread, Write};
+use strips::encode;
+
+const CASES: u64 = 200_000;
+const MOST_PRINTED: u64 = 20;
+
+/// Cases by number answered when work and room suffice, by shape; the calls with too little
+/// stand under 1 and 2.
+#[derive(Default)]
+struct Tally {
+    seen: BTreeMap<&'static str, BTreeMap<u32, u64>>,
+    cases: u64,
+    calls: u64,
+    read_back: u64,
+    differences: u64,
+}
+
+impl Tally {
+    fn differs(&mut self, shape: &str, name: &str, text: String) {
+        self.differences += 1;
+        if self.differences <= MOST_PRINTED {
+            println!("DIFFERENT: {shape}, {name}: {text}");
+        }
+    }
+
+    fn case(&mut self, shape: &'static str, name: &str, strip: &[u32], rng: &mut Rng) {
+        let write = Write::of(strip);
+        let enough = if let Write::Bytes(bytes) = &write { bytes.len() } else { rng.below(800) };
+        let (work, more) = (4 * strip.len(), 1 + rng.below(200));
+        let some = if rng.once_in(2) { work } else { rng.below(work + 1) };
+        self.cases += 1;
+        let lent = [
+            (work, enough),
+            (work, enough.saturating_sub(1)),
+            (work + more, enough + more),
+            (work.saturating_sub(1), enough),
+            (some, rng.below(enough + 1)),
+        ];
+        let mut written = Vec::new();
+        for (n, (work, room)) in lent.into_iter().enumerate() {
+            self.calls += 1;
+            match call(strip, &write, work, room) {
+                Ok((number, pages)) => {
+                    if n == 0 || number == 1 || number == 2 {
+                        *self.seen.entry(shape).or_default().entry(number).or_insert(0) += 1;
+                    }
+                    if number == 0 {
+                        written.push(pages);
+                    }
+                }
+                Err(text) => self.differs(shape, name, format!("{work} words of work, {room} bytes: {text}")),
+            }
+        }
+        if !written.is_empty() {
+            self.read_back(shape, name, strip, &written, rng);
+        }
+    }
+
+    /// Reads each of the lent pages, whole: the longer ones have dirty bytes behind.
+    fn read_back(&mut self, shape: &str, name: &str, strip: &[u32], written: &[Vec<u8>], rng: &mut Rng) {
+        let reread = Reread::of(strip);
+        let graphics: Vec<u8> = (0..rng.below(600)).map(|_| rng.u32() as u8).collect();
+        for pages in written {
+            self.read_back += 1;
+            if let Err(text) = reread.call(pages, &graphics) {
+                self.differs(shape, name, text);
+            }
+        }
+    }
+
+    fn print(&self) {
+        for (shape, seen) in &self.seen {
+            let numbers: Vec<String> = seen.iter().map(|(number, count)| format!("{number}: {count}")).collect();
+            println!("{shape}: {}", numbers.join(", "));
+        }
+        let mut all = BTreeMap::new();
+        for (&number, &count) in self.seen.values().flatten() {
+            *all.entry(number).or_insert(0) += count;
+        }
+        println!("all, by number (0: accepted; 1, 2: calls with too little): {all:?}");
+        println!(
+            "{} cases, {} calls, {} pages read back, {} differences",
+            self.cases, self.calls, self.read_back, self.differences
+        );
+    }
+}
+
+/// A number given as an argument.
+fn argument(n: usize, default: u64) -> u64 {
+    let Some(text) = env::args().nth(n) else { return default };
+    text.parse().unwrap_or_else(|_| {
+        eprintln!("usage: writing [COUNT [FIRST]]");
+        exit(2)
+    })
+}
+
+fn main() {
+    let (count, first) = (argument(1, CASES), argument(2, 0));
+    println!("{WRITER} against the Rust and document 01");
+    let mut tally = Tally::default();
+    for limit in limits::all() {
+        tally.case("at the limits", limit.name, &encode(&limit.cell), &mut Rng::new(1));
+    }
+    for n in first..first + count {
+        let (shape, make) = SHAPES[n as usize % SHAPES.len()];
+        let mut rng = Rng::new(0x57_5249 + (n << 32));
+        let strip = make(&mut rng);
+        tally.case(shape, &format!("case {n}"), &strip, &mut rng);
+    }
+    tally.print();
+    if tally.differences != 0 {
+        exit(1);
+    }
+}
