@@ -1,6 +1,7 @@
 //! What the programs share: the libraries' entries, the functions under test, the
 //! Rust's own values, and the lists of vectors.
 
+pub mod arguments;
 #[cfg(feature = "lib")]
 pub mod ffi;
 #[cfg(feature = "ynv")]

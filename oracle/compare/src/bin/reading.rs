@@ -5,11 +5,11 @@
 //! differs; exits 1 if anything does.
 
 use std::collections::BTreeMap;
-use std::env;
 use std::process::exit;
 
 use cases::pages::{self, Pages, SHAPES};
 use cases::{limits, Rng};
+use compare::arguments::count_and_first;
 use compare::reading::{call, Read};
 use compare::under_test::READER;
 
@@ -64,17 +64,8 @@ impl Tally {
     }
 }
 
-/// A number given as an argument.
-fn argument(n: usize, default: u64) -> u64 {
-    let Some(text) = env::args().nth(n) else { return default };
-    text.parse().unwrap_or_else(|_| {
-        eprintln!("usage: reading [COUNT [FIRST]]");
-        exit(2)
-    })
-}
-
 fn main() {
-    let (count, first) = (argument(1, CASES), argument(2, 0));
+    let (count, first) = count_and_first("reading", CASES);
     println!("{READER} against the Rust and document 01");
     let mut tally = Tally::default();
     for case in pages::fixed().into_iter().chain(pages::fixed_of(&pages::vehicle_sample())) {

@@ -7,12 +7,12 @@
 //! counted before it is written.
 
 use std::collections::BTreeMap;
-use std::env;
 use std::process::exit;
 use std::thread::{scope, Builder};
 
 use cases::pages::{self, Pages};
 use cases::{damage, writing, Rng};
+use compare::arguments::count_and_first;
 use compare::guarded::{Lender, Place, PLACES};
 use compare::under_test::{count_seams, parse, serialize, READER};
 
@@ -211,17 +211,8 @@ impl Tally {
     }
 }
 
-/// A number given as an argument.
-fn argument(n: usize, default: u64) -> u64 {
-    let Some(text) = env::args().nth(n) else { return default };
-    text.parse().unwrap_or_else(|_| {
-        eprintln!("usage: robust [COUNT [FIRST]]");
-        exit(2)
-    })
-}
-
 fn main() {
-    let (count, first) = (argument(1, CASES), argument(2, 0));
+    let (count, first) = count_and_first("robust", CASES);
     println!("{READER}: {count} damaged pages and {count} strips from case {first} on");
     let mut tally = Tally::default();
     for from in (first..first + count).step_by(BATCH as usize) {

@@ -6,11 +6,11 @@
 //! answered, by shape, and what differs; exits 1 if anything does.
 
 use std::collections::BTreeMap;
-use std::env;
 use std::process::exit;
 
 use cases::writing::SHAPES;
 use cases::{limits, Rng};
+use compare::arguments::count_and_first;
 use compare::under_test::WRITER;
 use compare::writing::{call, Reread, Write};
 use strips::encode;
@@ -99,17 +99,8 @@ impl Tally {
     }
 }
 
-/// A number given as an argument.
-fn argument(n: usize, default: u64) -> u64 {
-    let Some(text) = env::args().nth(n) else { return default };
-    text.parse().unwrap_or_else(|_| {
-        eprintln!("usage: writing [COUNT [FIRST]]");
-        exit(2)
-    })
-}
-
 fn main() {
-    let (count, first) = (argument(1, CASES), argument(2, 0));
+    let (count, first) = count_and_first("writing", CASES);
     println!("{WRITER} against the Rust and document 01");
     let mut tally = Tally::default();
     for limit in limits::all() {
