@@ -1,4 +1,4 @@
--- What the layout promises of the pages that blocks make, and the scope document's example of it. Statements only: proofs/Placed.antt shows them.
+-- What the layout promises of the pages that blocks make. Statements only: proofs/Placed.antt shows them.
 use Prim.Native.Nat.{ℕ, _+_, _*_, _%_, _≤_, _<_}
 use mathlib.Core.Path.{_≡_}
 use mathlib.Core.List.{List, [], _∷_}

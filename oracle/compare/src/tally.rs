@@ -1,5 +1,7 @@
-//! Counts what was compared of a function, and shows its first differences.
+//! Counts what was compared, and shows the first differences: of one function, and of calls
+//! that answer with a number.
 
+use std::collections::BTreeMap;
 use std::fmt::Debug;
 
 /// Differences shown per function.
@@ -31,5 +33,41 @@ impl Tally {
     pub fn done(self) -> u64 {
         println!("{:<18} {:>9} cases {:>9} differences", self.name, self.cases, self.differences);
         self.differences
+    }
+}
+
+/// Differences shown of calls.
+const CALLS_SHOWN: u64 = 20;
+
+/// Calls by shape of the case and by number answered.
+#[derive(Default)]
+pub struct ByNumber {
+    seen: BTreeMap<&'static str, BTreeMap<u32, u64>>,
+    pub differences: u64,
+}
+
+impl ByNumber {
+    pub fn seen(&mut self, shape: &'static str, number: u32) {
+        *self.seen.entry(shape).or_default().entry(number).or_insert(0) += 1;
+    }
+
+    pub fn differs(&mut self, shape: &str, name: &str, text: String) {
+        self.differences += 1;
+        if self.differences <= CALLS_SHOWN {
+            println!("DIFFERENT: {shape}, {name}: {text}");
+        }
+    }
+
+    /// A line for each shape, and one for all; `note` says what some numbers mean.
+    pub fn print(&self, note: &str) {
+        let mut all = BTreeMap::new();
+        for (shape, seen) in &self.seen {
+            let numbers: Vec<String> = seen.iter().map(|(number, count)| format!("{number}: {count}")).collect();
+            println!("{shape}: {}", numbers.join(", "));
+            for (&number, &count) in seen {
+                *all.entry(number).or_insert(0) += count;
+            }
+        }
+        println!("all, by number (0: accepted; {note}): {all:?}");
     }
 }

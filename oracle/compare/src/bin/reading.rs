@@ -4,26 +4,24 @@
 //! ones with three lengths. Prints how often each number was answered, by shape, and what
 //! differs; exits 1 if anything does.
 
-use std::collections::BTreeMap;
 use std::process::exit;
 
 use cases::pages::{self, Pages, SHAPES};
 use cases::{limits, Rng};
 use compare::arguments::count_and_first;
 use compare::reading::{call, Read};
+use compare::tally::ByNumber;
 use compare::under_test::READER;
 
 const CASES: u64 = 200_000;
-const MOST_PRINTED: u64 = 20;
 
 /// Cases by number answered when the strip is long enough, by shape; the calls with a
 /// strip too short stand under 2.
 #[derive(Default)]
 struct Tally {
-    seen: BTreeMap<&'static str, BTreeMap<u32, u64>>,
+    numbers: ByNumber,
     cases: u64,
     calls: u64,
-    differences: u64,
 }
 
 impl Tally {
@@ -33,34 +31,20 @@ impl Tally {
             Read::Refused(_) => [0, 1 + more, 15 + 3 * more],
             Read::Strip { words, .. } => [words.len(), words.len() - 1, words.len() + 1 + more],
         };
-        let seen = self.seen.entry(shape).or_default();
         self.cases += 1;
         for (n, length) in lengths.into_iter().enumerate() {
             self.calls += 1;
             match call(pages, &read, length) {
-                Ok(number) if n == 0 || number == 2 => *seen.entry(number).or_insert(0) += 1,
+                Ok(number) if n == 0 || number == 2 => self.numbers.seen(shape, number),
                 Ok(_) => {}
-                Err(text) => {
-                    self.differences += 1;
-                    if self.differences <= MOST_PRINTED {
-                        println!("DIFFERENT: {shape}, {name}, strip of {length} words: {text}");
-                    }
-                }
+                Err(text) => self.numbers.differs(shape, name, format!("strip of {length} words: {text}")),
             }
         }
     }
 
     fn print(&self) {
-        for (shape, seen) in &self.seen {
-            let numbers: Vec<String> = seen.iter().map(|(number, count)| format!("{number}: {count}")).collect();
-            println!("{shape}: {}", numbers.join(", "));
-        }
-        let mut all = BTreeMap::new();
-        for (&number, &count) in self.seen.values().flatten() {
-            *all.entry(number).or_insert(0) += count;
-        }
-        println!("all, by number (0: accepted; 2: a strip one word short): {all:?}");
-        println!("{} cases, {} calls, {} differences", self.cases, self.calls, self.differences);
+        self.numbers.print("2: a strip one word short");
+        println!("{} cases, {} calls, {} differences", self.cases, self.calls, self.numbers.differences);
     }
 }
 
@@ -81,7 +65,7 @@ fn main() {
         tally.case(shape, &format!("case {n}"), &pages, rng.below(40));
     }
     tally.print();
-    if tally.differences != 0 {
+    if tally.numbers.differences != 0 {
         exit(1);
     }
 }

@@ -5,38 +5,29 @@
 //! pages and a random graphics section beside them. Prints how often each number was
 //! answered, by shape, and what differs; exits 1 if anything does.
 
-use std::collections::BTreeMap;
 use std::process::exit;
 
 use cases::writing::SHAPES;
 use cases::{limits, Rng};
 use compare::arguments::count_and_first;
+use compare::tally::ByNumber;
 use compare::under_test::WRITER;
 use compare::writing::{call, Reread, Write};
 use strips::encode;
 
 const CASES: u64 = 200_000;
-const MOST_PRINTED: u64 = 20;
 
 /// Cases by number answered when work and room suffice, by shape; the calls with too little
 /// stand under 1 and 2.
 #[derive(Default)]
 struct Tally {
-    seen: BTreeMap<&'static str, BTreeMap<u32, u64>>,
+    numbers: ByNumber,
     cases: u64,
     calls: u64,
     read_back: u64,
-    differences: u64,
 }
 
 impl Tally {
-    fn differs(&mut self, shape: &str, name: &str, text: String) {
-        self.differences += 1;
-        if self.differences <= MOST_PRINTED {
-            println!("DIFFERENT: {shape}, {name}: {text}");
-        }
-    }
-
     fn case(&mut self, shape: &'static str, name: &str, strip: &[u32], rng: &mut Rng) {
         let write = Write::of(strip);
         let enough = if let Write::Bytes(bytes) = &write { bytes.len() } else { rng.below(800) };
@@ -56,13 +47,13 @@ impl Tally {
             match call(strip, &write, work, room) {
                 Ok((number, pages)) => {
                     if n == 0 || number == 1 || number == 2 {
-                        *self.seen.entry(shape).or_default().entry(number).or_insert(0) += 1;
+                        self.numbers.seen(shape, number);
                     }
                     if number == 0 {
                         written.push(pages);
                     }
                 }
-                Err(text) => self.differs(shape, name, format!("{work} words of work, {room} bytes: {text}")),
+                Err(text) => self.numbers.differs(shape, name, format!("{work} words of work, {room} bytes: {text}")),
             }
         }
         if !written.is_empty() {
@@ -77,24 +68,16 @@ impl Tally {
         for pages in written {
             self.read_back += 1;
             if let Err(text) = reread.call(pages, &graphics) {
-                self.differs(shape, name, text);
+                self.numbers.differs(shape, name, text);
             }
         }
     }
 
     fn print(&self) {
-        for (shape, seen) in &self.seen {
-            let numbers: Vec<String> = seen.iter().map(|(number, count)| format!("{number}: {count}")).collect();
-            println!("{shape}: {}", numbers.join(", "));
-        }
-        let mut all = BTreeMap::new();
-        for (&number, &count) in self.seen.values().flatten() {
-            *all.entry(number).or_insert(0) += count;
-        }
-        println!("all, by number (0: accepted; 1, 2: calls with too little): {all:?}");
+        self.numbers.print("1, 2: calls with too little");
         println!(
             "{} cases, {} calls, {} pages read back, {} differences",
-            self.cases, self.calls, self.read_back, self.differences
+            self.cases, self.calls, self.read_back, self.numbers.differences
         );
     }
 }
@@ -113,7 +96,7 @@ fn main() {
         tally.case(shape, &format!("case {n}"), &strip, &mut rng);
     }
     tally.print();
-    if tally.differences != 0 {
+    if tally.numbers.differences != 0 {
         exit(1);
     }
 }
