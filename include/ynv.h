@@ -37,11 +37,14 @@ extern "C" {
 #endif
 
 /* Reads a cell's pages into `strip`.
- * Answer: words of the strip, polygons, portals, points, sectors visited.
+ * Answer: words of the strip, polygons, portals, points, sectors visited. The cell is answer[0] words: to write it again,
+ * lend ynv_serialize so many and not the whole buffer, whose rest is as it was.
  * Refusals: 30 header; 31, 32, 33 sector tree; 34 a sector's data or points; 35, 36 lists (place: 1 vertices,
  * 2 indices, 3 edges, 4 polygons); 37, 38 a polygon (place: its number); 39 portals; 40 box; 2 the strip is too short.
- * Lend: ynv_strip_words() words are enough for pages that ynv_serialize wrote. Pages from elsewhere may let polygons
- * share their vertices' run and so hold a longer cell: at 2, lend more and call again. */
+ * Lend: with ynv_strip_words() words 2 never comes for pages that ynv_serialize wrote, which is proved. Pages from
+ * elsewhere may let polygons share their vertices' run and so hold a longer cell: at 2, lend more and call again.
+ * Time: grows with what the pages name, not with their length. Pages of 64 KB that name the same polygons again and
+ * again are looked through for seconds before they are refused. */
 uint32_t ynv_parse(const uint8_t *system, size_t system_len, const uint8_t *graphics, size_t graphics_len,
                    uint32_t *strip, size_t strip_len, uint64_t answer[8]);
 
@@ -49,8 +52,9 @@ uint32_t ynv_parse(const uint8_t *system, size_t system_len, const uint8_t *grap
  * Answer: length of the pages in bytes.
  * Refusals: 3 badly formed strip (place: word); 1 too little work; 10 box; 11, 19, 20 too many polygons, portals or
  * links; 12 to 16 a polygon (place: its number); 17, 18 a leaf (place: its number); 2 the pages' room is too short.
- * Lend: ynv_work_words() words of work, with which 1 never comes, and ynv_pages_bytes() bytes of pages. YNV_MOST_BYTES are
- * enough for every cell, which is proved; that the smaller bound is, the comment at ynv_pages_bytes argues. */
+ * Lend: ynv_work_words() words of work and ynv_pages_bytes() bytes of pages. With so much neither 1 nor 2 ever comes,
+ * which is proved.
+ * Time: milliseconds for the largest cells, seconds for vertices that were chosen to share a chain of the vertex table. */
 uint32_t ynv_serialize(const uint32_t *strip, size_t strip_len, uint32_t *work, size_t work_len,
                        uint8_t *pages, size_t pages_len, uint64_t answer[8]);
 
@@ -78,7 +82,7 @@ uint32_t ynv_cell_bounds(uint32_t cx, uint32_t cy, uint64_t answer[8]);
 #define YNV_MOST_BYTES ((size_t)6553600)
 
 /* Words of strip to lend for such pages: one for each byte of both sections, since every record takes at least as many
- * bytes in pages as words in a strip. */
+ * bytes in pages as words in a strip (proved: crate `rooms`, strip-room). */
 static inline size_t ynv_strip_words(size_t system_len, size_t graphics_len)
 {
     if (system_len >= YNV_MOST_WORDS || graphics_len >= YNV_MOST_WORDS - system_len)
@@ -92,9 +96,9 @@ static inline size_t ynv_work_words(size_t strip_len)
     return 4 * strip_len;
 }
 
-/* Bytes of pages to lend for a strip, from its length alone. The dearest words are a triangle's, 128 bytes to 13 words;
- * list headers, sectors, tables and alignment take less than 4,096 bytes more; and skipping to the next page at most
- * doubles the whole. */
+/* Bytes of pages to lend for a strip, from its length alone (proved: crate `rooms`, pages-room). A block and what is
+ * skipped before it take at most twice its bytes and 15. The dearest words are a triangle's, 128 bytes to 13 words;
+ * header, list headers and sectors, which every cell has, take less than 8,192 bytes with what is skipped. */
 static inline size_t ynv_pages_bytes(size_t strip_len)
 {
     return strip_len > (YNV_MOST_BYTES - 8192) / 20 ? YNV_MOST_BYTES : 20 * strip_len + 8192;

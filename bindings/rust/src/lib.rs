@@ -120,7 +120,7 @@ pub fn parse_into(system: &[u8], graphics: &[u8], strip: &mut [u32]) -> Result<C
 
 /// Writes a strip's cell as pages, a system section.
 ///
-/// It lends [`work_words`] and [`pages_bytes`], so it is refused neither with 1 nor with 2.
+/// It lends [`work_words`] and [`pages_bytes`], so it is refused neither with 1 nor with 2, which is proved.
 ///
 /// ```
 /// let refusal = ynv::serialize(&[1 << 28]).unwrap_err();
@@ -206,7 +206,7 @@ pub fn cell_bounds(cx: u32, cy: u32) -> Result<(f32, f32, f32, f32), Refusal> {
 }
 
 /// Words of strip to lend for pages that [`serialize`] wrote: one for each byte, since every record takes at least as
-/// many bytes in pages as words in a strip; at most [`MOST_WORDS`].
+/// many bytes in pages as words in a strip; at most [`MOST_WORDS`]. That it is enough is proved.
 ///
 /// ```
 /// assert_eq!(ynv::strip_words(&[0; 688], &[]), 688);
@@ -226,8 +226,9 @@ pub fn work_words(strip: &[u32]) -> usize {
 
 /// Bytes of pages to lend for a strip, from its length alone: 20 for each word and 8,192, at most [`MOST_BYTES`].
 ///
-/// The dearest words are a triangle's, 128 bytes to 13 words; list headers, sectors, tables and alignment take less
-/// than 4,096 bytes more; and skipping to the next page at most doubles the whole.
+/// That it is enough is proved. A block and what is skipped before it take at most twice its bytes and 15. The dearest
+/// words are a triangle's, 128 bytes to 13 words; header, list headers and sectors, which every cell has, take less than
+/// 8,192 bytes with what is skipped.
 ///
 /// ```
 /// assert_eq!(ynv::pages_bytes(&[0; 15]), 8_492);

@@ -8,7 +8,7 @@ use mathlib.Core.List.{List, [], _∷_}
 use lib.ListN.{length, set, take, length-take, length-append}
 use borrow.Author.Tests.{lt-ltb, le-ltb}
 use Rattle.fields.specs.Bytes.{over}
-use Rattle.areas.proofs.Over.{over-own, over-one, take-over}
+use Rattle.fields.proofs.Over.{over-own, over-one, take-over}
 use Rattle.distinct.specs.Distinct.{indexOf, isIn, upTo}
 use Rattle.distinct.proofs.Laws.{index-most, up-old, up-new, up-full, up-most}
 use Rattle.areas.specs.Areas.{entryOf}

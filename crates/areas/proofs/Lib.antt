@@ -1,4 +1,3 @@
-pub mod Over
 pub mod Ids
 pub mod Seeds
 pub mod EdgeHalf

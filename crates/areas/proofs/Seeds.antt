@@ -1,4 +1,4 @@
--- The seeds: own id and none are always among them, and a turn of `seed_areas`, where what is left of them, added from here, makes the whole.
+-- The seeds: at most six, and a turn of `seed_areas`, where what is left of them, added from here, makes the whole.
 use Prim.Native.Nat.{ℕ, _+_, _-_, _^_, _%_, _≤_, _<_}
 use native.Mathlib.Omega.{arith}
 use native.Mathlib.Numerals.{add-one}
@@ -7,21 +7,23 @@ use mathlib.Core.List.{List, [], _∷_}
 use lib.ListN.{length, getD, take, drop, length-append}
 use lib.Seq.{drop-cons, drop-length, length-take-le}
 use Rattle.fields.specs.Bytes.{over, zeros}
+use Rattle.fields.proofs.Over.{length-over, take-over, over-longer}
 use Rattle.distinct.specs.Distinct.{withNew, upTo, distinctFrom}
 use Rattle.distinct.proofs.Laws.{length-with, up-room}
-use Rattle.distinct.proofs.Final.{In, with-grows, each-in, length-distinct}
+use Rattle.distinct.proofs.Final.{with-grows, length-distinct}
 use Rattle.areas.specs.Areas.{wrap, seeds, seeded, entryOf, stored}
+use Rattle.areas.specs.declared.Areas.{Areas}
 use Rattle.areas.specs.declared.Entry.{Entry}
-use Rattle.areas.proofs.Over.{length-over, take-over, over-longer}
-
-pub own-seeded : (a : ℕ) → In (seeded a) a
-own-seeded a = each-in [] (seeds a) 0 (omega arith)
-
-pub none-seeded : (a : ℕ) → In (seeded a) 16383
-none-seeded a = each-in [] (seeds a) 1 (omega arith)
 
 pub length-seeded : (a : ℕ) → length (seeded a) ≤ 6
 length-seeded a = length-distinct [] (seeds a)
+
+-- the table that they make: 32 words, and what stands in it
+pub seeds-long : (a : ℕ) (r : Areas) → r ≡ stored (seeded a) (zeros 32) → length (r .ids) ≡ 32
+seeds-long a r e = rw e (length-over (seeded a) (zeros 32))
+
+pub seeds-are : (a : ℕ) (r : Areas) → r ≡ stored (seeded a) (zeros 32) → take (r .len) (r .ids) ≡ seeded a
+seeds-are a r e = rw e (take-over (seeded a) (zeros 32) (omega (arith, length-seeded a)))
 
 -- before the seed at i of xs, the first `len` words of `ids` being the table so far
 pub record Seeding (xs ids : List ℕ) (len i : ℕ) : Type 0 where

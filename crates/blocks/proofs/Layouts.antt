@@ -3,7 +3,6 @@ use mathlib.Core.Path.{_≡_, refl, sym, ap, subst, _∙_}
 use mathlib.Core.Bool.{Bool, true, false, cond}
 use mathlib.Core.List.{List, [], _∷_, _++_, append-nil, append-assoc}
 use Prim.Native.Nat.{ℕ, suc, _+_, _-_, _%_, _*_, _≤_, _<_}
-use native.Mathlib.Nat.{zero-add}
 use native.Mathlib.Omega.{arith}
 use borrow.Author.Tests.{leb-true, leb-false}
 use lib.Dec.{leb}
@@ -165,9 +164,6 @@ laid-before {l} {m} {r} {n} {b} {bs} {xs} {ys} e k f =
     }
 
 -- ---- what is laid out from the beginning on are the pages, and the rest stays
-
-pub pages-end : {l r : Layout} {bs : List (List ℕ)} {xs ys : List ℕ} → l .at ≡ 0 → Laid l bs r xs ys → r .at ≡ length (pagesOf bs)
-pages-end {l} {r} {bs} e f = f .ends ∙ ap (λ (k : ℕ). endOf k (lengths bs)) e ∙ sym (length-blocks 0 bs) ∙ zero-add (length (pagesOf bs))
 
 pub laid-pages : {l r : Layout} (bs : List (List ℕ)) {xs ys : List ℕ} → l .at ≡ 0 → Laid l bs r xs ys → length (pagesOf bs) ≤ length xs
     → ys ≡ pagesOf bs ++ drop (length (pagesOf bs)) xs

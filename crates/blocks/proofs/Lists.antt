@@ -1,11 +1,11 @@
 -- The laws of a list's blocks: sizes and lengths, what one turn of a loop over the parts does, and how a list is put together.
 use mathlib.Core.Path.{_≡_, refl, sym, ap, subst, _∙_}
-use mathlib.Core.List.{List, [], _∷_, _++_, map, append-assoc}
+use mathlib.Core.List.{List, [], _∷_, _++_, map}
 use Prim.Native.Nat.{ℕ, zero, suc, _+_, _-_, _*_, _/_, _%_, _^_, _≤_, _<_, min}
 use native.Mathlib.Omega.{arith}
 use native.Mathlib.Nat.{mul-le-mul-left, mul-zero, mul-suc, div-le-self, mul-div-le, le-div-iff-mul-le, div-lt-iff-lt-mul, div-add-mod, mul-add-div, add-mul}
 use lib.ListN.{length, length-append, take, drop, length-drop}
-use lib.Seq.{length-take-le, take-add, take-at, drop-at}
+use lib.Seq.{length-take-le, take-at, drop-at}
 use Rattle.fields.specs.Bytes.{les, leBytes, cat, cut, put}
 use Rattle.fields.specs.Rows.{rowBytes}
 use Rattle.fields.proofs.Bytes.{length-les}
@@ -15,7 +15,7 @@ use Rattle.blocks.specs.Layout.{address, placeOf, behind, endOf, lengths
 use Rattle.blocks.specs.Lists.{perPart, partCount, counts, chunks, firsts, sizes, partSizes, offsetSizes, listSizes, tableAt, partsFrom, itemsEnd, offsetsAddress, listRow, partRow, tableBytes, frontBlocks, partBlocks, offsetBlocks, listBlocks, Wide, Room}
 use Rattle.blocks.specs.Placed.{Small}
 use Rattle.blocks.specs.declared.Layout.{Layout}
-use Rattle.blocks.proofs.Layouts.{place-ge, end-ge, end-append, end-near, small-append, lengths-append, laid-then, one-end}
+use Rattle.blocks.proofs.Layouts.{place-ge, end-ge, end-append, small-append, lengths-append, laid-then, one-end}
 
 -- ---- how many items a part takes, and how many parts n items take
 
@@ -82,11 +82,6 @@ module _ (per k i left m : ℕ) (h : i < k) (is : m ≡ min per left) where
 
 -- ---- items in a row
 
-pub cat-append {ℓ} : {A : Type ℓ} (xs ys : List (List A)) → cat (xs ++ ys) ≡ cat xs ++ cat ys
-unfolding cat
-cat-append [] ys = refl
-cat-append (x ∷ xs) ys = rw (cat-append xs ys, append-assoc)
-
 pub length-cat : (w : ℕ) (items : List (List ℕ)) → Wide w items → length (cat items) ≡ w * length items
 unfolding cat
 length-cat w [] h = rw mul-zero
@@ -102,25 +97,7 @@ wide-drop w zero items h = h
 wide-drop w (suc m) [] h = tt
 wide-drop w (suc m) (b ∷ items) h = wide-drop w m items (h .1)
 
--- those that are cut from a row
-
-pub wide-cut : (w n : ℕ) (xs : List ℕ) → w * n ≤ length xs → Wide w (cut w n xs)
-unfolding cut
-wide-cut w zero xs h = tt
-wide-cut w (suc n) xs h =
-    let e = mul-suc w n in
-    let d = length-drop w xs in
-    (length-take-le w xs (omega arith), wide-cut w n (drop w xs) (omega arith))
-
-pub cat-take : (w m n : ℕ) (xs : List ℕ) → m ≤ n → cat (take m (cut w n xs)) ≡ take (w * m) xs
-unfolding cat cut
-cat-take w zero n xs h = rw mul-zero
-cat-take w (suc m) zero xs h = absurd (omega arith)
-cat-take w (suc m) (suc n) xs h =
-    let e : w * suc m ≡ w + w * m = omega (arith, mul-suc w m) in
-    rw (e, take-add w (w * m) xs, cat-take w m n (drop w xs) (omega arith))
-
--- n items, cut, are those that were put in a row
+-- n items, cut from a row, are those that were put in a row
 pub cut-back : (w : ℕ) (items : List (List ℕ)) → Wide w items → cut w (length items) (cat items) ≡ items
 unfolding cat cut
 cut-back w [] h = refl
@@ -131,10 +108,6 @@ cut-back w (b ∷ items) h = rw (take-at b (cat items) w (h .0), drop-at b (cat 
 pub length-counts : (k per n : ℕ) → length (counts k per n) ≡ k
 length-counts zero per n = refl
 length-counts (suc k) per n = ap suc (length-counts k per (n - min per n))
-
-length-sizes : (w : ℕ) (ms : List ℕ) → length (sizes w ms) ≡ length ms
-length-sizes w [] = refl
-length-sizes w (m ∷ ms) = ap suc (length-sizes w ms)
 
 pub length-table : (w end : ℕ) (ms : List ℕ) → length (tableBytes w end ms) ≡ 16 * length ms
 unfolding tableBytes
@@ -274,7 +247,7 @@ list-laid {l} {p} {q} {r} vft w n items {xs} {ys} {zs} {us} e =
     → Laid l (listBlocks (l .at) vft w items) r xs us) e
     (λ f g h. laid-then f (laid-then g h))
 
--- ---- the bound: a list in k parts takes less than two pages for each of its blocks
+-- ---- each of a list's blocks takes at most a page
 
 small-parts : (w per k n : ℕ) → w * per ≤ 16384 → Small (sizes w (counts k per n))
 small-parts w per zero n h = tt
@@ -287,18 +260,7 @@ small-offsets : (k : ℕ) → k ≤ 1024 → Small (offsetSizes k)
 small-offsets zero h = tt
 small-offsets (suc k) h = (omega arith, tt)
 
-length-offsets : (k : ℕ) → length (offsetSizes k) ≤ 1
-length-offsets zero = omega arith
-length-offsets (suc k) = omega arith
-
 pub list-small : (w n : ℕ) → partCount w n ≤ 1024 → Small (listSizes w n)
 list-small w n few =
     let k : ℕ = partCount w n in
     (omega arith, (omega arith, small-append (partSizes w n) (offsetSizes k) (small-parts w (perPart w) k n (mul-div-le 16384 w)) (small-offsets k few)))
-
-pub list-near : (end w n : ℕ) → partCount w n ≤ 1024 → endOf end (listSizes w n) ≤ end + 32768 * (partCount w n + 3)
-list-near end w n few =
-    let k : ℕ = partCount w n in
-    let long : length (partSizes w n ++ offsetSizes k) ≡ length (partSizes w n) + length (offsetSizes k) = length-append (partSizes w n) (offsetSizes k) in
-    let parts : length (partSizes w n) ≡ k = length-sizes w (counts k (perPart w) n) ∙ length-counts k (perPart w) n in
-    omega (arith, end-near end (listSizes w n) (list-small w n few), length-offsets k)

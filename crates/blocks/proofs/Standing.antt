@@ -5,7 +5,7 @@ use Prim.Native.Nat.{ℕ, zero, suc, _-_, _<_}
 use native.Mathlib.Omega.{arith}
 use lib.ListN.{length, getD, length-append, length-replicate}
 use Rattle.fields.specs.Bytes.{zeros}
-use Rattle.fields.proofs.Holds.{Holds, held-more}
+use Rattle.fields.proofs.Holds.{Holds}
 use Rattle.blocks.specs.Layout.{placeOf, behind, endOf, startAt, layBlock, layBlocks, pagesOf, lengths}
 use Rattle.blocks.proofs.Layouts.{place-ge, length-lay}
 
@@ -32,11 +32,6 @@ stand-from end (b ∷ bs) p t e =
 -- the one law of the pages: each block stands where the layout puts it
 pub stand : (bs : List (List ℕ)) → Stand (pagesOf bs) 0 bs
 stand bs = subst (λ (s : List ℕ). Stand s 0 bs) (append-nil (pagesOf bs)) (stand-from 0 bs [] [] refl)
-
--- whatever follows
-pub stand-more : (s t : List ℕ) (end : ℕ) (bs : List (List ℕ)) → Stand s end bs → Stand (s ++ t) end bs
-stand-more s t end [] h = tt
-stand-more s t end (b ∷ bs) h = (held-more t (h .0), stand-more s t (behind end (length b)) bs (h .1))
 
 -- blocks, and blocks behind them
 pub stand-first : (s : List ℕ) (end : ℕ) (bs cs : List (List ℕ)) → Stand s end (bs ++ cs) → Stand s end bs

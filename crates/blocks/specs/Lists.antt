@@ -4,7 +4,7 @@ use Prim.Native.Nat.{ℕ, zero, suc, _+_, _-_, _*_, _/_, _^_, _≤_, _<_, min}
 use mathlib.Core.Path.{_≡_}
 use mathlib.Core.List.{List, [], _∷_, _++_, map}
 use lib.ListN.{length, take, drop}
-use Rattle.fields.specs.Bytes.{les, cat, cut}
+use Rattle.fields.specs.Bytes.{les, cat}
 use Rattle.fields.specs.Rows.{rowBytes}
 use Rattle.blocks.specs.Layout.{placeOf, behind, endOf, address}
 
@@ -30,10 +30,6 @@ chunks (suc k) per xs = take (min per (length xs)) xs ∷ chunks k per (drop (mi
 abbrev pub firsts : ℕ → List ℕ → List ℕ
 firsts f [] = []
 firsts f (m ∷ ms) = f ∷ firsts (f + m) ms
-
--- the items of w bytes that stand in a row in xs, all that are whole
-abbrev pub itemsOf : ℕ → List ℕ → List (List ℕ)
-itemsOf w xs = cut w (length xs / w) xs
 
 -- items of w bytes each
 abbrev pub Wide : ℕ → List (List ℕ) → Type 0

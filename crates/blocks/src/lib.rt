@@ -2,13 +2,13 @@
 // Sizes alone decide where blocks stand, so that a caller knows the end before a byte is stored. Positions stay below 2^28, where an address is
 // the system section's: that is what the writers ask for. A store past the end of the lent pages is left out, so they ask for no room there.
 ghost use mathlib.Core.Path.{_≡_};
-ghost use mathlib.Core.List.{[], _∷_, map};
+ghost use mathlib.Core.List.{[], _∷_};
 ghost use Prim.Native.Nat.{_+_, _-_, _*_, _/_, _^_, _≤_, _<_, min};
-ghost use lib.ListN.{length};
-ghost use Rattle.fields.specs.Bytes.{les, zeros, cat, put, cut};
+ghost use Rattle.fields.specs.Bytes.{les, zeros, put};
 ghost use Rattle.fields.specs.Rows.{rowBytes};
-ghost use Rattle.blocks.specs.Layout.{placeOf, behind, endOf, address, layBlock, Laid};
-ghost use Rattle.blocks.specs.Lists.{perPart, partCount, counts, chunks, firsts, itemsOf, sizes, partSizes, offsetSizes, listSizes, tableAt, itemsEnd, offsetsAddress, listRow, partRow, tableBytes, frontBlocks, offsetBlocks, listBlocks, Room};
+ghost use Rattle.blocks.specs.Layout.{placeOf, behind, endOf, address, Laid};
+ghost use Rattle.blocks.specs.Lists.{perPart, partCount, counts, firsts, sizes, offsetSizes, listSizes, tableAt, itemsEnd, offsetsAddress, listRow, partRow, tableBytes, frontBlocks, offsetBlocks, Room};
+use fields::least;
 
 const SYSTEM_BASE: usize = 0x5000_0000;
 
@@ -72,41 +72,6 @@ pub fn pad(out: &mut [u8], l: Layout, size: usize) -> usize
     let start = l.start(size);
     fields::put_le(out, l.at, start - l.at, 0);
     start
-}
-
-// The lesser of two.
-pub fn least(a: usize, b: usize) -> usize
-    ensures { λ r. ⌜ r ≡ min a b ⌝ }
-{
-    if a < b {
-        return a;
-    }
-    b
-}
-
-// Bytes at a place.
-pub fn patch(out: &mut [u8], at: usize, bytes: &[u8])
-    ensures { λ _. ⌜ now (out .exit) ≡ put at (now (bytes .entry)) (now (out .entry)) ⌝ }
-{
-    if out.len() <= at {
-        return;
-    }
-    let n = least(bytes.len(), out.len() - at);
-    let mut i = 0;
-    while i < n {
-        out[at + i] = bytes[i];
-        i += 1;
-    }
-}
-
-// A block.
-pub fn write_block(out: &mut [u8], l: Layout, bytes: &[u8]) -> Layout
-    requires { ⌜ behind (l .at) (length (now bytes)) < 2 ^ 28 ⌝ }
-    ensures { λ r. ⌜ Laid l (now (bytes .entry) ∷ []) r (now (out .entry)) (now (out .exit)) ⌝ }
-{
-    let start = pad(out, l, bytes.len());
-    patch(out, start, bytes);
-    l.alloc(bytes.len())
 }
 
 // How many parts n items of w bytes take. No part takes items of 0 bytes, or of more than a page.
@@ -287,34 +252,6 @@ pub fn lay_list_front(out: &mut [u8], l: Layout, vft: u32, w: usize, n: usize) -
     lay_table(out, next, w, PART_SIZE / w, p.parts, n)
 }
 
-// The items of k parts, `per` to a part, each part a block, of n items of w bytes that stand in a row.
-fn lay_parts(
-    out: &mut [u8],
-    l: Layout,
-    w: usize,
-    per: usize,
-    k: usize,
-    n: usize,
-    items: &[u8],
-) -> Layout
-    requires { ⌜ (w * per ≤ 16384) × (w * n ≤ length (now items)) × (endOf (l .at) (sizes w (counts k per n)) < 2 ^ 28) ⌝ }
-    ensures { λ r. ⌜ Laid l (map cat (chunks k per (cut w n (now (items .entry))))) r (now (out .entry)) (now (out .exit)) ⌝ }
-{
-    let mut next = l;
-    let mut first = 0;
-    let mut left = n;
-    let mut i = 0;
-    while i < k {
-        let m = least(per, left);
-        let end = first + w * m;
-        next = write_block(out, next, &items[first..end]);
-        first = end;
-        left -= m;
-        i += 1;
-    }
-    next
-}
-
 // What stands behind the items of a list: the offsets, if it has a part.
 pub fn lay_offsets(out: &mut [u8], l: Layout, w: usize, n: usize) -> Layout
     requires { ⌜ Room (l .at) w n (offsetSizes (partCount w n)) ⌝ }
@@ -327,15 +264,4 @@ pub fn lay_offsets(out: &mut [u8], l: Layout, w: usize, n: usize) -> Layout
     let start = pad(out, l, 4 * k);
     put_offsets(out, start, PART_SIZE / w, k, n);
     l.alloc(4 * k)
-}
-
-// A list whose items, of w bytes each, stand in a row in `items`: header, part table, items of each part, offsets.
-pub fn write_list(out: &mut [u8], l: Layout, vft: u32, w: usize, items: &[u8]) -> Layout
-    requires { ⌜ Room (l .at) w (length (now items) / w) (listSizes w (length (now items) / w)) ⌝ }
-    ensures { λ r. ⌜ Laid l (listBlocks (l .at) vft w (itemsOf w (now (items .entry)))) r (now (out .entry)) (now (out .exit)) ⌝ }
-{
-    let n = items.len() / w;
-    let parts = lay_list_front(out, l, vft, w, n);
-    let offsets = lay_parts(out, parts, w, PART_SIZE / w, part_count(w, n), n, items);
-    lay_offsets(out, offsets, w, n)
 }

@@ -16,7 +16,7 @@ use Rattle.distinct.proofs.Left.{drop-more}
 use Rattle.areas.specs.Areas.{areaAt, entryOf}
 use Rattle.areas.specs.declared.Entry.{Entry}
 use Rattle.areas.specs.declared.AreaAnswer.the-variants.{At, Full as AreaFull}
-use Rattle.areas.proofs.Over.{length-over}
+use Rattle.fields.proofs.Over.{length-over}
 use Rattle.areas.proofs.Ids.{ids-after, at-in, full-in as area-full-in}
 use Rattle.vertices.specs.Vertices.{countAfter}
 use Rattle.vertices.specs.Table.{met, Table, Looked}
@@ -29,7 +29,7 @@ use Rattle.pages.proofs.Firsts.{not-none}
 use Rattle.decide.specs.Steps.{EdgeHas, Ready, CornerDone, behind}
 use Rattle.decide.specs.declared.polygons.EdgeAreas.{EdgeAreas}
 use Rattle.decide.specs.declared.polygons.Tables.{Tables}
-use Rattle.decide.proofs.Behind.{met-set, table-set}
+use Rattle.vertices.proofs.Behind.{met-set, table-set}
 
 -- ---- an area
 

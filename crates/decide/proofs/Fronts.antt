@@ -2,14 +2,15 @@
 use Prim.Native.Nat.{ℕ, _+_, _*_, _/_, _≤_, _<_}
 use native.Mathlib.Omega.{arith}
 use native.Mathlib.Nat.{zero-add}
+use mathlib.Core.Bool.{not}
 use mathlib.Core.Path.{_≡_, refl, ap, sym, _∙_}
 use mathlib.Core.List.{List, [], _∷_, map}
 use lib.ListN.{length, take, drop}
 use lib.Seq.{drop-drop}
 use lib.Dec.{ltb}
 use borrow.Author.Tests.{ltb-false}
-use Rattle.fields.specs.Bytes.{zeros}
 use Rattle.strip.specs.Cell.{Head}
+use Rattle.strip.specs.Box.{finiteBox}
 use Rattle.strip.specs.Reading.{polyAt, polygonAt, polygonsAt, portalAt, pointAt, afterPolygons, headAt}
 use Rattle.strip.specs.Scan.{Scanned, fault, scan}
 use Rattle.strip.specs.declared.Counts.{Counts}
@@ -19,29 +20,18 @@ use Rattle.strip.proofs.Faults.{scan-fault}
 use Rattle.distinct.specs.Distinct.{indexOf, distinctFrom, numbersFrom}
 use Rattle.distinct.proofs.Left.{drop-more}
 use Rattle.distinct.proofs.Final.{numbers-at-the-end}
-use Rattle.areas.specs.Areas.{stored, seeded}
-use Rattle.areas.specs.declared.Areas.{Areas}
-use Rattle.areas.proofs.Over.{length-over, take-over}
-use Rattle.areas.proofs.Seeds.{length-seeded}
+use Rattle.areas.specs.Areas.{seeded}
 use Rattle.vertices.specs.Table.{met, cleared}
 use Rattle.vertices.proofs.Numbering.{table-cleared, length-cleared, drop-cleared}
 use Rattle.vertices.proofs.Enough.{chains-fit}
 use Rattle.pages.specs.Items.{floats, Corner, corners, triples}
-use Rattle.pages.specs.Checks.{Verdict, when, first, at, endlessBox}
+use Rattle.pages.specs.Checks.{Verdict, when, first, at}
 use Rattle.pages.proofs.Firsts.{passed, at-none, at-some}
 use Rattle.decide.specs.Steps.{Ready, PolygonsDone}
 use Rattle.decide.specs.Decide.{onPolygons, beforeLeaves, onScan, chains, most, indicesAt, tablesEnd, Tabled, WellDone, DecideDone}
 use Rattle.decide.specs.declared.polygons.Tables.{Tables}
 use Rattle.decide.specs.declared.polygons.Decided.{Decided}
 use Rattle.decide.specs.declared.Decision.{Decision}
-
--- ---- the tables at the start
-
-pub seeds-long : (a : ℕ) (r : Areas) → r ≡ stored (seeded a) (zeros 32) → length (r .ids) ≡ 32
-seeds-long a r e = rw e (length-over (seeded a) (zeros 32))
-
-pub seeds-are : (a : ℕ) (r : Areas) → r ≡ stored (seeded a) (zeros 32) → take (r .len) (r .ids) ≡ seeded a
-seeds-are a r e = rw e (take-over (seeded a) (zeros 32) (omega (arith, length-seeded a)))
 
 -- the chains of a strip of so many words
 pub chains-in : (words : ℕ) → 14 ≤ words → (0 < chains words) × (chains words ≤ 65536) × (chains words ≤ words / 4)
@@ -136,7 +126,7 @@ not-formed s w number place k r e p =
 -- ---- 1, 10, 11
 
 module _ (s w : List ℕ) (n : Counts) (W : Well s (n .polys) (n .portals) (n .points)) (f : ℕ)
-    (ef : f ≡ first (when (ltb (length w / 4) (length s)) 1 ∷ when (endlessBox (headAt s 0)) 10 ∷ when (ltb 16383 (n .polys)) 11 ∷ [])) where
+    (ef : f ≡ first (when (ltb (length w / 4) (length s)) 1 ∷ when (not (finiteBox (headAt s 0))) 10 ∷ when (ltb 16383 (n .polys)) 11 ∷ [])) where
   poly-count : length (W .cell .polys) ≡ n .polys
   poly-count = rw (W .polys) (items-length (polygonAt s) (λ x. polyAt s x .next) (n .polys) 14)
 

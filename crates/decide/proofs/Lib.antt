@@ -1,4 +1,3 @@
-pub mod Behind
 pub mod Answers
 pub mod Corners
 pub mod Onward

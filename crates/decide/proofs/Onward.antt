@@ -1,23 +1,25 @@
 -- Polygon after polygon: what is done after one of them and after the rest is done after all. Assumes nothing.
-use Prim.Native.Nat.{ℕ, suc, _+_, _*_, _-_, _≤_, _<_}
+use Prim.Native.Nat.{ℕ, _+_, _*_, _-_, _≤_, _<_}
 use native.Mathlib.Omega.{arith}
 use native.Mathlib.Nat.{add-zero, sub-zero}
-use mathlib.Core.Path.{_≡_, refl, ap, sym, _∙_}
+use mathlib.Core.Path.{_≡_, refl, sym, _∙_}
 use mathlib.Core.List.{List, [], _∷_, _++_, append-assoc}
 use lib.ListN.{length, take, drop, length-append}
 use lib.Dec.{ltb}
 use borrow.Author.Tests.{lt-ltb, le-ltb}
 use Rattle.math.specs.declared.vec3.Vec3.{Vec3 as Floats}
-use Rattle.strip.specs.Cell.{Vec3, Edge, Polygon}
+use Rattle.strip.specs.Cell.{Polygon}
 use Rattle.strip.specs.Reading.{word, vecAt, polyAt, polygonOf, polygonAt, polygonsAt, afterPolygons}
 use Rattle.strip.specs.declared.Poly.{Poly}
 use Rattle.strip.proofs.Steps.{items-length, items-done, polygons-turn, parts, after-polygon, after-ge, next-inside}
 use Rattle.distinct.proofs.Laws.{numbers-append}
 use Rattle.distinct.proofs.Left.{drop-more}
 use Rattle.vertices.specs.Table.{met}
-use Rattle.pages.specs.Items.{Corner, gather, cornersOf, cornersIn, corners, triples, named, linksOf}
+use Rattle.pages.specs.Items.{Corner, gather, cornersIn, corners, triples, named, linksOf}
 use Rattle.pages.specs.Checks.{first, when, at, cornersFault, polygonFault, polygonsVerdict}
-use Rattle.pages.proofs.Accepted.{distinct-append, triples-append, named-append}
+use Rattle.distinct.proofs.Final.{distinct-append}
+use Rattle.pages.proofs.Placed.{length-corners}
+use Rattle.pages.proofs.Accepted.{triples-append, named-append}
 use Rattle.pages.proofs.Firsts.{not-none, first-none, first-some, first-last, first-two, at-none, at-some}
 use Rattle.decide.specs.Steps.{runFault, Ready, Added, CornersDone, PolygonDone, PolygonsDone, behind}
 use Rattle.decide.specs.declared.polygons.Tables.{Tables}
@@ -26,12 +28,6 @@ use Rattle.decide.specs.declared.polygons.Decided.{Decided}
 use Rattle.decide.proofs.Corners.{nothing-added}
 
 -- ---- lists in a row
-
-pub length-corners : (lo size : Floats) (vs : List Vec3) (es : List Edge) → length (cornersOf lo size vs es) ≡ length vs
-unfolding cornersOf
-length-corners lo size [] es = refl
-length-corners lo size (v ∷ vs) [] = ap suc (length-corners lo size vs [])
-length-corners lo size (v ∷ vs) (e ∷ es) = ap suc (length-corners lo size vs es)
 
 added-append : (w w' w'' ids ids' ids'' : List ℕ) (b m : ℕ) (t t' t'' : Tables) (item : ℕ) (ks ls : List Corner)
     → Added w w' ids ids' b m t t' item ks → Added w' w'' ids' ids'' b m t' t'' (item + length ks) ls → Added w w'' ids ids'' b m t t'' item (ks ++ ls)

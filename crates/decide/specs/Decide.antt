@@ -1,10 +1,12 @@
 -- What the writer decides of a strip before the leaves, and what the work words then hold. Definitions only.
 use Prim.Native.Nat.{ℕ, _+_, _*_, _/_, _≤_, min}
+use mathlib.Core.Bool.{not}
 use mathlib.Core.Path.{_≡_}
 use mathlib.Core.List.{List, [], _∷_, map}
 use lib.ListN.{length, take, drop}
 use lib.Dec.{ltb}
 use Rattle.strip.specs.Cell.{Cell, Head, Polygon}
+use Rattle.strip.specs.Box.{finiteBox}
 use Rattle.strip.specs.Reading.{polygonsAt}
 use Rattle.strip.specs.Scan.{Scanned, ok, fault, scan}
 use Rattle.strip.specs.declared.Counts.{Counts}
@@ -12,7 +14,7 @@ use Rattle.distinct.specs.Distinct.{indexOf}
 use Rattle.areas.specs.Areas.{idsOf, seeded}
 use Rattle.vertices.specs.Table.{met}
 use Rattle.pages.specs.Items.{floats, corners, vertexTable, areaTable, linksOf}
-use Rattle.pages.specs.Checks.{Verdict, refused, when, first, at, endlessBox, polygonsVerdict}
+use Rattle.pages.specs.Checks.{Verdict, refused, when, first, at, polygonsVerdict}
 use Rattle.decide.specs.declared.Decision.{Decision}
 
 -- ---- the verdict
@@ -24,7 +26,7 @@ onPolygons h ps rest = polygonsVerdict (floats (h .bb-min)) (floats (h .bb-size)
 -- 1, 10, 11 before them; `words` are the strip's, `work` the lent ones
 unfoldable pub beforeLeaves : (words work : ℕ) → Verdict → Cell → Verdict
 beforeLeaves words work rest c =
-    at 0 (first (when (ltb (work / 4) words) 1 ∷ when (endlessBox (c .head)) 10 ∷ when (ltb 16383 (length (c .polys))) 11 ∷ []))
+    at 0 (first (when (ltb (work / 4) words) 1 ∷ when (not (finiteBox (c .head))) 10 ∷ when (ltb 16383 (length (c .polys))) 11 ∷ []))
     (onPolygons (c .head) (c .polys) rest)
 
 -- 3 before all

@@ -1,15 +1,16 @@
 // The writer's first pass over a strip, up to the leaves: the refusals in order, and the tables that the pages need. Nothing is stored but work words.
 ghost use mathlib.Core.Path.{_≡_};
+ghost use mathlib.Core.Bool.{not};
 ghost use mathlib.Core.List.{[], _∷_};
 ghost use Prim.Native.Nat.{_+_, _*_, _/_, _≤_};
 ghost use lib.ListN.{length};
 ghost use lib.Dec.{ltb};
-ghost use Rattle.strip.specs.Reading.{vecAt, headAt, afterPolygons};
-ghost use Rattle.pages.specs.Items.{floats};
-ghost use Rattle.pages.specs.Checks.{when, first, endless, endlessVec, endlessBox};
+ghost use Rattle.strip.specs.Reading.{headAt, afterPolygons};
+ghost use Rattle.strip.specs.Box.{finiteBox};
+ghost use Rattle.pages.specs.Checks.{when, first};
 ghost use Rattle.decide.specs.Decide.{chains, tablesEnd, WellDone, DecideDone};
 use areas::Areas;
-use math::vec3::Vec3;
+use math::vec3::floats_at;
 use polygons::Frame;
 use polygons::Tables;
 use strip::Counts;
@@ -29,58 +30,16 @@ pub struct Decision {
     pub place: usize,
 }
 
-// The three floats that stand at `at`. A caller has the place from the strip's records.
-pub fn floats_at(strip: &[u32], at: usize) -> Vec3
-    requires { ⌜ at + 3 ≤ length (now strip) ⌝ }
-    ensures { λ r. ⌜ r ≡ floats (vecAt (now (strip .entry)) at) ⌝ }
-{
-    math::vec3::floats_at(strip, at)
-}
-
-// Whether w is the bits of an infinity or a NaN.
-fn is_endless(w: u32) -> bool
-    ensures { λ r. ⌜ r ≡ endless w ⌝ }
-{
-    !(w % 0x8000_0000 < 0x7f80_0000)
-}
-
-fn vec_endless(strip: &[u32], at: usize) -> bool
-    requires { ⌜ at + 3 ≤ length (now strip) ⌝ }
-    ensures { λ r. ⌜ r ≡ endlessVec (vecAt (now (strip .entry)) at) ⌝ }
-{
-    if is_endless(strip[at]) {
-        return true;
-    }
-    if is_endless(strip[at + 1]) {
-        return true;
-    }
-    is_endless(strip[at + 2])
-}
-
-// Whether min, max or size of the cell's box is not finite.
-fn box_endless(strip: &[u32]) -> bool
-    requires { ⌜ 14 ≤ length (now strip) ⌝ }
-    ensures { λ r. ⌜ r ≡ endlessBox (headAt (now (strip .entry)) 0) ⌝ }
-{
-    if vec_endless(strip, 5) {
-        return true;
-    }
-    if vec_endless(strip, 8) {
-        return true;
-    }
-    vec_endless(strip, 11)
-}
-
 // 1, 10, 11: of a well-formed strip with so many polygons, where so many words of work are lent.
 fn front_fault(strip: &[u32], work: usize, polys: usize) -> u32
     requires { ⌜ 14 ≤ length (now strip) ⌝ }
-    ensures { λ r. ⌜ r ≡ first (when (ltb (work / 4) (length (now (strip .entry)))) 1 ∷ when (endlessBox (headAt (now (strip .entry)) 0)) 10
+    ensures { λ r. ⌜ r ≡ first (when (ltb (work / 4) (length (now (strip .entry)))) 1 ∷ when (not (finiteBox (headAt (now (strip .entry)) 0))) 10
         ∷ when (ltb 16383 polys) 11 ∷ []) ⌝ }
 {
     if work / 4 < strip.len() {
         return 1;
     }
-    if box_endless(strip) {
+    if !strip::finite_box(strip) {
         return 10;
     }
     if 16383 < polys {

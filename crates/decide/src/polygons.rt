@@ -11,6 +11,7 @@ ghost use Rattle.pages.specs.Items.{tripleIn, cornersIn};
 ghost use Rattle.decide.specs.Steps.{runFault, EdgeHas, Ready, CornerDone, CornersDone, PolygonDone, PolygonsDone};
 use areas::AreaAnswer;
 use math::vec3::Vec3;
+use math::vec3::floats_at;
 use strip::Poly;
 use vertices::Numbered;
 
@@ -81,7 +82,7 @@ fn triple_of(strip: &[u32], at: usize, frame: Frame) -> u64
     requires { ⌜ at + 3 ≤ length (now strip) ⌝ }
     ensures { λ r. ⌜ (r ≡ tripleIn (frame .lo) (frame .size) (vecAt (now (strip .entry)) at)) × (r < 2 ^ 48) ⌝ }
 {
-    let v = super::floats_at(strip, at);
+    let v = floats_at(strip, at);
     let lo = frame.lo;
     let size = frame.size;
     let q = quantise::short::quantise(v, lo, size);

@@ -112,10 +112,6 @@ no-zero-first = by-digits (λ n. getD (decimal n) 0 0 ≡ digit 0 → n ≡ 0) s
 
 -- ---- what it comes to
 
-pub least : decimal 0 ≡ ascii "0"
-unfolding decimal decimalIn ascii
-least = refl
-
 -- by the laws: computed, it would take as many turns as the number says
 pub p12-area : decimal 10000 ≡ ascii "10000"
 unfolding ascii

@@ -3,7 +3,7 @@
 use mathlib.Core.Path.{_≡_, refl, sym, ap, _∙_}
 use mathlib.Core.Bool.{Bool, true, false, cond}
 use mathlib.Core.List.{List, [], _∷_, _++_, map, append-assoc, append-nil}
-use Prim.Native.Nat.{ℕ, zero, suc, _+_, _≤_, _<_}
+use Prim.Native.Nat.{ℕ, suc, _+_, _≤_, _<_}
 use native.Mathlib.Omega.{arith}
 use native.Mathlib.Decide.{decLt}
 use lib.ListN.{length, getD, length-append, List·getD-append}
@@ -88,17 +88,18 @@ still-in l xs x h = let g = grows l xs in rw (g .1) (in-more l (g .0) x h)
 pub still-index : (l xs : List ℕ) (x : ℕ) → In l x → indexOf (distinctFrom l xs) x ≡ indexOf l x
 still-index l xs x h = let g = grows l xs in rw (g .1) (index-more l (g .0) x h)
 
--- every key is in it
-pub each-in : (l xs : List ℕ) (i : ℕ) → i < length xs → In (distinctFrom l xs) (getD xs i 0)
-unfolding distinctFrom
-each-in l [] i h = absurd (omega arith)
-each-in l (x ∷ xs) zero h = still-in (withNew l x) xs x (with-in l x .within)
-each-in l (x ∷ xs) (suc i) h = each-in (withNew l x) xs i (omega arith)
-
 pub length-distinct : (l xs : List ℕ) → length (distinctFrom l xs) ≤ length l + length xs
 unfolding distinctFrom
 length-distinct l [] = omega arith
 length-distinct l (x ∷ xs) = omega (arith, length-distinct (withNew l x) xs, length-with l x)
+
+pub length-grows : (l xs : List ℕ) → length l ≤ length (distinctFrom l xs)
+length-grows l xs = let g = grows l xs in rw (g .1, length-append l (g .0)) (omega arith)
+
+pub distinct-append : (l xs ys : List ℕ) → distinctFrom l (xs ++ ys) ≡ distinctFrom (distinctFrom l xs) ys
+unfolding distinctFrom
+distinct-append l [] ys = refl
+distinct-append l (x ∷ xs) ys = distinct-append (withNew l x) xs ys
 
 -- each stands once: its index is where it stands
 abbrev pub Once : List ℕ → Type 0

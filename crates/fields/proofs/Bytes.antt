@@ -1,6 +1,6 @@
 -- The laws of little-endian numbers, each over every width.
 use mathlib.Core.Path.{_≡_, refl, _∙_, ap}
-use mathlib.Core.List.{List, [], _∷_, _++_}
+use mathlib.Core.List.{List, [], _∷_, _++_, append-assoc}
 use Prim.Native.Nat.{ℕ, zero, suc, _+_, _*_, _/_, _%_, _^_, _≤_, _<_}
 use native.Mathlib.Nat.{zero-add, add-zero, suc-add, one-mul, mul-zero, mul-suc, mul-comm, mul-assoc, pow-suc, pow-succ', div-one, div-div-eq-div-mul, div-lt-iff-lt-mul, one-le-pow, add-mul-mod-self-left, add-mul-div-left}
 use native.Mathlib.Numerals.{one-add, add-one}
@@ -9,7 +9,7 @@ use lib.Arith.{mod-mul, digits-div, digits-mod}
 use lib.Dec.{lit<}
 use lib.ListN.{length, length-append, getD, take, drop, List·getD-eq-default}
 use lib.Seq.{drop-cons}
-use Rattle.fields.specs.Bytes.{le, leBytes, les, zeros}
+use Rattle.fields.specs.Bytes.{le, leBytes, les, zeros, cat}
 
 -- ---- a number that is read
 
@@ -129,3 +129,15 @@ length-les n (w ∷ ws) = rw (length-append, length-bytes, length-les n ws, mul-
 pub les-drop : (n : ℕ) (ws : List ℕ) (i : ℕ) → i < length ws → les n (drop i ws) ≡ leBytes n (getD ws i 0) ++ les n (drop (i + 1) ws)
 unfolding les
 les-drop n ws i h = rw (add-one, drop-cons ws i 0)
+
+-- twelve bytes of zero are three words of it
+pub zero-words : leBytes 12 0 ≡ leBytes 4 0 ++ (leBytes 4 0 ++ leBytes 4 0)
+unfolding leBytes
+zero-words = refl
+
+-- ---- lists of bytes in a row
+
+pub cat-append {ℓ} : {A : Type ℓ} (xs ys : List (List A)) → cat (xs ++ ys) ≡ cat xs ++ cat ys
+unfolding cat
+cat-append [] ys = refl
+cat-append (x ∷ xs) ys = rw (cat-append xs ys, append-assoc)

@@ -1,4 +1,5 @@
 pub mod Bytes
+pub mod Over
 pub mod Puts
 pub mod Cuts
 pub mod Holds

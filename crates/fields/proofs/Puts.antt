@@ -9,28 +9,8 @@ use native.Mathlib.Omega.{arith}
 use lib.ListN.{length, length-set, take, drop, set, getD}
 use lib.Seq.{sets, set-out, getD-set-same, getD-set-other}
 use Rattle.fields.specs.Bytes.{over, put, le, leBytes, les}
+use Rattle.fields.proofs.Over.{length-over, over-over, over-eq}
 use Rattle.fields.proofs.Bytes.{same, length-bytes, bytes-join, bytes-mod, le-bytes, les-drop}
-
--- ---- over, the store at the front
-
-length-over : (bs xs : List ℕ) → length (over bs xs) ≡ length xs
-unfolding over
-length-over [] xs = refl
-length-over (b ∷ bs) [] = refl
-length-over (b ∷ bs) (x ∷ xs) = ap suc (length-over bs xs)
-
-over-over : (bs rec xs : List ℕ) → length bs ≤ length rec → over bs (over rec xs) ≡ over (over bs rec) xs
-unfolding over
-over-over [] rec xs h = refl
-over-over (b ∷ bs) [] xs h = absurd (not-suc-le-zero h)
-over-over (b ∷ bs) (r ∷ rec) [] h = refl
-over-over (b ∷ bs) (r ∷ rec) (x ∷ xs) h = ap (λ (l : List ℕ). b ∷ l) (over-over bs rec xs (le-of-suc-le-suc h))
-
-over-eq : (bs xs : List ℕ) → length bs ≤ length xs → over bs xs ≡ bs ++ drop (length bs) xs
-unfolding over
-over-eq [] xs h = refl
-over-eq (b ∷ bs) [] h = absurd (not-suc-le-zero h)
-over-eq (b ∷ bs) (x ∷ xs) h = ap (λ (l : List ℕ). b ∷ l) (over-eq bs xs (le-of-suc-le-suc h))
 
 -- ---- put
 

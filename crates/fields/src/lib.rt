@@ -1,7 +1,7 @@
 // Little-endian fields of lent bytes, read and stored. Every call is total: a byte past the end reads as 0, and one that would be stored there is left out.
 ghost use mathlib.Core.Path.{_≡_};
 ghost use mathlib.Core.List.{_++_};
-ghost use Prim.Native.Nat.{_+_, _≤_};
+ghost use Prim.Native.Nat.{_+_, _≤_, min};
 ghost use lib.ListN.{length};
 ghost use Rattle.fields.specs.Bytes.{le, leBytes, les, put};
 
@@ -220,4 +220,14 @@ pub fn pair(lo: u16, hi: u16) -> u32
     ensures { λ r. ⌜ leBytes 4 r ≡ leBytes 2 lo ++ leBytes 2 hi ⌝ }
 {
     (lo as u32) + 0x1_0000 * (hi as u32)
+}
+
+// The lesser of two counts, where what is lent may hold less than is named.
+pub fn least(a: usize, b: usize) -> usize
+    ensures { λ r. ⌜ r ≡ min a b ⌝ }
+{
+    if a < b {
+        return a;
+    }
+    b
 }

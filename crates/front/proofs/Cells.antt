@@ -3,19 +3,18 @@ use Prim.Native.Nat.{ℕ, zero, suc, _+_, _*_, _^_}
 use mathlib.Core.Path.{_≡_, refl, ap, sym, _∙_}
 use mathlib.Core.List.{List, [], _∷_, _++_}
 use native.Mathlib.Omega.{arith}
-use native.Mathlib.Nat.{zero-add}
 use lib.ListN.{length}
 use Rattle.quantise.specs.declared.bounds.Aabb.{Aabb}
 use Rattle.strip.specs.Cell.{Point, Cell}
-use Rattle.blocks.specs.Layout.{behind, endOf, pagesOf}
+use Rattle.blocks.specs.Layout.{behind, endOf}
 use Rattle.blocks.specs.Lists.{listSizes}
-use Rattle.blocks.proofs.Layouts.{end-append, length-blocks}
+use Rattle.blocks.proofs.Layouts.{end-append}
 use Rattle.pages.specs.Optional.{sizeOf}
 use Rattle.pages.specs.Sectors as Sectors
 use Rattle.pages.specs.Sectors.{Sector, quarters, idsOf, grown, byteCount, sub0, sub1, sub2, sub3}
 use Rattle.pages.specs.Sectors.Sector.{leaf, node}
-use Rattle.pages.specs.Pages.{allCorners, vertices, links, sectors, counts, sizesOf, sizes, blocks, pages}
-use Rattle.pages.proofs.Sizes.{blocks-sizes}
+use Rattle.pages.specs.Pages.{allCorners, vertices, links, sectors, counts, sizesOf, sizes, pages}
+use Rattle.pages.proofs.Sizes.{pages-length}
 use Rattle.quadtree.specs.Work.{boxesIn, pickedFrom, countIn, treeBy}
 use Rattle.quadtree.proofs.Picks.{count-picked}
 use Rattle.front.specs.Ends.{sum, leafSizes, sizesBy, listsEnd, pagesEnd}
@@ -32,7 +31,7 @@ module _ (boxes leafs : List ℕ) (ts : List Point) (l : length ts ≡ length le
       rw (sizes-tree d k (sub0 b), sizes-tree d (k + 4 ^ d) (sub1 b), sizes-tree d (k + 2 * 4 ^ d) (sub2 b), sizes-tree d (k + 3 * 4 ^ d) (sub3 b))
 
 -- the bytes that count for the total are those in the blocks
-sum-some : (n : ℕ) → sum (sizeOf n) ≡ n
+pub sum-some : (n : ℕ) → sum (sizeOf n) ≡ n
 sum-some zero = refl
 sum-some (suc n) = omega arith
 
@@ -76,9 +75,7 @@ ends-row v i p q l t =
 
 module _ (c : Cell) where
   pub cell-end : pagesEnd (length (vertices c)) (length (allCorners c)) (length (c .polys)) (length (c .portals)) (length (links c)) (Sectors.sizes (sectors c)) ≡ length (pages c)
-  unfolding sizes sizesOf counts pages
+  unfolding sizes sizesOf counts
   cell-end =
       sym (ends-row (length (vertices c)) (length (allCorners c)) (length (c .polys)) (length (c .portals)) (length (links c)) (Sectors.sizes (sectors c)))
-      ∙ ap (endOf 0) (sym (blocks-sizes c))
-      ∙ sym (length-blocks 0 (blocks c))
-      ∙ zero-add (length (pagesOf (blocks c)))
+      ∙ sym (pages-length c)

@@ -1,5 +1,4 @@
 pub mod Records
-pub mod Optional
 pub mod Turns
 pub mod Behind
 pub mod Cells

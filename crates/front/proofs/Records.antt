@@ -9,7 +9,7 @@ use lib.ListN.{length, take}
 use lib.Seq.{take-all, length-take-le}
 use Rattle.fields.specs.Bytes.{leBytes, les, put}
 use Rattle.fields.specs.Rows.{rowBytes, pack, field}
-use Rattle.fields.proofs.Bytes.{length-les, bytes-join, bytes-mod, le-address}
+use Rattle.fields.proofs.Bytes.{length-les, bytes-join, bytes-mod, le-address, zero-words}
 use Rattle.fields.proofs.Puts.{put-next}
 use Rattle.fields.proofs.Rows.{length-rows}
 use Rattle.math.specs.declared.vec3.Vec3.{Vec3 as Floats}
@@ -23,10 +23,6 @@ use Rattle.pages.specs.Pages.{Places, Counts, oneBits, headerFirst, headerLast,
 use Rattle.pages.proofs.Sizes.{length-padded}
 
 -- ---- the header
-
-twelve : leBytes 12 0 ≡ leBytes 4 0 ++ (leBytes 4 0 ++ leBytes 4 0)
-unfolding leBytes
-twelve = refl
 
 module _ (h : Head) (a : Places) (n : Counts) where
   pub first-words : a .vertices < 2 ^ 32 → a .indices < 2 ^ 32 → a .edges < 2 ^ 32
@@ -46,7 +42,7 @@ module _ (h : Head) (a : Places) (n : Counts) where
       ≡ rowBytes (headerLast h a n)
   unfolding les rowBytes
   last-words p r q l =
-      simp (le-address (a .polygons) p, le-address (a .root) r, le-address (a .portals) q, le-address (a .links) l, twelve, append-assoc)
+      simp (le-address (a .polygons) p, le-address (a .root) r, le-address (a .portals) q, le-address (a .links) l, zero-words, append-assoc)
 
   -- the three runs are one
   pub header-runs : (us xs ys zs ws : List ℕ) → ys ≡ put 0 (rowBytes (headerFirst h a n)) xs → zs ≡ put 152 (les 4 (padded 32 us)) ys

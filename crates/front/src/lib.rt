@@ -8,7 +8,7 @@ ghost use Rattle.fields.specs.Rows.{rowBytes, pack};
 ghost use Rattle.quantise.specs.Short.{shorts};
 ghost use Rattle.strip.specs.Reading.{vecAt, headAt, portalAt, portalsAt, polygonsAt, afterPolygons, low16, high16};
 ghost use Rattle.areas.specs.Areas.{idsOf};
-ghost use Rattle.blocks.specs.Layout.{behind, endOf, Laid};
+ghost use Rattle.blocks.specs.Layout.{endOf, Laid};
 ghost use Rattle.pages.specs.Items.{floats, linksOf};
 ghost use Rattle.pages.specs.Optional.{blockOf, sizeOf};
 ghost use Rattle.pages.specs.Pages.{portalRow, portalItems, padded, headerFirst, headerLast, headerBytes};
@@ -16,6 +16,7 @@ ghost use Rattle.front.specs.Front.{placesIn, countsIn};
 use areas::Areas;
 use blocks::Layout;
 use math::vec3::Vec3;
+use math::vec3::floats_at;
 use quantise::short::Shorts;
 
 pub mod ends;
@@ -156,7 +157,7 @@ fn shorts_at(strip: &[u32], at: usize, lo: Vec3, size: Vec3) -> Shorts
     requires { ⌜ at + 3 ≤ length (now strip) ⌝ }
     ensures { λ r. ⌜ r ≡ shorts (floats (vecAt (now (strip .entry)) at)) lo size ⌝ }
 {
-    let v = decide::floats_at(strip, at);
+    let v = floats_at(strip, at);
     quantise::short::quantise(v, lo, size)
 }
 

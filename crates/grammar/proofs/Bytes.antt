@@ -13,7 +13,7 @@ use Rattle.grammar.specs.Parts.{Good, Array}
 use Rattle.grammar.specs.Trees.{Data, no-data, data-at, Trees}
 use Rattle.grammar.specs.Lists.{Parts, no-part, skipped, part as one-part, Items, empty, some}
 use Rattle.grammar.specs.Formed.{Bytes}
-use Rattle.grammar.proofs.Runs.{all-append}
+use Rattle.strip.proofs.Alls.{all-append}
 
 pub bytes-none : Bytes []
 bytes-none k = omega arith

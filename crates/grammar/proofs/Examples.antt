@@ -9,6 +9,7 @@ use Rattle.fields.specs.Bytes.{le, leBytes, cat, cut}
 use Rattle.fields.specs.Rows.{rowBytes, pack}
 use Rattle.resource.specs.Section.{part, resolved}
 use Rattle.strip.specs.Cell.{vecWords, headWords, each, encodeAs}
+use Rattle.strip.specs.Box.{finiteBox}
 use Rattle.grammar.specs.Parts.{Good, Array}
 use Rattle.grammar.specs.Trees.{Data, data-at, subsTo, Trees, Tree}
 use Rattle.grammar.specs.Lists.{no-table, no-part, Items, some}
@@ -60,7 +61,7 @@ module _ (graphics : List ℕ) where
       (record { header = emptyList vft off; parts = []; bytes = []; header-good = g; parts-good = no-table; items-good = no-part; adds-up = sym (mul-zero w); are = refl })
 
   pub p12-makes : Makes vehiclePages graphics 1 vehicleCell
-  unfolding vehicleCell vehicleHeader vehicleSector rowBytes leBytes cat le vecOf headOf
+  unfolding vehicleCell vehicleHeader vehicleSector rowBytes leBytes cat le vecOf headOf finiteBox
   p12-makes = record {
     header = vehicleHeader;
     root = vehicleSector;
@@ -73,9 +74,7 @@ module _ (graphics : List ℕ) where
     header-good = blocks .0;
     root-good = blocks .5;
     head-is = refl;
-    min-finite = record { x = omega arith; y = omega arith; z = omega arith };
-    max-finite = record { x = omega arith; y = omega arith; z = omega arith };
-    size-finite = record { x = omega arith; y = omega arith; z = omega arith };
+    finite-box = refl;
     tree = tree;
     few-sectors = omega arith;
     vertex-list = no-items 6 1080158456 368 (blocks .1);

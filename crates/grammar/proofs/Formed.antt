@@ -1,39 +1,37 @@
--- A derived strip is well formed: the cell that two sections of bytes make is in range, no coordinate in it is a NaN, and its polygons have
+-- A derived strip is well formed: the cell that two sections of bytes make fits a strip, no coordinate in it is a NaN, and its polygons have
 -- as many edges as vertices and at most 7 links. Assumes nothing.
 use mathlib.Core.Path.{_≡_, refl, sym, ap, _∙_}
 use mathlib.Core.Bool.{Bool, true, false, not, cond}
-use mathlib.Core.List.{List, [], _∷_, _++_, map}
+use mathlib.Core.List.{List, [], _∷_, map}
 use Prim.Native.Nat.{ℕ, _+_, _*_, _/_, _%_, _^_, _≤_, _<_}
 use native.Mathlib.Nat.{min-le-left}
 use native.Mathlib.Omega.{arith}
-use lib.Dec.{T, leb, ltb}
+use lib.Dec.{T, leb}
 use lib.ListN.{length, take, drop, getD, length-take, length-drop, length-map}
 use lib.Seq.{length-take-le}
 use lib.Ieee.{Float, binary32, ofBits, isNan, fits}
 use lib.Ieee.Scale.{finite}
 use lib.Ieee.Fits.{add-fits}
-use lib.Ieee.Bits.{ofBits-toBits, toBits-lt}
-use borrow.Author.Tests.{lt-ltb}
+use lib.Ieee.Bits.{ofBits-toBits}
 use Rattle.fields.specs.Bytes.{le, cut}
 use Rattle.fields.specs.Rows.{field}
 use Rattle.fields.proofs.Bytes.{le-lt}
-use Rattle.fields.proofs.Rows.{pack-lt}
 use Rattle.math.proofs.Finite.{finite-bits}
 use Rattle.quantise.specs.Short.{coordinate}
 use Rattle.quantise.proofs.Numbers.{coordinate-number}
 use Rattle.areas.specs.EdgeHalf as EdgeHalf
 use Rattle.resource.specs.Section.{resolved}
-use Rattle.strip.specs.Cell.{Vec3, Polygon, Portal, Point, Head, Cell, All, HalfFits, EdgeFits, PolygonFits, PortalFits, PointFits, Fits, Words, InRange, each, vecWords, halfWords, edgeWords, polygonHeadAs, polygonWordsAs, polygonWords, portalWords, pointWords, headWords, endWords, encodeAs, encode}
+use Rattle.strip.specs.Cell.{Vec3, Polygon, Portal, Point, Head, Cell, All, HalfFits, EdgeFits, PolygonFits, PortalFits, PointFits, Fits}
+use Rattle.strip.specs.Box as Box
 use Rattle.strip.specs.Scan.{Scanned, scan}
+use Rattle.strip.proofs.Box.{FiniteVec, box-finite}
 use Rattle.strip.proofs.Exact.{scan-fits}
 use Rattle.grammar.specs.Polygons.{halfOf, edgeOf, vertexOf, linksAt, linkRun, countOf, startOf, runOf, PolygonOf}
-use Rattle.grammar.specs.Derives.{areaOf, vecOf, Finite, AllFinite, headOf, axis, backOf, portalOf, pointOf, Makes, Derives}
+use Rattle.grammar.specs.Derives.{areaOf, axis, backOf, portalOf, pointOf, Makes, Derives}
 use Rattle.grammar.specs.Formed.{Bytes, AllNumbers, Ends, Positions, Shaped}
-use Rattle.grammar.proofs.Runs.{all-take, all-drop, all-append, all-at, all-map, all-imply, all-images, all-each, each-all}
-use Rattle.grammar.proofs.Bytes.{bytes-none, bytes-cut, bytes-resolved, bytes-good, bytes-array, bytes-items, bytes-trees}
-
-abbrev Word : ℕ → Type 0
-Word w = w < 2 ^ 32
+use Rattle.strip.proofs.Alls.{all-take, all-drop, all-at, all-map, all-images}
+use Rattle.grammar.proofs.Runs.{each-all}
+use Rattle.grammar.proofs.Bytes.{bytes-none, bytes-cut, bytes-resolved, bytes-array, bytes-items, bytes-trees}
 
 abbrev Short : ℕ → Type 0
 Short w = w < 2 ^ 16
@@ -44,31 +42,22 @@ coordinate-fits : (q : ℕ) (lo extent : Float) → T (fits binary32 (coordinate
 unfolding coordinate
 coordinate-fits q lo extent = add-fits binary32 lo _
 
-axis-word : (q lo extent : ℕ) → Word (axis q lo extent)
-unfolding axis
-axis-word q lo extent = toBits-lt binary32 _ (coordinate-fits q (ofBits binary32 lo) (ofBits binary32 extent))
-
-of-finite : (b : ℕ) → Finite b → T (finite (ofBits binary32 b))
-of-finite b h = rw (finite-bits b, lt-ltb (b % 2 ^ 31) 0x7F80_0000 h) tt
+of-finite : (b : ℕ) → Box.finite b ≡ true → T (finite (ofBits binary32 b))
+of-finite b h = rw (finite-bits b, h) tt
 
 is-number : (b : Bool) → T (not b) → b ≡ false
 is-number true t = absurd t
 is-number false t = refl
 
 -- on a finite axis it is the bits of a number
-pub axis-number : (q lo extent : ℕ) → q < 65536 → Finite lo → Finite extent → isNan (ofBits binary32 (axis q lo extent)) ≡ false
+pub axis-number : (q lo extent : ℕ) → q < 65536 → Box.finite lo ≡ true → Box.finite extent ≡ true → isNan (ofBits binary32 (axis q lo extent)) ≡ false
 unfolding axis
 axis-number q lo extent h l e =
     let x : Float = coordinate q (ofBits binary32 lo) (ofBits binary32 extent) in
     ap isNan (ofBits-toBits binary32 x (coordinate-fits q (ofBits binary32 lo) (ofBits binary32 extent)))
     ∙ is-number (isNan x) (coordinate-number q (ofBits binary32 lo) (ofBits binary32 extent) (omega arith) (of-finite lo l) (of-finite extent e))
 
-back-words : (h : Head) (x y z : ℕ) → Words (vecWords (backOf h x y z))
-unfolding vecWords backOf
-back-words h x y z =
-    (axis-word x (h .bb-min .x) (h .bb-size .x), (axis-word y (h .bb-min .y) (h .bb-size .y), (axis-word z (h .bb-min .z) (h .bb-size .z), tt)))
-
-back-numbers : (h : Head) → AllFinite (h .bb-min) → AllFinite (h .bb-size) → (x y z : ℕ) → Short x → Short y → Short z → AllNumbers (backOf h x y z)
+back-numbers : (h : Head) → FiniteVec (h .bb-min) → FiniteVec (h .bb-size) → (x y z : ℕ) → Short x → Short y → Short z → AllNumbers (backOf h x y z)
 unfolding backOf
 back-numbers h l e x y z hx hy hz =
     record { x = axis-number x _ _ hx (l .x) (e .x); y = axis-number y _ _ hy (l .y) (e .y); z = axis-number z _ _ hz (l .z) (e .z) }
@@ -122,17 +111,6 @@ edge-fits : (area : ℕ → ℕ) (b : List ℕ) → EdgeFits (edgeOf area b)
 unfolding edgeOf
 edge-fits area b = record { a = half-fits area (le 4 b 0); b = half-fits area (le 4 b 4) }
 
-half-words : (area : ℕ → ℕ) → ((i : ℕ) → Word (area i)) → (w : ℕ) → Words (halfWords (halfOf area w))
-unfolding halfOf halfWords
-half-words area h w = (h _, (omega arith, (omega arith, tt)))
-
-edge-words : (area : ℕ → ℕ) → ((i : ℕ) → Word (area i)) → (b : List ℕ) → Words (edgeWords (edgeOf area b))
-unfolding edgeOf edgeWords
-edge-words area h b = all-append Word (halfWords (halfOf area (le 4 b 0))) (halfWords (halfOf area (le 4 b 4))) (half-words area h (le 4 b 0)) (half-words area h (le 4 b 4))
-
-abbrev WordVec : Vec3 → Type 0
-WordVec v = Words (vecWords v)
-
 module _ {vs is es : List (List ℕ)} {ls : List ℕ} {area : ℕ → ℕ} {back : ℕ → ℕ → ℕ → Vec3} {b : List ℕ} {p : Polygon} (h : Bytes b) (f : PolygonOf vs is es ls area back b p) where
   run-length : (items : List (List ℕ)) → startOf b + countOf b ≤ length items → length (runOf b items) ≡ countOf b
   run-length items room = length-take-le (countOf b) (drop (startOf b) items) (rw length-drop (omega arith))
@@ -160,18 +138,6 @@ module _ {vs is es : List (List ℕ)} {ls : List ℕ} {area : ℕ → ℕ} {back
         edges = rw (f .edges-are) (all-images EdgeFits (edgeOf area) (edge-fits area) (runOf b es));
       }
 
-  polygon-words : All Short ls → ((i : ℕ) → Word (area i)) → All WordVec (p .vertices) → Words (polygonWords p)
-  unfolding polygonWordsAs polygonHeadAs
-  polygon-words shorts areas vertices =
-      let fits = polygon-fits shorts in
-      let links : Words (p .links) = all-imply Short Word (λ w l. omega arith) (p .links) (fits .links) in
-      let vertices-words : Words (each vecWords (p .vertices)) = all-each Word vecWords (p .vertices) vertices in
-      let edges : All (λ e. Words (edgeWords e)) (p .edges) = rw (f .edges-are) (all-images (λ e. Words (edgeWords e)) (edgeOf area) (edge-words area areas) (runOf b es)) in
-      let front = all-append Word (p .links) (each vecWords (p .vertices)) links vertices-words in
-      let rest = all-append Word (p .links ++ each vecWords (p .vertices)) (each edgeWords (p .edges)) front (all-each Word edgeWords (p .edges) edges) in
-      let first = pack-lt ((12, length (p .vertices)) ∷ (12, length (p .edges)) ∷ (4, length (p .links)) ∷ (4, 2) ∷ []) in
-      (first, (omega (arith, fits .flags0), (rw (f .flags1) (le-lt 4 b 0x24 h), (rw (f .flags2) (le-lt 4 b 0x28 h), rest))))
-
 -- ---- portals and points
 
 module _ (back : ℕ → ℕ → ℕ → Vec3) (b : List ℕ) (h : Bytes b) where
@@ -191,40 +157,7 @@ module _ (back : ℕ → ℕ → ℕ → Vec3) (b : List ℕ) (h : Bytes b) wher
   unfolding pointOf
   point-fits = record { angle = le-lt 1 b 6 h; kind = le-lt 1 b 7 h }
 
-  module _ (good : (x y z : ℕ) → WordVec (back x y z)) where
-    portal-words : Words (portalWords (portalOf back b))
-    unfolding portalOf portalWords
-    portal-words =
-        let from = back (le 2 b 4) (le 2 b 6) (le 2 b 8) in
-        let to = back (le 2 b 10) (le 2 b 12) (le 2 b 14) in
-        let first = pack-lt ((8, le 1 b 0) ∷ (8, le 1 b 1) ∷ (12, 0) ∷ (4, 3) ∷ []) in
-        let ends = all-append Word (vecWords from) (vecWords to) (good _ _ _) (good _ _ _) in
-        (first, (omega (arith, le-lt 2 b 2 h), all-append Word (vecWords from ++ vecWords to) _ ends (omega (arith, le-lt 2 b 16 h, le-lt 2 b 20 h), (omega arith, (omega arith, tt)))))
-
-    point-words : Words (pointWords (pointOf back b))
-    unfolding pointOf pointWords
-    point-words = (pack-lt ((8, le 1 b 6) ∷ (8, le 1 b 7) ∷ (12, 0) ∷ (4, 4) ∷ []), good (le 2 b 0) (le 2 b 2) (le 2 b 4))
-
 -- ---- the cell
-
-vec-words : (b : List ℕ) (off : ℕ) → Bytes b → WordVec (vecOf b off)
-unfolding vecOf vecWords
-vec-words b off h = (le-lt 4 b off h, (le-lt 4 b (off + 4) h, (le-lt 4 b (off + 8) h, tt)))
-
-head-words : (header root : List ℕ) → Bytes header → Bytes root → Words (headWords (headOf header root))
-unfolding headOf headWords
-head-words header root h r =
-    let box = all-append Word (vecWords (vecOf root 0)) (vecWords (vecOf root 16)) (vec-words root 0 r) (vec-words root 16 r) in
-    let rest = all-append Word (vecWords (vecOf root 0) ++ vecWords (vecOf root 16)) (vecWords (vecOf header 0x60)) box (vec-words header 0x60 h) in
-    (pack-lt ((28, 0) ∷ (4, 1) ∷ []), (le-lt 4 header 0x10 h, (le-lt 4 header 0x140 h, (le-lt 4 header 0x160 h, (le-lt 4 header 0 h, rest)))))
-
-area-word : (header : List ℕ) → Bytes header → (i : ℕ) → Word (areaOf header i)
-unfolding areaOf
-area-word header h i = by (ltb i (le 4 header 0x94))
-  where
-    by : (b : Bool) → Word (cond b (le 4 header (0x98 + 4 * i)) 16383)
-    by true = le-lt 4 header (0x98 + 4 * i) h
-    by false = omega arith
 
 module _ (system graphics : List ℕ) (sb : Bytes system) (gb : Bytes graphics) where
   links-short : (va n : ℕ) → All Short (linksAt system graphics va n)
@@ -260,7 +193,9 @@ module _ (system graphics : List ℕ) (sb : Bytes system) (gb : Bytes graphics) 
 
     -- no NaN is computed into a cell
     pub makes-numbers : Positions AllNumbers c
-    makes-numbers = positions AllNumbers (back-numbers (c .head) (m .min-finite) (m .size-finite))
+    makes-numbers =
+        let b = box-finite (c .head) (m .finite-box) in
+        positions AllNumbers (back-numbers (c .head) (b .min) (b .size))
 
     pub makes-shaped : All Shaped (c .polys)
     makes-shaped = polygons-have Shaped (λ b p h f. polygon-shaped h f)
@@ -274,33 +209,6 @@ module _ (system graphics : List ℕ) (sb : Bytes system) (gb : Bytes graphics) 
       portals = portals-have PortalFits (portal-fits back);
       points = points-have PointFits (point-fits back);
     }
-
-    makes-words : Words (encode c)
-    unfolding encodeAs
-    makes-words =
-        let header-bytes = bytes-good system graphics sb gb (m .header-good) in
-        let head : Words (headWords (c .head)) = rw (m .head-is) (head-words (m .header) (m .root) header-bytes (bytes-good system graphics sb gb (m .root-good))) in
-        let vectors = back-words (c .head) in
-        let vertices : (b : List ℕ) (p : Polygon) → PolygonOf (m .vertices) (m .indices) (m .edges) links (areaOf (m .header)) back b p → All WordVec (p .vertices) =
-        λ b p f. vertices-have WordVec back (λ x y z hx hy hz. vectors x y z) (bytes-items system graphics sb gb (m .vertex-list)) f in
-        let polys = polygons-have (λ p. Words (polygonWords p)) (λ b p h f. polygon-words h f short-links (area-word (m .header) header-bytes) (vertices b p f)) in
-        let portals = portals-have (λ p. Words (portalWords p)) (λ b h. portal-words back b h vectors) in
-        let points = points-have (λ t. Words (pointWords t)) (λ b h. point-words back b h vectors) in
-        let s₁ = headWords (c .head) in
-        let s₂ = s₁ ++ each polygonWords (c .polys) in
-        let s₃ = s₂ ++ each portalWords (c .portals) in
-        let s₄ = s₃ ++ each pointWords (c .points) in
-        let h₂ : Words s₂ = all-append Word s₁ (each polygonWords (c .polys)) head (all-each Word polygonWords (c .polys) polys) in
-        let h₃ : Words s₃ = all-append Word s₂ (each portalWords (c .portals)) h₂ (all-each Word portalWords (c .portals) portals) in
-        let h₄ : Words s₄ = all-append Word s₃ (each pointWords (c .points)) h₃ (all-each Word pointWords (c .points) points) in
-        all-append Word s₄ endWords h₄ (pack-lt ((28, 0) ∷ (4, 5) ∷ []), tt)
-
-    pub makes-in-range : InRange c
-    makes-in-range = record { fits = makes-fits; words = makes-words }
-
-  -- A derived strip is of words and well formed, and stands for the cell that the sections make.
-  pub derived-words : {w : List ℕ} → Derives system graphics w → Words w
-  derived-words d = rw (d .strip) (makes-words (d .makes))
 
   pub derived-scans : {w : List ℕ} (d : Derives system graphics w) → scan w ≡ Scanned.ok (d .cell)
   derived-scans {w} d = scan-fits w (d .cell) .1 (makes-fits (d .makes), sym (d .strip))

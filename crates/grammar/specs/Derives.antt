@@ -1,12 +1,14 @@
 -- The cell that two sections make, and the strip that they derive: the scope document's cell grammar. Definitions only.
-use Prim.Native.Nat.{ℕ, _+_, _*_, _%_, _^_, _≤_, _<_}
+use Prim.Native.Nat.{ℕ, _+_, _*_, _≤_}
 use mathlib.Core.Path.{_≡_}
+use mathlib.Core.Bool.{true}
 use mathlib.Core.List.{List, map}
 use lib.Ieee.{binary32, ofBits, toBits}
 use Rattle.fields.specs.Bytes.{le}
 use Rattle.fields.specs.Rows.{field}
 use Rattle.quantise.specs.Short.{coordinate}
 use Rattle.strip.specs.Cell.{Vec3, Portal, Point, Head, Cell, encode}
+use Rattle.strip.specs.Box.{finiteBox}
 use Rattle.areas.specs.EdgeHalf as EdgeHalf
 use Rattle.grammar.specs.Parts.{Good, Array}
 use Rattle.grammar.specs.Trees.{Tree}
@@ -20,15 +22,6 @@ areaOf header i = EdgeHalf.areaOf (λ k. le 4 header (0x98 + 4 * k)) (le 4 heade
 -- three floats as they stand in the bytes
 unfoldable pub vecOf : List ℕ → ℕ → Vec3
 vecOf b off = record { x = le 4 b off; y = le 4 b (off + 4); z = le 4 b (off + 8) }
-
--- neither an infinity nor a NaN
-abbrev pub Finite : ℕ → Type 0
-Finite bits = bits % 2 ^ 31 < 0x7F80_0000
-
-pub record AllFinite (v : Vec3) : Type 0 where
-  pub x : Finite (v .x)
-  pub y : Finite (v .y)
-  pub z : Finite (v .z)
 
 -- header values and root box
 unfoldable pub headOf : List ℕ → List ℕ → Head
@@ -90,9 +83,7 @@ pub record Makes (system graphics : List ℕ) (sectors : ℕ) (c : Cell) : Type 
   pub header-good : Good system graphics 0x5000_0000 368 header
   pub root-good : Good system graphics (le 8 header 0x120) 96 root
   pub head-is : c .head ≡ headOf header root
-  pub min-finite : AllFinite (c .head .bb-min)
-  pub max-finite : AllFinite (c .head .bb-max)
-  pub size-finite : AllFinite (c .head .bb-size)
+  pub finite-box : finiteBox (c .head) ≡ true
   pub tree : Tree system graphics (le 8 header 0x120) sectors points
   pub few-sectors : sectors ≤ 4096
   pub vertex-list : Items system graphics 6 (le 8 header 0x70) vertices

@@ -93,7 +93,7 @@ fn lay_items(out: &mut [u8], l: Layout, words: &[u32], n: usize, whole: usize, w
     let mut left = n;
     let mut i = 0;
     while i < k {
-        let m = blocks::least(per, left);
+        let m = fields::least(per, left);
         next = lay_part(out, next, words, from, m, whole, w);
         from += (whole + 1) * m;
         left -= m;

@@ -183,7 +183,7 @@ pub fn lay_records(
     let mut left = n;
     let mut i = 0;
     while i < k {
-        let m = blocks::least(PER_PART, left);
+        let m = fields::least(PER_PART, left);
         let part = lay_part(out, layout, strip, own, next, m, sides);
         layout = part.layout;
         next = part.cursor;

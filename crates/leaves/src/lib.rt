@@ -107,15 +107,6 @@ fn store(out: &mut [u32], at: usize, q: Shorts)
     out[at + 2] = q.z as u32;
 }
 
-fn fewer(a: usize, b: usize) -> usize
-    ensures { λ r. ⌜ r ≡ min a b ⌝ }
-{
-    if a < b {
-        return a;
-    }
-    b
-}
-
 // The shorts of each vertex, three words to a vertex, in a box given by lo and extent; as many as both slices hold, which is the answer.
 #[no_mangle]
 pub extern "C" fn leaf_quantise_all(vertices: &[u32], bounds: &[u32; 6], out: &mut [u32]) -> usize
@@ -124,7 +115,7 @@ pub extern "C" fn leaf_quantise_all(vertices: &[u32], bounds: &[u32; 6], out: &m
 {
     let lo = floats_at(bounds, 0);
     let size = floats_at(bounds, 3);
-    let n = fewer(vertices.len() / 3, out.len() / 3);
+    let n = fields::least(vertices.len() / 3, out.len() / 3);
     let mut i = 0;
     while i < n {
         let q = quantise::short::quantise(floats_at(vertices, 3 * i), lo, size);

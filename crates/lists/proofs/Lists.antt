@@ -50,6 +50,11 @@ module _ (system graphics : List ℕ) (va n : ℕ) where
       by true e h = omega (arith, eqb-true n 0 e, resolved-most)
       by false e h = good-length system graphics va n h
 
+  -- a part that isn't empty
+  pub whole-good : 0 < n → whole system graphics va n ≡ true → good system graphics va n ≡ true
+  unfolding whole
+  whole-good some h = rw (ne-eqb n 0 (λ z. omega arith)) at h
+
 -- ---- counts
 
 pub before-next : (table : List ℕ) (k : ℕ) → before table (k + 1) ≡ before table k + countAt table k
@@ -177,6 +182,16 @@ module _ (system graphics : List ℕ) (size : ℕ) (table : List ℕ) (r : Reada
   pub part-fits : size * c .count < 2 ^ 64
   part-fits = product (r .small) count-small
 
+  -- it is good, since it isn't empty
+  pub is-good : 0 < size → good system graphics (c .address) (size * c .count) ≡ true
+  unfolding partGood
+  is-good some =
+      let lo = h .low in
+      let hi = h .high in
+      let one : size * 1 ≤ size * c .count = mul-le-mul-left size (omega arith) in
+      let all = part-good system graphics size table (c .part) (parts table) (h .inside) (r .good) in
+      whole-good system graphics (c .address) (size * c .count) (omega (arith, mul-one size)) (rw (h .stands .address, h .stands .count) all)
+
   pub offset-fits : size * (i - c .first) < 2 ^ 64
   offset-fits = let a = h .high in let b = count-small in product (r .small) (omega arith)
 
@@ -203,7 +218,7 @@ module _ (system graphics : List ℕ) (size : ℕ) (table : List ℕ) (r : Reada
         let hi : i ≤ before table (c .part) + countAt table (c .part) = let a = rw (s .first, s .count) at (h .high) in omega arith in
         part-to-end p (size * (i - c .first)) ∙ rw (s .first, s .count, is-part) (sym (run-in system graphics size table (c .part) (parts table) i (h .inside) (r .good) lo hi))
 
-  -- a run from item i on, as long as it is said to be, begins with that item
+  -- a run from item i on is as long as it is said to be
   module _ {q : List ℕ} (e : q ≡ take (size * (c .first + c .count - i)) (drop (size * i) (listBytes system graphics size table))) where
     pub length-run : length q ≡ size * (c .first + c .count - i)
     length-run =
@@ -212,16 +227,6 @@ module _ (system graphics : List ℕ) (size : ℕ) (table : List ℕ) (r : Reada
         let a = h .high in
         let d : size * (c .first + c .count) ≡ size * i + size * (c .first + c .count - i) = bytes-between size (omega arith) in
         ap length e ∙ length-take-le _ _ (rw (length-drop, length-list system graphics size table (r .good)) (omega arith))
-
-    run-some : size ≤ size * (c .first + c .count - i)
-    run-some = let a = h .high in let d : 1 ≤ c .first + c .count - i = omega arith in omega (arith, mul-le-mul-left size d, mul-one size)
-
-    pub first-inside : size ≤ length q
-    first-inside = omega (arith, run-some, length-run)
-
-    pub first-item : take size q ≡ item size (listBytes system graphics size table) i
-    unfolding item
-    first-item = rw (e, take-take size (size * (c .first + c .count - i)) (drop (size * i) (listBytes system graphics size table)) run-some)
 
 -- ---- a run of items, n of size bytes from number i on
 

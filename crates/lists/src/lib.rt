@@ -2,10 +2,11 @@
 ghost use mathlib.Core.Path.{_≡_};
 ghost use Prim.Native.Nat.{_+_, _-_, _*_, _^_, _≤_, _<_};
 ghost use lib.ListN.{take, drop};
-ghost use Rattle.lists.specs.Lists.{item, parts, before, total, tableOf, listBytes, listed, Few, Readable};
+ghost use Rattle.lists.specs.Lists.{parts, before, total, tableOf, listBytes, listed, Few, Readable};
 ghost use Rattle.lists.specs.Cursors.{Stands, Holds};
 use fields::u32_le;
 use fields::u64_le;
+use resource::good_part;
 use resource::resolve;
 use strip::Refusal;
 
@@ -108,7 +109,7 @@ fn back_to(table: &[u8], from: Cursor, i: usize) -> Cursor
 }
 
 // The cursor moved to the part that holds item i, back or forth from where it stands.
-pub fn seek(table: &[u8], from: Cursor, i: usize) -> Cursor
+pub fn walk_to(table: &[u8], from: Cursor, i: usize) -> Cursor
     requires { ⌜ Stands (now table) from × (i < total (now table)) × (total (now table) < 2 ^ 32) ⌝ }
     ensures { λ r. ⌜ Holds (now (table .entry)) i r ⌝ }
 {
@@ -117,6 +118,19 @@ pub fn seek(table: &[u8], from: Cursor, i: usize) -> Cursor
         c = cursor_at(table, c.part + 1, c.first + c.count);
     }
     c
+}
+
+// The same. An item of the part where the cursor stands costs two tests and no call.
+pub fn seek(table: &[u8], from: Cursor, i: usize) -> Cursor
+    requires { ⌜ Stands (now table) from × (i < total (now table)) × (total (now table) < 2 ^ 32) ⌝ }
+    ensures { λ r. ⌜ Holds (now (table .entry)) i r ⌝ }
+{
+    if from.first <= i {
+        if i - from.first < from.count {
+            return from;
+        }
+    }
+    walk_to(table, from, i)
 }
 
 // Items i, i + 1 and so on, as far as the cursor's part goes: a part of the lent section itself.
@@ -128,27 +142,11 @@ pub fn list_run<'a>(
     c: Cursor,
     i: usize,
 ) -> &'a [u8]
-    requires { ⌜ Readable (now system) (now graphics) size (now table) × Holds (now table) i c ⌝ }
+    requires { ⌜ Readable (now system) (now graphics) size (now table) × Holds (now table) i c × (0 < size) ⌝ }
     ensures { λ r. ⌜ now r ≡ take (size * (c .first + c .count - i)) (drop (size * i) (listBytes (now (system .entry)) (now (graphics .entry)) size (now (table .entry)))) ⌝ }
 {
     let count = c.count;
-    let p = resolve(system, graphics, c.address, size * count);
+    let p = good_part(system, graphics, c.address, size * count);
     let at = size * (i - c.first);
     &p[at..]
-}
-
-// Item i, which the cursor's part holds.
-pub fn list_item<'a>(
-    system: &'a [u8],
-    graphics: &'a [u8],
-    table: &'a [u8],
-    size: usize,
-    c: Cursor,
-    i: usize,
-) -> &'a [u8]
-    requires { ⌜ Readable (now system) (now graphics) size (now table) × Holds (now table) i c ⌝ }
-    ensures { λ r. ⌜ now r ≡ item size (listBytes (now (system .entry)) (now (graphics .entry)) size (now (table .entry))) i ⌝ }
-{
-    let run = list_run(system, graphics, table, size, c, i);
-    &run[..size]
 }

@@ -1,31 +1,35 @@
 -- The checks in their order find nothing exactly when the cell is accepted, the work is long enough, and the pages fit. Assumes nothing.
 use Prim.Native.Nat.{ℕ, zero, suc, _+_, _/_, _≤_}
 use mathlib.Core.Path.{_≡_, refl, ap, sym, subst}
-use mathlib.Core.Bool.{Bool, true, false, _||_, true≢false}
+use mathlib.Core.Bool.{Bool, true, false, not, _||_, true≢false}
 use mathlib.Core.Logic.{_↔_}
-use mathlib.Core.List.{List, [], _∷_, _++_}
+use mathlib.Core.List.{List, [], _∷_, _++_, map-append}
 use native.Mathlib.Omega.{arith}
-use lib.ListN.{length, length-append}
+use lib.ListN.{length}
 use lib.Dec.{ltb}
 use borrow.Author.Tests.{ltb-false, le-ltb}
 use Rattle.math.specs.declared.vec3.Vec3.{Vec3 as Floats}
 use Rattle.strip.specs.Cell.{Polygon, Cell, All}
+use Rattle.strip.specs.Box.{finiteBox}
 use Rattle.distinct.specs.Distinct.{withNew, distinctFrom}
-use Rattle.distinct.proofs.Final.{grows}
+use Rattle.distinct.proofs.Final.{length-grows, distinct-append}
 use Rattle.areas.specs.Areas.{seeded}
 use Rattle.areas.proofs.Seeds.{length-seeded}
 use Rattle.pages.specs.Items.{Corner, gather, cornersIn, corners, triples, named}
 use Rattle.pages.specs.Sectors.{leafCounts}
 use Rattle.pages.specs.Pages.{loOf, extentOf, vertices, areas, links, sectors, pages}
-use Rattle.pages.specs.Checks.{Verdict, fine, when, first, at, endlessBox, cornerFault, cornersFault, polygonFault, polygonsVerdict, leafFault, leavesVerdict, cellVerdict}
+use Rattle.pages.specs.Checks.{Verdict, fine, when, first, at, cornerFault, cornersFault, polygonFault, polygonsVerdict, leafFault, leavesVerdict, cellVerdict}
 use Rattle.pages.specs.Accepted.{Checked, AllChecked, FewIn, Accepted}
-use Rattle.pages.proofs.Lists.{map-append}
 
 -- ---- a check, checks in order, and what comes after a place
 
 when-fine : (b : Bool) (n : ℕ) → (when b (suc n) ≡ 0) ↔ (b ≡ false)
 when-fine true n = (λ e. absurd (omega arith), λ e. absurd (true≢false e))
 when-fine false n = (λ e. refl, λ e. refl)
+
+not-fine : (b : Bool) (n : ℕ) → (when (not b) (suc n) ≡ 0) ↔ (b ≡ true)
+not-fine true n = (λ e. refl, λ e. refl)
+not-fine false n = (λ e. absurd (omega arith), λ e. absurd (true≢false (sym e)))
 
 over-fine : (a b n : ℕ) → (when (ltb a b) (suc n) ≡ 0) ↔ (b ≤ a)
 over-fine a b n = (λ e. ltb-false a b (when-fine (ltb a b) n .0 e), λ h. when-fine (ltb a b) n .1 (le-ltb a b h))
@@ -62,14 +66,6 @@ renamed : {A B C : Type 0} → (A → B) → (B → A) → C ↔ A → C ↔ B
 renamed f g h = (λ c. f (h .0 c), λ b. h .1 (g b))
 
 -- ---- tables only grow
-
-length-grows : (l xs : List ℕ) → length l ≤ length (distinctFrom l xs)
-length-grows l xs = let g = grows l xs in rw (g .1, length-append l (g .0)) (omega arith)
-
-pub distinct-append : (l xs ys : List ℕ) → distinctFrom l (xs ++ ys) ≡ distinctFrom (distinctFrom l xs) ys
-unfolding distinctFrom
-distinct-append l [] ys = refl
-distinct-append l (x ∷ xs) ys = distinct-append (withNew l x) xs ys
 
 pub triples-append : (ks ls : List Corner) → triples (ks ++ ls) ≡ triples ks ++ triples ls
 triples-append ks ls = map-append (λ (k : Corner). k .vertex) ks ls
@@ -187,7 +183,7 @@ accepted words work out c =
       (a .checked, ((a .few-vertices, a .few-areas), (a .leaves, ((a .few-portals, (a .few-links, h .2)), refl)))),
     ))
     (at-fine 0 _
-    (then-fine _ _ (over-fine (work / 4) words 0) (then-fine _ _ (when-fine (endlessBox (c .head)) 9) (one-fine _ (over-fine 16383 (length (c .polys)) 10))))
+    (then-fine _ _ (over-fine (work / 4) words 0) (then-fine _ _ (not-fine (finiteBox (c .head)) 9) (one-fine _ (over-fine 16383 (length (c .polys)) 10))))
     (polygons-fine (loOf c) (extentOf c) [] (seeded (c .head .area)) 0 0 (c .polys) _ (omega arith) (omega (arith, length-seeded (c .head .area)))
     (leaves-fine 0 (leafCounts (sectors c)) _
     (at-fine 0 _

@@ -11,6 +11,7 @@ use Rattle.quantise.specs.Short.{short, fraction, clamped, nearest, coordinate}
 use Rattle.quantise.specs.Quarter.{side}
 use Rattle.quantise.specs.Bounds.{fold}
 use Rattle.strip.specs.Cell.{Vec3, Half, Edge, Polygon, Portal, Cell, encode, encodeAs, each, vecWords, headWords, halfWords, edgeWords, polygonHeadAs, polygonWordsAs, portalWords, pointWords}
+use Rattle.strip.specs.Box.{finiteBox}
 use Rattle.distinct.specs.Distinct.{indexOf, withNew, distinctFrom}
 use Rattle.areas.specs.EdgeHalf.{halfWord}
 use Rattle.blocks.specs.Layout.{placeOf}
@@ -36,7 +37,7 @@ both a = edge a a
 
 -- what a cell is written as, how it is read again, and what is refused: an equation under `unfolding computed` computes
 unfoldable pub computed : (words work out : ℕ) → Cell → List ℕ × Cell × Verdict
-unfolding les leBytes cat rowBytes pack lesser greater short fraction clamped nearest coordinate side fold indexOf withNew distinctFrom halfWord placeOf tableBytes frontBlocks listBlocks gather tripleIn cornersOf named vertexItems indexItems edgeItems boxOf polygonItems middle leaves between inside leafOf pointsOf axisMeets meets idsOf grown treeOf pointCount byteCount leafCounts preorder pointItems leafBlocks treeBlocks Sectors.sizes portalItems padded headerBytes vertices areas links sectors counts sizesOf sizes endHeader endVertices endIndices endEdges endPolygons endSectors endPortals placesOf header blocks pages add sub mul div lt le eq ofInt ofBits toBits ofFields round units odd size climb span sum neg isNan halfAgain edgeAgain positionAgain polygonAgain portalAgain pointAgain reread encodeAs each vecWords headWords halfWords edgeWords polygonHeadAs polygonWordsAs portalWords pointWords first at cornerFault cornersFault polygonFault polygonsVerdict leavesVerdict cellVerdict
+unfolding les leBytes cat rowBytes pack lesser greater short fraction clamped nearest coordinate side fold indexOf withNew distinctFrom halfWord placeOf tableBytes frontBlocks listBlocks gather tripleIn cornersOf named vertexItems indexItems edgeItems boxOf polygonItems middle leaves between inside leafOf pointsOf axisMeets meets idsOf grown treeOf pointCount byteCount leafCounts preorder pointItems leafBlocks treeBlocks Sectors.sizes portalItems padded headerBytes vertices areas links sectors counts sizesOf sizes endHeader endVertices endIndices endEdges endPolygons endSectors endPortals placesOf header blocks pages add sub mul div lt le eq ofInt ofBits toBits ofFields round units odd size climb span sum neg isNan halfAgain edgeAgain positionAgain polygonAgain portalAgain pointAgain reread encodeAs each vecWords headWords halfWords edgeWords polygonHeadAs polygonWordsAs portalWords pointWords first at cornerFault cornersFault polygonFault polygonsVerdict leavesVerdict finiteBox cellVerdict
 computed words work out c = (pages c, reread c, cellVerdict words work out c)
 
 -- A grid cell with a triangle, a portal and three points. A vertex has a NaN, the last edge is missing, a point lies on four leaves' borders and

@@ -1,6 +1,8 @@
 pub mod Lists
+pub mod Optional
 pub mod Sizes
 pub mod Firsts
 pub mod Accepted
 pub mod Placed
+pub mod Stored
 pub mod Examples

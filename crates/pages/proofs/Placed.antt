@@ -23,7 +23,7 @@ use Rattle.pages.specs.Sectors.Sector.{leaf, node}
 use Rattle.pages.specs.Pages as Pages
 use Rattle.pages.specs.Pages.{allCorners, loOf, extentOf, vertices, links, sectors, sizesOf, sizes, blocks, pages}
 use Rattle.pages.specs.Accepted.{AllChecked, FewIn, Accepted}
-use Rattle.pages.proofs.Lists.{all-apart}
+use Rattle.strip.proofs.Alls.{all-apart}
 use Rattle.pages.proofs.Sizes.{blocks-sizes}
 
 -- ---- corners

@@ -1,13 +1,13 @@
 -- The cells that the writer accepts: what its checks ask of a cell, apart from their order and from lent memory. Definitions only.
 use Prim.Native.Nat.{ℕ, _+_, _≤_}
 use mathlib.Core.Path.{_≡_}
-use mathlib.Core.Bool.{false}
+use mathlib.Core.Bool.{true}
 use mathlib.Core.List.{List, [], _∷_}
 use lib.ListN.{length}
 use Rattle.strip.specs.Cell.{Polygon, Cell, All}
+use Rattle.strip.specs.Box.{finiteBox}
 use Rattle.pages.specs.Sectors.{leafCounts}
 use Rattle.pages.specs.Pages.{vertices, areas, links, sectors}
-use Rattle.pages.specs.Checks.{endlessBox}
 
 -- 12, 13 and 16, of a polygon whose run begins at `start`
 pub record Checked (start : ℕ) (p : Polygon) : Type 0 where
@@ -27,7 +27,7 @@ pub record FewIn (n : ℕ × ℕ) : Type 0 where
 
 pub record Accepted (c : Cell) : Type 0 where
   -- 10, 11
-  pub finite : endlessBox (c .head) ≡ false
+  pub finite : finiteBox (c .head) ≡ true
   pub few-polygons : length (c .polys) ≤ 16383
   pub checked : AllChecked 0 (c .polys)
   -- 14, 15: of the whole tables, since they only grow

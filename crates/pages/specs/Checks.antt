@@ -1,12 +1,13 @@
 -- The writer's refusals, each with its number and place, in document 01's order: 3, 1, 10, 11; per polygon 12, 13, then per vertex 14, then 15 for half a
 -- and b, then 16; leaves in order 17, 18; 19, 20, 2. Definitions only.
-use Prim.Native.Nat.{ℕ, zero, suc, _+_, _/_, _%_, _^_}
+use Prim.Native.Nat.{ℕ, zero, suc, _+_, _/_}
 use mathlib.Core.Bool.{Bool, cond, not, _||_}
 use mathlib.Core.List.{List, [], _∷_}
 use lib.ListN.{length}
 use lib.Dec.{ltb}
 use Rattle.math.specs.declared.vec3.Vec3.{Vec3 as Floats}
-use Rattle.strip.specs.Cell.{Vec3, Polygon, Head, Cell}
+use Rattle.strip.specs.Cell.{Polygon, Cell}
+use Rattle.strip.specs.Box.{finiteBox}
 use Rattle.strip.specs.Scan.{scan}
 use Rattle.strip.specs.Outcome.{Outcome, done}
 use Rattle.strip.specs.Check.{onCell}
@@ -34,19 +35,6 @@ first (suc n ∷ rest) = suc n
 unfoldable pub at : (place fault : ℕ) → Verdict → Verdict
 at place zero rest = rest
 at place (suc n) rest = refused (suc n) place
-
--- ---- 10
-
--- the bits of an infinity or a NaN
-abbrev pub endless : ℕ → Bool
-endless w = not (ltb (w % 2 ^ 31) 0x7F80_0000)
-
-abbrev pub endlessVec : Vec3 → Bool
-endlessVec v = endless (v .x) || (endless (v .y) || endless (v .z))
-
--- box (min, max or size) not finite
-abbrev pub endlessBox : Head → Bool
-endlessBox h = endlessVec (h .bb-min) || (endlessVec (h .bb-max) || endlessVec (h .bb-size))
 
 -- ---- polygons. ts are the vertices met before, us the area table so far
 
@@ -100,10 +88,10 @@ leavesVerdict k (n ∷ ns) rest = at k (leafFault n) (leavesVerdict (k + 1) ns r
 
 -- ---- all of them
 
--- the checks of a cell whose strip has so many words, with so many words of work and bytes of output
+-- the checks of a cell whose strip has so many words, with so many words of work and bytes of output. 10 box (min, max or size) not finite
 unfoldable pub cellVerdict : (words work out : ℕ) → Cell → Verdict
 cellVerdict words work out c =
-    at 0 (first (when (ltb (work / 4) words) 1 ∷ when (endlessBox (c .head)) 10 ∷ when (ltb 16383 (length (c .polys))) 11 ∷ []))
+    at 0 (first (when (ltb (work / 4) words) 1 ∷ when (not (finiteBox (c .head))) 10 ∷ when (ltb 16383 (length (c .polys))) 11 ∷ []))
     (polygonsVerdict (loOf c) (extentOf c) [] (seeded (c .head .area)) 0 0 (c .polys)
     (leavesVerdict 0 (leafCounts (sectors c))
     (at 0 (first (when (ltb 585 (length (c .portals))) 19 ∷ when (ltb 8192 (length (links c))) 20 ∷ when (ltb out (length (pages c))) 2 ∷ []))

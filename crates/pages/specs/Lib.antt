@@ -5,3 +5,4 @@ pub mod Pages
 pub mod Checks
 pub mod Reread
 pub mod Accepted
+pub mod Stored

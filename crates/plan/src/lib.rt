@@ -12,6 +12,7 @@ ghost use Rattle.pages.specs.Items.{boxOf};
 ghost use Rattle.pages.specs.Sectors.{leaves, depthBy, rootBox, leafCounts, treeOf};
 ghost use Rattle.plan.specs.Plan.{sides, boxWords, boxes, leafWords, portalsEnd, pointsIn, restWords, WorkHeld, faulted, Planned};
 use decide::Decision;
+use math::vec3::floats_at;
 use quantise::bounds::Aabb;
 use quantise::quarter::bits16_of;
 use strip::Counts;
@@ -70,7 +71,7 @@ fn put_leaves(
     let mut at = first;
     let mut i: usize = 0;
     while i < n {
-        let p = decide::floats_at(strip, at + 1);
+        let p = floats_at(strip, at + 1);
         work[base + i] = quadtree::boxes::leaf_of(content, b, lines, p);
         at += 4;
         i += 1;
@@ -82,8 +83,8 @@ pub fn root_box(strip: &[u32]) -> Aabb
     requires { ⌜ 14 ≤ length (now strip) ⌝ }
     ensures { λ r. ⌜ r ≡ rootBox (headAt (now (strip .entry)) 0) ⌝ }
 {
-    let min = decide::floats_at(strip, 5);
-    let max = decide::floats_at(strip, 8);
+    let min = floats_at(strip, 5);
+    let max = floats_at(strip, 8);
     Aabb { min, max }
 }
 

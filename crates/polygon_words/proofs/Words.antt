@@ -68,14 +68,18 @@ half-words area raw ee ea =
     let n : raw / 524288 % 4 % 4 ≡ raw / 524288 % 4 = omega arith in
     rw (ea, ee, m, n)
 
-pub edge-put : (area : ℕ → ℕ) (run : List ℕ) (k at : ℕ) (out : List ℕ)
-    → put (at + 3) (halfWords (halfOf area (le 4 run (8 * k + 4)))) (put at (halfWords (halfOf area (le 4 run (8 * k)))) out) ≡ put at (edgeWords (edgeOf area (item 8 run k))) out
+pub edge-put : (area : ℕ → ℕ) (b : List ℕ) (at : ℕ) (out : List ℕ) → put (at + 3) (halfWords (halfOf area (le 4 b 4))) (put at (halfWords (halfOf area (le 4 b 0))) out) ≡ put at (edgeWords (edgeOf area b)) out
 unfolding edgeWords edgeOf
-edge-put area run k at out =
-    rw (item-field 8 run k 4 0 (omega arith), item-field 8 run k 4 4 (omega arith), add-zero (8 * k))
-    (put-next 3 at (halfWords (halfOf area (le 4 run (8 * k)))) (halfWords (halfOf area (le 4 run (8 * k + 4)))) out (half-three (halfOf area (le 4 run (8 * k)))))
+edge-put area b at out = put-next 3 at (halfWords (halfOf area (le 4 b 0))) (halfWords (halfOf area (le 4 b 4))) out (half-three (halfOf area (le 4 b 0)))
 
 -- ---- indices
+
+-- an index read from its own two bytes
+pub own-bytes : (run : List ℕ) (k : ℕ) {x : ℕ} → x ≡ le 2 (take (2 * k + 2 - 2 * k) (drop (2 * k) run)) 0 → x ≡ le 2 run (2 * k)
+unfolding item
+own-bytes run k e =
+    let two : 2 * k + 2 - 2 * k ≡ 2 = omega arith in
+    rw two at e ∙ item-field 2 run k 2 0 (omega arith) ∙ ap (le 2 run) (add-zero (2 * k))
 
 module _ (run : List ℕ) (n limit : ℕ) where
   pub below-begin : allBelow limit (cut 2 (n - 0) (drop (2 * 0) run)) ≡ allBelow limit (cut 2 n run)

@@ -3,11 +3,10 @@ ghost use mathlib.Core.Path.{_≡_};
 ghost use mathlib.Core.List.{[], _∷_, map};
 ghost use Prim.Native.Nat.{_+_, _*_, _/_, _≤_};
 ghost use lib.ListN.{length};
-ghost use Rattle.fields.specs.Bytes.{put, cut};
+ghost use Rattle.fields.specs.Bytes.{put, cut, le};
 ghost use Rattle.strip.specs.Cell.{vecWords, halfWords, edgeWords, each};
 ghost use Rattle.grammar.specs.Polygons.{vertexOf, halfOf, edgeOf, linkRun, countOf};
 ghost use Rattle.grammar.specs.Derives.{areaOf};
-ghost use Rattle.lists.specs.Lists.{item};
 ghost use Rattle.records.specs.Back.{backBy};
 ghost use Rattle.polygon_words.specs.Words.{linksOf, linkStart, linksNamed, linkCount, frontOf, allBelow};
 use areas::ADJACENT_NONE;
@@ -54,25 +53,37 @@ fn put_half(header: &[u8], raw: u32, out: &mut [u32], at: usize)
     put3(out, at, area, e.poly, e.unk3 % 2048 + 65536 * (e.unk2 % 4));
 }
 
-// Edge k of `run`, 8 bytes.
-fn put_edge(header: &[u8], run: &[u8], k: usize, out: &mut [u32], at: usize)
-    requires { ⌜ (8 * k + 8 ≤ length (now run)) × (at + 6 ≤ length (now out)) ⌝ }
-    ensures { λ _. ⌜ now (out .exit) ≡ put at (edgeWords (edgeOf (areaOf (now (header .entry))) (item 8 (now (run .entry)) k))) (now (out .entry)) ⌝ }
+// An edge, 8 bytes.
+fn put_edge<'a>(header: &'a [u8], e: &'a [u8], out: &mut [u32], at: usize)
+    requires { ⌜ at + 6 ≤ length (now out) ⌝ }
+    ensures { λ _. ⌜ now (out .exit) ≡ put at (edgeWords (edgeOf (areaOf (now (header .entry))) (now (e .entry)))) (now (out .entry)) ⌝ }
 {
-    put_half(header, u32_le(run, 8 * k), out, at);
-    put_half(header, u32_le(run, 8 * k + 4), out, at + 3);
+    put_half(header, u32_le(e, 0), out, at);
+    put_half(header, u32_le(e, 4), out, at + 3);
 }
 
 // The first n edges of `run`.
-pub fn put_edge_run(header: &[u8], run: &[u8], n: usize, out: &mut [u32], at: usize)
+pub fn put_edge_run<'a>(header: &'a [u8], run: &'a [u8], n: usize, out: &mut [u32], at: usize)
     requires { ⌜ (8 * n ≤ length (now run)) × (at + 6 * n ≤ length (now out)) ⌝ }
     ensures { λ _. ⌜ now (out .exit) ≡ put at (each edgeWords (map (edgeOf (areaOf (now (header .entry)))) (cut 8 n (now (run .entry))))) (now (out .entry)) ⌝ }
 {
     let mut k = 0;
     while k < n {
-        put_edge(header, run, k, out, at + 6 * k);
+        let from = 8 * k;
+        let to = from + 8;
+        put_edge(header, &run[from..to], out, at + 6 * k);
         k += 1;
     }
+}
+
+// Index k of `run`. Two bytes are lent to the reader of numbers, which then needs no look at the end.
+pub fn index_at(run: &[u8], k: usize) -> usize
+    requires { ⌜ 2 * k + 2 ≤ length (now run) ⌝ }
+    ensures { λ r. ⌜ r ≡ le 2 (now (run .entry)) (2 * k) ⌝ }
+{
+    let from = 2 * k;
+    let to = from + 2;
+    u16_le(&run[from..to], 0) as usize
 }
 
 // Whether the first n indices of `run` are below a limit.
@@ -82,7 +93,7 @@ pub fn all_below(run: &[u8], n: usize, limit: usize) -> bool
 {
     let mut k = 0;
     while k < n {
-        if limit <= (u16_le(run, 2 * k) as usize) {
+        if limit <= index_at(run, k) {
             return false;
         }
         k += 1;

@@ -6,21 +6,19 @@ use mathlib.Core.Path.{_≡_, refl, sym, ap, _∙_}
 use mathlib.Core.Bool.{Bool, true, false, _&&_}
 use mathlib.Core.List.{List, [], _∷_, _++_, map}
 use lib.Dec.{ltb}
-use lib.ListN.{length, take, drop, getD}
+use lib.ListN.{length, take, drop, getD, take-append-drop, drop-of-length-le}
 use lib.Seq.{take-add, drop-drop, ext-getD}
 use Rattle.fields.specs.Bytes.{le, put, cut}
 use Rattle.fields.proofs.Puts.{put-next, put-nil}
-use Rattle.strip.specs.Cell.{Vec3, each}
-use Rattle.grammar.specs.Polygons.{vertexOf}
+use Rattle.strip.specs.Cell.{each}
 use Rattle.lists.specs.declared.Cursor.{Cursor}
 use Rattle.lists.specs.Lists.{item, total, listBytes, Readable}
 use Rattle.lists.specs.Cursors.{Holds}
-use Rattle.lists.proofs.Lists.{within, length-run, run-item, item-field}
-use Rattle.fields.proofs.Cuts.{cut-length}
+use Rattle.lists.proofs.Lists.{within, length-run, run-item}
+use Rattle.fields.proofs.Cuts.{cut-length, cut-left}
 use Rattle.lists.proofs.Cuts.{cut-item, cut-run, item-drop}
 use Rattle.polygon_words.specs.Words.{allBelow}
 use Rattle.records.proofs.Items.{each-append, length-each}
-use Rattle.polygons.specs.Polygons.{corner}
 use Rattle.polygons.specs.Passes.{itemsIn}
 
 pub length-items : (system graphics : List ℕ) (w : ℕ) (table : List ℕ) → length (itemsIn system graphics w table) ≡ total table
@@ -38,6 +36,61 @@ front w bytes i m n h =
     (λ j l.
     let low : j < n = rw (cut-length w n (take (w * m) (drop (w * i) bytes))) at l in
     cut-item w n (take (w * m) (drop (w * i) bytes)) j low ∙ run-item w bytes i m j (omega arith) ∙ sym (cut-item w n (drop (w * i) bytes) j low ∙ item-drop w bytes i j))
+
+-- m items from number i on stand in the bytes q, the first of them at their head
+pub record Part (w : ℕ) (items : List (List ℕ)) (i m : ℕ) (q : List ℕ) : Type 0 where
+  pub some : 0 < m
+  pub fits : i + m ≤ length items
+  pub whole : w * m ≤ length q
+  pub step : drop i items ≡ cut w m q ++ drop (i + m) items
+
+-- the part where the cursor stands, from item i on
+module _ (system graphics : List ℕ) (w : ℕ) (table : List ℕ) (wide : 0 < w) (r : Readable system graphics w table) {i : ℕ} {c : Cursor} (h : Holds table i c) {q : List ℕ} (e : q ≡ take (w * (c .first + c .count - i)) (drop (w * i) (listBytes system graphics w table))) where
+  count-of : length q / w ≡ c .first + c .count - i
+  count-of = let long : length q ≡ w * (c .first + c .count - i) = length-run system graphics w table r h e in rw long (mul-div-cancel-left (c .first + c .count - i) wide)
+
+  -- its first n items
+  front-of : (n : ℕ) → n ≤ length q / w → (w * n ≤ length q) × (i + n ≤ total table) × (take n (drop i (itemsIn system graphics w table)) ≡ cut w n q)
+  unfolding itemsIn
+  front-of n l =
+      let m : ℕ = c .first + c .count - i in
+      let high = h .high in
+      let end = within (h .stands) (h .inside) in
+      let short : n ≤ m = omega (arith, count-of) in
+      let f = mul-le-mul-left w short in
+      let inside : i + n ≤ total table = omega arith in
+      let one : take n (drop i (cut w (total table) (listBytes system graphics w table))) ≡ cut w n q =
+      cut-run w (total table) (listBytes system graphics w table) i n inside ∙ sym (front w (listBytes system graphics w table) i m n short) ∙ rw (← e) in
+      (omega (arith, length-run system graphics w table r h e), inside, one)
+
+  -- all of them, and the list behind
+  pub part-next : Part w (itemsIn system graphics w table) i (length q / w) q
+  part-next =
+      let high = h .high in
+      let (whole, fits, one) = front-of (length q / w) (omega arith) in
+      let items = itemsIn system graphics w table in
+      let split : take (length q / w) (drop i items) ++ drop (length q / w) (drop i items) ≡ drop i items = take-append-drop (length q / w) (drop i items) in
+      record {
+        some = omega (arith, count-of);
+        fits = omega (arith, length-items system graphics w table);
+        whole = whole;
+        step = sym split ∙ rw (one, drop-drop (length q / w) i items);
+      }
+
+-- no item is left at the end
+pub none-left : (system graphics : List ℕ) (w : ℕ) (table : List ℕ) (i : ℕ) → total table ≤ i → drop i (itemsIn system graphics w table) ≡ []
+none-left system graphics w table i h =
+    let long : length (itemsIn system graphics w table) ≤ i = rw (length-items system graphics w table) h in
+    drop-of-length-le (itemsIn system graphics w table) long
+
+-- what is left of m polygons of a run after k of them
+module _ (run : List ℕ) (m k : ℕ) where
+  pub record-next : k < m → cut 48 (m - k) (drop (48 * k) run) ≡ take (48 * k + 48 - 48 * k) (drop (48 * k) run) ∷ cut 48 (m - (k + 1)) (drop (48 * (k + 1)) run)
+  record-next h = let e : 48 * k + 48 - 48 * k ≡ 48 = omega arith in rw e (cut-left 48 m run k h)
+
+  pub record-none : m ≤ k → cut 48 (m - k) (drop (48 * k) run) ≡ []
+  unfolding cut
+  record-none h = let e : m - k ≡ 0 = omega arith in rw e
 
 -- what is left of a run of `count` items from `start` on, after k of them
 abbrev pub left : List (List ℕ) → ℕ → ℕ → ℕ → List (List ℕ)
@@ -60,23 +113,16 @@ pub record Taken (w : ℕ) (items : List (List ℕ)) (start count k n : ℕ) (q 
 pub taken : (system graphics : List ℕ) (w : ℕ) (table : List ℕ) → 0 < w → (r : Readable system graphics w table) (start count k : ℕ) {c : Cursor} (h : Holds table (start + k) c) {q : List ℕ}
     → q ≡ take (w * (c .first + c .count - (start + k))) (drop (w * (start + k)) (listBytes system graphics w table))
     → {n : ℕ} → n ≡ min (length q / w) (count - k) → start + count ≤ total table → k < count → Taken w (itemsIn system graphics w table) start count k n q
-unfolding itemsIn
 taken system graphics w table wide r start count k {c} h {q} e {n} en room l =
-    let m : ℕ = c .first + c .count - (start + k) in
-    let items : List (List ℕ) = cut w (total table) (listBytes system graphics w table) in
-    let long : length q ≡ w * m = length-run system graphics w table r h e in
-    let all : length q / w ≡ m = rw long (mul-div-cancel-left m wide) in
+    let items = itemsIn system graphics w table in
+    let (whole, fits, one) = front-of system graphics w table wide r h e n (omega arith) in
     let high = h .high in
-    let end = within (h .stands) (h .inside) in
-    let short : n ≤ m = omega arith in
     let a : count - k ≡ n + (count - (k + n)) = omega arith in
     let b : start + k + n ≡ start + (k + n) = omega arith in
-    let one : take n (drop (start + k) items) ≡ cut w n q =
-    cut-run w (total table) (listBytes system graphics w table) (start + k) n (omega arith) ∙ sym (front w (listBytes system graphics w table) (start + k) m n short) ∙ rw (← e) in
     record {
-      some = omega arith;
+      some = omega (arith, count-of system graphics w table wide r h e);
       fits = omega arith;
-      whole = let f = mul-le-mul-left w short in omega arith;
+      whole = whole;
       step = rw (a, take-add n (count - (k + n)) (drop (start + k) items), one, drop-drop, b);
     }
 
@@ -111,7 +157,7 @@ below-none limit e = rw e
 
 -- ---- words
 
-map-append : {A : Type 0} (f : List ℕ → A) (xs ys : List (List ℕ)) → map f (xs ++ ys) ≡ map f xs ++ map f ys
+pub map-append : {A : Type 0} (f : List ℕ → A) (xs ys : List (List ℕ)) → map f (xs ++ ys) ≡ map f xs ++ map f ys
 map-append f [] ys = refl
 map-append f (x ∷ xs) ys = ap (λ l. f x ∷ l) (map-append f xs ys)
 
@@ -135,10 +181,3 @@ module _ {A : Type 0} (words : A → List ℕ) (size : ℕ) (f : List ℕ → A)
   pub put-none : (k : ℕ) {xs : List (List ℕ)} → xs ≡ [] → (out : List ℕ) → put (at + size * k) (each words (map f xs)) out ≡ out
   unfolding each
   put-none k e out = rw (e, put-nil)
-
--- the vertex of an index that was read
-pub corner-is : (back : ℕ → ℕ → ℕ → Vec3) (system graphics vertices run : List ℕ) (k : ℕ) {x : ℕ} {v : List ℕ} → x ≡ le 2 run (2 * k) → x < total vertices
-    → v ≡ item 6 (listBytes system graphics 6 vertices) x → vertexOf back v ≡ corner back (itemsIn system graphics 6 vertices) (item 2 run k)
-corner-is back system graphics vertices run k {x} {v} ex l ev =
-    let a : le 2 (item 2 run k) 0 ≡ x = item-field 2 run k 2 0 (omega arith) ∙ rw (add-zero (2 * k), ex) in
-    rw (a, item-of system graphics 6 vertices x l, ev)

@@ -1,17 +1,15 @@
 -- Pass one: the answers on one polygon, and on polygons in order.
-use Prim.Native.Nat.{ℕ, _+_, _*_, _/_, _%_, _≤_, _<_}
-use native.Mathlib.Nat.{add-zero, zero-add, add-assoc}
-use native.Mathlib.Numerals.{add-one}
-use mathlib.Core.Path.{_≡_, refl, ap, _∙_}
+use Prim.Native.Nat.{ℕ, _+_, _-_, _*_, _/_, _%_, _≤_, _<_}
+use native.Mathlib.Nat.{add-zero, zero-add, add-assoc, sub-zero}
+use native.Mathlib.Omega.{arith}
+use mathlib.Core.Path.{_≡_, refl, sym, ap, _∙_}
 use mathlib.Core.Bool.{Bool, true, false}
-use mathlib.Core.List.{List, [], _∷_}
-use lib.ListN.{length, take, drop, drop-of-length-le}
-use lib.Seq.{drop-cons}
+use mathlib.Core.List.{List, [], _∷_, _++_}
+use lib.ListN.{length, take, drop}
 use borrow.Author.Tests.{le-leb, lt-leb}
-use Rattle.fields.specs.Bytes.{le}
+use Rattle.fields.specs.Bytes.{le, cut}
 use Rattle.strip.specs.declared.Refusal.{Refusal}
 use Rattle.lists.specs.declared.Cursor.{Cursor}
-use Rattle.lists.specs.Lists.{item, total, listBytes}
 use Rattle.lists.specs.Cursors.{Stands}
 use Rattle.polygon_words.specs.Words.{linkCount, allBelow}
 use Rattle.polygons.specs.declared.Limits.{Limits}
@@ -20,8 +18,8 @@ use Rattle.polygons.specs.declared.Step.the-variants.{Good, Bad}
 use Rattle.polygons.specs.declared.Tally.{Tally}
 use Rattle.polygons.specs.declared.Tally.the-variants.{Words, Refused}
 use Rattle.polygons.specs.Polygons.{sizeOf, tallyOf, then, tallyFrom}
-use Rattle.polygons.specs.Passes.{itemsIn, Stepped}
-use Rattle.polygons.proofs.Runs.{length-items, item-of}
+use Rattle.polygons.specs.Passes.{Stepped}
+use Rattle.polygons.proofs.Runs.{record-next, record-none}
 
 -- ---- one polygon
 
@@ -45,11 +43,11 @@ module _ (l : Limits) (indices : List (List ℕ)) (p : ℕ) (rec : List ℕ) {a 
       all-well f en = rw (← ea, ← ec, ← es, le-leb (start + count) (l .indices) i, le-leb (start + count) (l .edges) e, ← et, f, ← en)
 
 -- what a step's answer says
-module _ (table : List ℕ) (t : Tally) {s : Step} where
-  pub stepped-bad : {r : Refusal} → Stepped table t s → s ≡ Bad r → t ≡ Refused r
+module _ (table : List ℕ) (most : ℕ) (t : Tally) {s : Step} where
+  pub stepped-bad : {r : Refusal} → Stepped table most t s → s ≡ Bad r → t ≡ Refused r
   stepped-bad h e = rw e at h
 
-  pub stepped-good : {w : ℕ} {c : Cursor} → Stepped table t s → s ≡ Good w c → (t ≡ Words w) × Stands table c × (w ≤ 18434)
+  pub stepped-good : {w : ℕ} {c : Cursor} → Stepped table most t s → s ≡ Good w c → (t ≡ Words w) × Stands table c × (w ≤ most)
   stepped-good h e = rw e at h
 
 -- ---- polygons in order
@@ -58,26 +56,17 @@ pub then-none : (t : Tally) → then (Words 0) t ≡ t
 then-none (Words w) = ap Words (zero-add w)
 then-none (Refused r) = refl
 
-then-assoc : (a b : ℕ) (t : Tally) → then (Words (a + b)) t ≡ then (Words a) (then (Words b) t)
-then-assoc a b (Words w) = ap Words (add-assoc a b w)
-then-assoc a b (Refused r) = refl
-
--- the list from item i on
-module _ (system graphics polys : List ℕ) (i : ℕ) where
-  pub next-item : i < total polys → {rec : List ℕ} → rec ≡ item 48 (listBytes system graphics 48 polys) i
-      → drop i (itemsIn system graphics 48 polys) ≡ rec ∷ drop (i + 1) (itemsIn system graphics 48 polys)
-  next-item h e =
-      let low : i < length (itemsIn system graphics 48 polys) = rw (length-items system graphics 48 polys) h in
-      rw (drop-cons (itemsIn system graphics 48 polys) i [] low, item-of system graphics 48 polys i h, ← e, add-one i)
-
-  pub no-item : total polys ≤ i → drop i (itemsIn system graphics 48 polys) ≡ []
-  no-item h = let long : length (itemsIn system graphics 48 polys) ≤ i = rw (length-items system graphics 48 polys) h in drop-of-length-le (itemsIn system graphics 48 polys) long
+then-assoc : (s t u : Tally) → then (then s t) u ≡ then s (then t u)
+then-assoc (Words a) (Words b) (Words w) = ap Words (add-assoc a b w)
+then-assoc (Words a) (Words b) (Refused r) = refl
+then-assoc (Words a) (Refused r) u = refl
+then-assoc (Refused r) t u = refl
 
 module _ (l : Limits) (indices : List (List ℕ)) (p w : ℕ) where
   module _ (b : List ℕ) (bs : List (List ℕ)) {xs : List (List ℕ)} (e : xs ≡ b ∷ bs) where
     pub tally-more : {v : ℕ} → tallyOf l indices p b ≡ Words v → then (Words (w + v)) (tallyFrom l indices (p + 1) bs) ≡ then (Words w) (tallyFrom l indices p xs)
     unfolding tallyFrom
-    tally-more {v} f = then-assoc w v (tallyFrom l indices (p + 1) bs) ∙ rw (e, f)
+    tally-more {v} f = then-assoc (Words w) (Words v) (tallyFrom l indices (p + 1) bs) ∙ rw (e, f)
 
     pub tally-stop : {r : Refusal} → tallyOf l indices p b ≡ Refused r → Refused r ≡ then (Words w) (tallyFrom l indices p xs)
     unfolding tallyFrom
@@ -86,3 +75,37 @@ module _ (l : Limits) (indices : List (List ℕ)) (p w : ℕ) where
   pub tally-end : {xs : List (List ℕ)} → xs ≡ [] → Words w ≡ then (Words w) (tallyFrom l indices p xs)
   unfolding tallyFrom
   tally-end e = rw (e, add-zero w)
+
+-- the first m polygons of a run, one after the other, the very first number `first`
+module _ (l : Limits) (indices : List (List ℕ)) (run : List ℕ) (m first : ℕ) where
+  pub run-begin : then (Words 0) (tallyFrom l indices (first + 0) (cut 48 (m - 0) (drop (48 * 0) run))) ≡ tallyFrom l indices first (cut 48 m run)
+  run-begin = rw (add-zero first, sub-zero m) (then-none (tallyFrom l indices first (cut 48 m run)))
+
+  module _ (k w : ℕ) where
+    module _ (h : k < m) where
+      pub run-more : {v : ℕ} → tallyOf l indices (first + k) (take (48 * k + 48 - 48 * k) (drop (48 * k) run)) ≡ Words v
+          → then (Words (w + v)) (tallyFrom l indices (first + (k + 1)) (cut 48 (m - (k + 1)) (drop (48 * (k + 1)) run))) ≡ then (Words w) (tallyFrom l indices (first + k) (cut 48 (m - k) (drop (48 * k) run)))
+      run-more f = rw (← add-assoc first k 1) (tally-more l indices (first + k) w (take (48 * k + 48 - 48 * k) (drop (48 * k) run)) (cut 48 (m - (k + 1)) (drop (48 * (k + 1)) run)) (record-next run m k h) f)
+
+      pub run-stop : {r : Refusal} → tallyOf l indices (first + k) (take (48 * k + 48 - 48 * k) (drop (48 * k) run)) ≡ Refused r
+          → Refused r ≡ then (Words w) (tallyFrom l indices (first + k) (cut 48 (m - k) (drop (48 * k) run)))
+      run-stop f = tally-stop l indices (first + k) w (take (48 * k + 48 - 48 * k) (drop (48 * k) run)) (cut 48 (m - (k + 1)) (drop (48 * (k + 1)) run)) (record-next run m k h) f
+
+    pub run-end : m ≤ k → Words w ≡ then (Words w) (tallyFrom l indices (first + k) (cut 48 (m - k) (drop (48 * k) run)))
+    run-end h = tally-end l indices (first + k) w (record-none run m k h)
+
+-- runs, one after the other
+module _ (l : Limits) (indices : List (List ℕ)) where
+  pub tally-append : (p : ℕ) (ys zs : List (List ℕ)) → tallyFrom l indices p (ys ++ zs) ≡ then (tallyFrom l indices p ys) (tallyFrom l indices (p + length ys) zs)
+  unfolding tallyFrom
+  tally-append p [] zs = rw (add-zero p) (sym (then-none (tallyFrom l indices p zs)))
+  tally-append p (y ∷ ys) zs =
+      let e : p + 1 + length ys ≡ p + length (y ∷ ys) = omega arith in
+      rw (tally-append (p + 1) ys zs, e) (sym (then-assoc (tallyOf l indices p y) (tallyFrom l indices (p + 1) ys) (tallyFrom l indices (p + length (y ∷ ys)) zs)))
+
+  module _ (p w : ℕ) (ys zs : List (List ℕ)) {xs : List (List ℕ)} (e : xs ≡ ys ++ zs) where
+    pub runs-more : {m v : ℕ} → length ys ≡ m → tallyFrom l indices p ys ≡ Words v → then (Words (w + v)) (tallyFrom l indices (p + m) zs) ≡ then (Words w) (tallyFrom l indices p xs)
+    runs-more {m} {v} el f = then-assoc (Words w) (Words v) (tallyFrom l indices (p + m) zs) ∙ rw (e, tally-append p ys zs, el, f)
+
+    pub runs-stop : {r : Refusal} → tallyFrom l indices p ys ≡ Refused r → Refused r ≡ then (Words w) (tallyFrom l indices p xs)
+    runs-stop f = rw (e, tally-append p ys zs, f)

@@ -29,7 +29,6 @@ use Rattle.polygons.specs.declared.Tally.the-variants.{Words, Refused}
 use Rattle.polygons.specs.Polygons.{Source, limitsOf, corner, polygonMade, sizeOf, tallyOf, then, tallyFrom}
 use Rattle.polygons.specs.Passes.{itemsIn, sourceOf, sides, Ready, Inside, Put, Passed}
 use Rattle.polygons.proofs.Runs.{length-map, length-items}
-use Rattle.polygons.proofs.Tallies.{next-item, no-item}
 
 -- ---- what pass one accepted
 
@@ -54,24 +53,6 @@ module _ (l : Limits) (indices : List (List ℕ)) where
   accepted p b {v} e =
       let (x, y, z, w) = picked (leb (startOf b + countOf b) (l .indices)) (leb (startOf b + countOf b) (l .edges)) (allBelow (l .vertices) (runOf b indices)) _ _ v (sizeOf (l .links) b) e in
       (leb-true _ _ x, leb-true _ _ y, z, w)
-
-  -- the first polygon, and those behind it
-  module _ (p at end : ℕ) (b : List ℕ) (bs : List (List ℕ)) {xs : List (List ℕ)} (e : xs ≡ b ∷ bs) (h : Passed l indices p xs at end) where
-    parts : (v u : ℕ) × (tallyOf l indices p b ≡ Words v) × (tallyFrom l indices (p + 1) bs ≡ Words u) × (h .words ≡ v + u)
-    unfolding tallyFrom
-    parts = then-words (tallyOf l indices p b) (tallyFrom l indices (p + 1) bs) (sym (ap (tallyFrom l indices p) e) ∙ h .is)
-
-    first-well : (startOf b + countOf b ≤ l .indices) × (startOf b + countOf b ≤ l .edges) × (allBelow (l .vertices) (runOf b indices) ≡ true) × (at + sizeOf (l .links) b ≤ end)
-    first-well =
-        let (v, u, f, g, s) = parts in
-        let (x, y, z, w) = accepted p b f in
-        (x, y, z, omega (arith, w, s, h .room))
-
-    passed-next : Passed l indices (p + 1) bs (at + sizeOf (l .links) b) end
-    passed-next =
-        let (v, u, f, g, s) = parts in
-        let w : v ≡ sizeOf (l .links) b = accepted p b f .3 in
-        record { words = u; is = g; room = omega (arith, w, s, h .room) }
 
 -- ---- the words of a polygon
 
@@ -137,7 +118,7 @@ pub size-of : (m : ℕ) (rec : List ℕ) {n a : ℕ} → n ≡ linkCount m rec �
 unfolding sizeOf
 size-of m rec en ea = rw (← en, ← ea)
 
-inside : (system graphics vertices indices edges : List ℕ) (start n : ℕ) → start + n ≤ length (itemsIn system graphics 2 indices) → start + n ≤ length (itemsIn system graphics 8 edges)
+pub inside : (system graphics vertices indices edges : List ℕ) (start n : ℕ) → start + n ≤ length (itemsIn system graphics 2 indices) → start + n ≤ length (itemsIn system graphics 8 edges)
     → allBelow (length (itemsIn system graphics 6 vertices)) (take n (drop start (itemsIn system graphics 2 indices))) ≡ true → Inside system graphics vertices indices edges start n
 inside system graphics vertices indices edges start n hi he below =
     record {
@@ -145,70 +126,3 @@ inside system graphics vertices indices edges start n hi he below =
       in-edges = omega (arith, he, length-items system graphics 8 edges);
       below = sym (ap (λ (k : ℕ). allBelow k (take n (drop start (itemsIn system graphics 2 indices)))) (length-items system graphics 6 vertices)) ∙ below;
     }
-
--- ---- polygons in order
-
-module _ (s : Source) (b : List ℕ) (bs : List (List ℕ)) {xs : List (List ℕ)} (e : xs ≡ b ∷ bs) (at : ℕ) {next : ℕ} (en : next ≡ at + length (polygonWords (polygonMade s b))) where
-  polygons-put : (old : List ℕ) → put next (each polygonWords (map (polygonMade s) bs)) (put at (polygonWords (polygonMade s b)) old) ≡ put at (each polygonWords (map (polygonMade s) xs)) old
-  unfolding each
-  polygons-put old = rw (e, en) (put-next (length (polygonWords (polygonMade s b))) at (polygonWords (polygonMade s b)) (each polygonWords (map (polygonMade s) bs)) old refl)
-
-  polygons-length : next + length (each polygonWords (map (polygonMade s) bs)) ≡ at + length (each polygonWords (map (polygonMade s) xs))
-  unfolding each
-  polygons-length = rw (e, length-append, en) (omega arith)
-
-module _ (s : Source) {xs : List (List ℕ)} (e : xs ≡ []) where
-  polygons-none : (at : ℕ) (old : List ℕ) → put at (each polygonWords (map (polygonMade s) xs)) old ≡ old
-  unfolding each
-  polygons-none at old = rw (e, put-nil)
-
-  no-words : length (each polygonWords (map (polygonMade s) xs)) ≡ 0
-  unfolding each
-  no-words = rw e
-
-module _ (system graphics vertices indices edges links header : List ℕ) (lo size : Floats) (polys : List ℕ) (n : ℕ) (old : List ℕ) (at : ℕ) where
-  abbrev source : Source
-  source = sourceOf system graphics vertices indices edges links header lo size
-
-  abbrev items : List (List ℕ)
-  items = itemsIn system graphics 48 polys
-
-  -- after i polygons: what is left passed, and written from word e on it makes what is promised
-  pub record Going (out : List ℕ) (c : Cursors) (p : Cursor) (e i : ℕ) : Type 0 where
-    pub low : i ≤ n
-    pub in-polys : Stands polys p
-    pub ready : Ready system graphics vertices indices edges c
-    pub same-length : length out ≡ length old
-    pub passed : Passed (limitsOf source) (itemsIn system graphics 2 indices) i (drop i items) e (length old)
-    pub next : e + length (each polygonWords (map (polygonMade source) (drop i items))) ≡ at + length (each polygonWords (map (polygonMade source) items))
-    pub strip : put e (each polygonWords (map (polygonMade source) (drop i items))) out ≡ put at (each polygonWords (map (polygonMade source) items)) old
-
-  module _ (en : n ≡ total polys) {out : List ℕ} {c : Cursors} {p : Cursor} {e i : ℕ} (g : Going out c p e i) where
-    module _ (l : i < n) {q : Cursor} (h : Holds polys i q) {rec : List ℕ} (er : rec ≡ item 48 (listBytes system graphics 48 polys) i) where
-      here : drop i items ≡ rec ∷ drop (i + 1) items
-      here = next-item system graphics polys i (omega arith) er
-
-      well : (startOf rec + countOf rec ≤ length (itemsIn system graphics 2 indices)) × (startOf rec + countOf rec ≤ length (itemsIn system graphics 8 edges))
-          × (allBelow (length (itemsIn system graphics 6 vertices)) (runOf rec (itemsIn system graphics 2 indices)) ≡ true) × (e + sizeOf (length (linksOf links)) rec ≤ length old)
-      well = first-well (limitsOf source) (itemsIn system graphics 2 indices) i e (length old) rec (drop (i + 1) items) here (g .passed)
-
-      pub polygon-asks : Ready system graphics vertices indices edges c × Inside system graphics vertices indices edges (startOf rec) (countOf rec) × (e + sizeOf (length (linksOf links)) rec ≤ length out)
-      polygon-asks = (g .ready, inside system graphics vertices indices edges (startOf rec) (countOf rec) (well .0) (well .1) (well .2), omega (arith, well .3, g .same-length))
-
-      pub goes-on : {r : Spot} {new : List ℕ} → Put system graphics vertices indices edges (polygonWords (polygonMade source rec)) out e r new → Going new (r .cursors) q (r .at) (i + 1)
-      goes-on {r} w =
-          let to : r .at ≡ e + sizeOf (length (linksOf links)) rec = w .next ∙ ap (λ (k : ℕ). e + k) (polygon-size source rec (well .0) (well .1)) in
-          record {
-            low = omega arith;
-            in-polys = h .stands;
-            ready = w .ready;
-            same-length = ap length (w .strip) ∙ length-put e (polygonWords (polygonMade source rec)) out ∙ g .same-length;
-            passed = rw to (passed-next (limitsOf source) (itemsIn system graphics 2 indices) i e (length old) rec (drop (i + 1) items) here (g .passed));
-            next = polygons-length source rec (drop (i + 1) items) here e (w .next) ∙ g .next;
-            strip = rw (w .strip) (polygons-put source rec (drop (i + 1) items) here e (w .next) out) ∙ g .strip;
-          }
-
-    pub all-put : n ≤ i → (e ≡ at + length (each polygonWords (map (polygonMade source) items))) × (out ≡ put at (each polygonWords (map (polygonMade source) items)) old)
-    all-put l =
-        let none : drop i items ≡ [] = no-item system graphics polys i (omega arith) in
-        (omega (arith, no-words source none, g .next), sym (polygons-none source none e out) ∙ g .strip)

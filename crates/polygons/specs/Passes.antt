@@ -1,15 +1,15 @@
 -- What the two passes over polygons keep, on lists that were read. Definitions only.
-use Prim.Native.Nat.{ℕ, _+_, _≤_}
+use Prim.Native.Nat.{ℕ, _+_, _-_, _*_, _≤_, _<_}
 use mathlib.Core.Path.{_≡_}
 use mathlib.Core.Bool.{true}
-use mathlib.Core.List.{List, _++_, map}
-use lib.ListN.{length, take, drop}
+use mathlib.Core.List.{List, [], _++_, map}
+use lib.ListN.{length, take, drop, getD}
 use Rattle.fields.specs.Bytes.{put, cut}
 use Rattle.math.specs.declared.vec3.Vec3.{Vec3}
 use Rattle.strip.specs.Cell.{Vec3 as Point, vecWords, edgeWords, each}
 use Rattle.grammar.specs.Polygons.{edgeOf}
 use Rattle.grammar.specs.Derives.{areaOf}
-use Rattle.lists.specs.Lists.{total, listBytes, Readable}
+use Rattle.lists.specs.Lists.{item, total, listBytes, Readable}
 use Rattle.lists.specs.Cursors.{Stands}
 use Rattle.records.specs.Back.{backBy}
 use Rattle.polygon_words.specs.Words.{linksOf, allBelow}
@@ -64,16 +64,29 @@ pub record Put (system graphics vertices indices edges words old : List ℕ) (at
   pub ready : Ready system graphics vertices indices edges (r .cursors)
   pub strip : new ≡ put at words old
 
+-- bytes that hold `count` items of w bytes, of which the first has number `first`
+pub record Held (w : ℕ) (items : List (List ℕ)) (first count : ℕ) (bytes : List ℕ) : Type 0 where
+  pub at : (j : ℕ) → first ≤ j → j < first + count → getD items j [] ≡ item w bytes (j - first)
+
+-- the vertices of indices `from` to r are stored: what is left, stored behind them, gives what it would have given before
+pub record Near (back : ℕ → ℕ → ℕ → Point) (part : List ℕ) (first count : ℕ) (run : List ℕ) (from n at : ℕ) (old : List ℕ) (r : ℕ) (new : List ℕ) : Type 0 where
+  pub low : from ≤ r
+  pub most : r ≤ n
+  pub same-length : length new ≡ length old
+  pub strip : (items : List (List ℕ)) → Held 6 items first count part
+      → put (at + 3 * r) (each vecWords (map (corner back items) (cut 2 (n - r) (drop (2 * r) run)))) new
+      ≡ put (at + 3 * from) (each vecWords (map (corner back items) (cut 2 (n - from) (drop (2 * from) run)))) old
+
 -- pass one found no fault in polygons, the first of them number p, and their words have room from `at` on
 pub record Passed (l : Limits) (indices : List (List ℕ)) (p : ℕ) (polys : List (List ℕ)) (at end : ℕ) : Type 0 where
   pub words : ℕ
   pub is : tallyFrom l indices p polys ≡ Words words
   pub room : at + words ≤ end
 
--- what the step over a polygon answers: its words, which are few, and where the cursor over the indices stands
-abbrev pub Stepped : List ℕ → Tally → Step → Type 0
-Stepped table t (Good w c) = (t ≡ Words w) × Stands table c × (w ≤ 18434)
-Stepped table t (Bad r) = t ≡ Refused r
+-- what a step over polygons answers: their words, at most so many, and where the cursor over the indices stands
+abbrev pub Stepped : List ℕ → ℕ → Tally → Step → Type 0
+Stepped table most t (Good w c) = (t ≡ Words w) × Stands table c × (w ≤ most)
+Stepped table most t (Bad r) = t ≡ Refused r
 
 -- words that are at most n
 abbrev pub Small : ℕ → Tally → Type 0

@@ -2,9 +2,9 @@
 ghost use mathlib.Core.Path.{_≡_};
 ghost use mathlib.Core.Bool.{true};
 ghost use mathlib.Core.List.{map};
-ghost use Prim.Native.Nat.{_+_, _*_, _/_, _≤_, min};
+ghost use Prim.Native.Nat.{_+_, _*_, _/_, _^_, _≤_, _<_};
 ghost use lib.ListN.{length, take, drop};
-ghost use Rattle.fields.specs.Bytes.{put, cut};
+ghost use Rattle.fields.specs.Bytes.{put, cut, le};
 ghost use Rattle.strip.specs.Cell.{vecWords, edgeWords, polygonWords, each};
 ghost use Rattle.grammar.specs.Polygons.{edgeOf, startOf, countOf};
 ghost use Rattle.grammar.specs.Derives.{areaOf};
@@ -13,18 +13,20 @@ ghost use Rattle.lists.specs.Cursors.{Stands};
 ghost use Rattle.records.specs.Back.{backBy};
 ghost use Rattle.polygon_words.specs.Words.{linksOf, allBelow};
 ghost use Rattle.polygons.specs.Polygons.{corner, limitsOf, polygonMade, sizeOf, tallyOf, tallyFrom};
-ghost use Rattle.polygons.specs.Passes.{itemsIn, sourceOf, sides, Ready, Inside, Put, Passed, Stepped, Small};
+ghost use Rattle.polygons.specs.Passes.{itemsIn, sourceOf, sides, Ready, Inside, Put, Passed, Stepped, Small, Near};
 ghost use Rattle.polygons.specs.Listed.{listsOf, ListsRead};
+use fields::least;
 use fields::u16_le;
 use lists::Cursor;
 use lists::ListAnswer;
-use lists::list_item;
 use lists::list_run;
 use lists::list_start;
 use lists::read_list;
 use lists::seek;
+use lists::walk_to;
 use math::vec3::Vec3;
 use polygon_words::all_below;
+use polygon_words::index_at;
 use polygon_words::link_count;
 use polygon_words::put_edge_run;
 use polygon_words::put_front;
@@ -82,12 +84,6 @@ pub enum ListsAnswer {
     Refused(Refusal),
 }
 
-fn lesser(a: usize, b: usize) -> usize
-    ensures { λ r. ⌜ r ≡ min a b ⌝ }
-{
-    if a < b { a } else { b }
-}
-
 // Pass one.
 
 // The run is taken part by part: what a part holds of it is one slice.
@@ -108,7 +104,7 @@ fn run_below<'a>(
     while k < count {
         c = seek(table, c, start + k);
         let run = list_run(system, graphics, table, 2, c, start + k);
-        let n = lesser(run.len() / 2, count - k);
+        let n = least(run.len() / 2, count - k);
         if !all_below(run, n, limit) {
             return Run {
                 below: false,
@@ -134,7 +130,7 @@ fn check_polygon<'a>(
     from: Cursor,
 ) -> Step
     requires { ⌜ Readable (now system) (now graphics) 2 (now table) × Stands (now table) from × (limits .indices ≡ total (now table)) ⌝ }
-    ensures { λ r. ⌜ Stepped (now (table .entry)) (tallyOf limits (itemsIn (now (system .entry)) (now (graphics .entry)) 2 (now (table .entry))) p (now (rec .entry))) r ⌝ }
+    ensures { λ r. ⌜ Stepped (now (table .entry)) 18434 (tallyOf limits (itemsIn (now (system .entry)) (now (graphics .entry)) 2 (now (table .entry))) p (now (rec .entry))) r ⌝ }
 {
     let count = (u16_le(rec, 2) / 32 % 2048) as usize;
     let start = u16_le(rec, 4) as usize;
@@ -163,7 +159,49 @@ fn check_polygon<'a>(
     }
 }
 
-// The n polygons of a list: the first refusal in order, or their words.
+// The first m polygons of `run`, of which the very first is number `first`.
+fn check_run<'a>(
+    system: &'a [u8],
+    graphics: &'a [u8],
+    run: &'a [u8],
+    m: usize,
+    first: usize,
+    limits: Limits,
+    table: &'a [u8],
+    from: Cursor,
+) -> Step
+    requires { ⌜ Readable (now system) (now graphics) 2 (now table) × Stands (now table) from × (limits .indices ≡ total (now table)) × (48 * m ≤ length (now run)) × (first + m < 2 ^ 32) ⌝ }
+    ensures { λ r. ⌜ Stepped (now (table .entry)) (18434 * m) (tallyFrom limits (itemsIn (now (system .entry)) (now (graphics .entry)) 2 (now (table .entry))) first (cut 48 m (now (run .entry)))) r ⌝ }
+{
+    let mut words = 0;
+    let mut c = from;
+    let mut k = 0;
+    while k < m {
+        let low = 48 * k;
+        let high = low + 48;
+        match check_polygon(
+            system,
+            graphics,
+            &run[low..high],
+            first + k,
+            limits,
+            table,
+            c,
+        ) {
+            Step::Bad(r) => {
+                return Step::Bad(r);
+            }
+            Step::Good(w, next) => {
+                words += w;
+                c = next;
+            }
+        }
+        k += 1;
+    }
+    Step::Good(words, c)
+}
+
+// The n polygons of a list, part by part: the first refusal in order, or their words.
 pub fn check_polygons<'a>(
     system: &'a [u8],
     graphics: &'a [u8],
@@ -180,9 +218,10 @@ pub fn check_polygons<'a>(
     let mut c = list_start(table);
     let mut i = 0;
     while i < n {
-        p = seek(polys, p, i);
-        let rec = list_item(system, graphics, polys, 48, p, i);
-        match check_polygon(system, graphics, rec, i, limits, table, c) {
+        p = walk_to(polys, p, i);
+        let run = list_run(system, graphics, polys, 48, p, i);
+        let m = run.len() / 48;
+        match check_run(system, graphics, run, m, i, limits, table, c) {
             Step::Bad(r) => {
                 return Tally::Refused(r);
             }
@@ -191,7 +230,7 @@ pub fn check_polygons<'a>(
                 c = next;
             }
         }
-        i += 1;
+        i += m;
     }
     Tally::Words(words)
 }
@@ -218,14 +257,47 @@ fn put_edges<'a>(
     while k < count {
         c = seek(table, c, start + k);
         let run = list_run(system, graphics, table, 8, c, start + k);
-        let n = lesser(run.len() / 8, count - k);
+        let n = least(run.len() / 8, count - k);
         put_edge_run(header, run, n, out, at + 6 * k);
         k += n;
     }
     c
 }
 
-// The vertices that the first n indices of `run` name.
+// The vertices that indices `from` to n of `run` name, as long as they stand in `part`, which holds `count` of them, the first with number `first`; where it ends.
+fn put_near<'a>(
+    part: &'a [u8],
+    first: usize,
+    count: usize,
+    bb_min: Vec3,
+    bb_size: Vec3,
+    run: &'a [u8],
+    from: usize,
+    n: usize,
+    out: &mut [u32],
+    at: usize,
+) -> usize
+    requires { ⌜ (6 * count ≤ length (now part)) × (2 * n ≤ length (now run)) × (at + 3 * n ≤ length (now out)) × (from < n) × (first ≤ le 2 (now run) (2 * from)) × (le 2 (now run) (2 * from) < first + count) ⌝ }
+    ensures { λ r. ⌜ (from < r) × Near (backBy «bb_min» «bb_size») (now (part .entry)) first count (now (run .entry)) from n at (now (out .entry)) r (now (out .exit)) ⌝ }
+{
+    let mut k = from;
+    while k < n {
+        let j = index_at(run, k);
+        if j < first {
+            return k;
+        }
+        if count <= j - first {
+            return k;
+        }
+        let low = 6 * (j - first);
+        let high = low + 6;
+        put_vertex(&part[low..high], bb_min, bb_size, out, at + 3 * k);
+        k += 1;
+    }
+    k
+}
+
+// The vertices that the first n indices of `run` name. The part of one is looked up, and serves for those behind it.
 fn put_vertex_run<'a>(
     system: &'a [u8],
     graphics: &'a [u8],
@@ -245,11 +317,11 @@ fn put_vertex_run<'a>(
     let mut d = from;
     let mut k = 0;
     while k < n {
-        let j = u16_le(run, 2 * k) as usize;
-        d = seek(vertices, d, j);
-        let v = list_item(system, graphics, vertices, 6, d, j);
-        put_vertex(v, bb_min, bb_size, out, at + 3 * k);
-        k += 1;
+        d = seek(vertices, d, index_at(run, k));
+        let first = d.first;
+        let count = d.count;
+        let part = list_run(system, graphics, vertices, 6, d, first);
+        k = put_near(part, first, count, bb_min, bb_size, run, k, n, out, at);
     }
     d
 }
@@ -279,7 +351,7 @@ fn put_vertices<'a>(
     while k < count {
         c = seek(indices, c, start + k);
         let run = list_run(system, graphics, indices, 2, c, start + k);
-        let n = lesser(run.len() / 2, count - k);
+        let n = least(run.len() / 2, count - k);
         d = put_vertex_run(
             system,
             graphics,
@@ -409,6 +481,57 @@ fn put_polygon<'a>(
     }
 }
 
+// The first m polygons of `run`.
+fn put_run<'a>(
+    system: &'a [u8],
+    graphics: &'a [u8],
+    vertices: &'a [u8],
+    indices: &'a [u8],
+    edges: &'a [u8],
+    links: &'a [u8],
+    header: &'a [u8],
+    bb_min: Vec3,
+    bb_size: Vec3,
+    run: &'a [u8],
+    m: usize,
+    from: Cursors,
+    out: &mut [u32],
+    at: usize,
+) -> Spot
+    requires { ⌜ Ready (now system) (now graphics) (now vertices) (now indices) (now edges) from × (48 * m ≤ length (now run))
+        × Passed (limitsOf (sourceOf (now system) (now graphics) (now vertices) (now indices) (now edges) (now links) (now header) «bb_min» «bb_size»)) (itemsIn (now system) (now graphics) 2 (now indices)) 0 (cut 48 m (now run)) at (length (now out)) ⌝ }
+    ensures { λ r. ⌜ Put (now (system .entry)) (now (graphics .entry)) (now (vertices .entry)) (now (indices .entry)) (now (edges .entry))
+        (each polygonWords (map (polygonMade (sourceOf (now (system .entry)) (now (graphics .entry)) (now (vertices .entry)) (now (indices .entry)) (now (edges .entry)) (now (links .entry)) (now (header .entry)) «bb_min» «bb_size»)) (cut 48 m (now (run .entry)))))
+        (now (out .entry)) at r (now (out .exit)) ⌝ }
+{
+    let mut c = from;
+    let mut e = at;
+    let mut k = 0;
+    while k < m {
+        let low = 48 * k;
+        let high = low + 48;
+        let r = put_polygon(
+            system,
+            graphics,
+            vertices,
+            indices,
+            edges,
+            links,
+            header,
+            bb_min,
+            bb_size,
+            &run[low..high],
+            c,
+            out,
+            e,
+        );
+        e = r.at;
+        c = r.cursors;
+        k += 1;
+    }
+    Spot { at: e, cursors: c }
+}
+
 // The n polygons of a list, from the strip's word `at` on; the word after them.
 pub fn put_polygons<'a>(
     system: &'a [u8],
@@ -442,9 +565,10 @@ pub fn put_polygons<'a>(
     let mut e = at;
     let mut i = 0;
     while i < n {
-        p = seek(polys, p, i);
-        let rec = list_item(system, graphics, polys, 48, p, i);
-        let r = put_polygon(
+        p = walk_to(polys, p, i);
+        let run = list_run(system, graphics, polys, 48, p, i);
+        let m = run.len() / 48;
+        let r = put_run(
             system,
             graphics,
             vertices,
@@ -454,14 +578,15 @@ pub fn put_polygons<'a>(
             header,
             bb_min,
             bb_size,
-            rec,
+            run,
+            m,
             c,
             out,
             e,
         );
         e = r.at;
         c = r.cursors;
-        i += 1;
+        i += m;
     }
     e
 }

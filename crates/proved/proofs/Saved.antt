@@ -1,9 +1,9 @@
 -- P12 of the writer: what saving the two empty cells answers and leaves, by computation. Assumes nothing.
 use Prim.Native.Nat.{ℕ}
 use mathlib.Core.Path.{_≡_, refl}
-use mathlib.Core.List.{List, [], _∷_}
+use mathlib.Core.List.{List}
 use Rattle.fields.specs.Bytes.{le}
-use Rattle.strip.specs.Cell.{Vec3, encode}
+use Rattle.strip.specs.Cell.{Vec3}
 use Rattle.strip.specs.Scan.{Scanned, scan}
 use Rattle.strip.specs.Outcome.{shown, left}
 use Rattle.strip.proofs.Exact.{scan-fits}

@@ -2,7 +2,6 @@
 // them, a line each.
 ghost use mathlib.Core.Path.{_≡_};
 ghost use mathlib.Core.List.{_∷_, []};
-ghost use Prim.Native.Nat.{_≤_};
 ghost use lib.IntN.{pos, negsuc};
 ghost use lib.ListN.{take, length};
 ghost use Rattle.strip.specs.Outcome.{shown, left};

@@ -16,14 +16,10 @@ use Rattle.quantise.specs.declared.quarter.QuarterBox.{QuarterBox}
 use Rattle.strip.specs.Cell.{Point}
 use Rattle.strip.specs.Reading.{itemsAt}
 use Rattle.pages.specs.Sectors.{axisMeets, meets, idsOf, quarters}
+use Rattle.pages.proofs.Lists.{keep-length}
 use Rattle.quadtree.specs.Work.{int16, boxBy, boxAt, boxesAt, boxesIn, pickedFrom, countIn}
 
 -- ---- one turn
-
--- an element is kept where the test passes
-pub keep-length : {A : Type 0} (b : Bool) (x : A) (xs : List A) → length (cond b (x ∷ xs) xs) ≡ cond b 1 0 + length xs
-keep-length true x xs = omega arith
-keep-length false x xs = omega arith
 
 pub keep-one : (b : Bool) → cond b 1 0 ≤ 1
 keep-one true = omega arith

@@ -12,6 +12,7 @@ use Rattle.strip.specs.Cell.{Point}
 use Rattle.strip.specs.declared.Refusal.{Refusal}
 use Rattle.pages.specs.Sectors.{sub0, sub1, sub2, sub3, quarters, idsOf, grown, leafCounts}
 use Rattle.pages.specs.Checks.{Verdict, at, first, leafFault, leavesVerdict}
+use Rattle.pages.proofs.Firsts.{at-none, at-some}
 use Rattle.quadtree.specs.Work.{boxAt, boxesIn, pickedFrom, treeBy, Tells}
 use Rattle.quadtree.proofs.Picks.{ids-few, picked-few}
 use Rattle.strip.proofs.Steps.{items-length}
@@ -52,27 +53,17 @@ verdict-append k [] ns rest = ap (λ (i : ℕ). leavesVerdict i ns rest) (omega 
 verdict-append k (m ∷ ms) ns rest =
     ap (at k (leafFault m)) (verdict-append (k + 1) ms ns rest ∙ ap (λ (i : ℕ). leavesVerdict (k + 1) ms (leavesVerdict i ns rest)) (omega arith))
 
--- a refusal stays, whatever comes behind it
-refused-at : (place n : ℕ) → (n ≡ 0 → ⊥) → (v u : Verdict) → at place n v ≡ at place n u
-unfolding at
-refused-at place zero h v u = absurd (h refl)
-refused-at place (suc n) h v u = refl
-
-none-at : (place n : ℕ) → n ≡ 0 → (v : Verdict) → at place n v ≡ v
-unfolding at
-none-at place n e v = rw e
-
 module _ (k : ℕ) (ms ns : List (ℕ × ℕ)) (r : Refusal) (told : Tells r k ms) where
   pub tells-stop : (r .number ≡ 0 → ⊥) → Tells r k (ms ++ ns)
   tells-stop h rest =
-      refused-at (r .place) (r .number) h rest (leavesVerdict (k + length ms) ns rest)
+      at-some (r .place) (r .number) rest (leavesVerdict (k + length ms) ns rest) h
       ∙ told (leavesVerdict (k + length ms) ns rest) ∙ sym (verdict-append k ms ns rest)
 
   pub tells-on : (j : ℕ) → k + length ms ≡ j → r .number ≡ 0 → (q : Refusal) → Tells q j ns → Tells q k (ms ++ ns)
   tells-on j f e q next rest =
       next rest
       ∙ ap (λ (i : ℕ). leavesVerdict i ns rest) (sym f)
-      ∙ sym (none-at (r .place) (r .number) e (leavesVerdict (k + length ms) ns rest))
+      ∙ sym (at-none (r .place) (r .number) (leavesVerdict (k + length ms) ns rest) e)
       ∙ told (leavesVerdict (k + length ms) ns rest) ∙ sym (verdict-append k ms ns rest)
 
 -- ---- the leaves below a box

@@ -2,7 +2,6 @@
 use Prim.Native.Nat.{ℕ, _+_, _*_, _≤_, _<_}
 use native.Mathlib.Omega.{arith}
 use mathlib.Core.Path.{_≡_, ap, sym, _∙_}
-use mathlib.Core.Bool.{true, false}
 use mathlib.Core.List.{List, _++_}
 use lib.ListN.{length, take, drop, getD, length-take}
 use borrow.Author.Tests.{eq-eqb, ne-eqb, lt-ltb, le-ltb}
@@ -10,12 +9,8 @@ use Rattle.fields.specs.Bytes.{le}
 use Rattle.strip.specs.Outcome.{Paper, refusal, values, shown, left}
 use Rattle.ynv_read.specs.Parse.{parseOutcome}
 use Rattle.ynv_read.specs.declared.Parsed.{Parsed}
-use Rattle.read_vectors.specs.Agreement.{told, toldCounts, toldWord, toldWords, lent, between, untouchedWords, outcomeOf, stripOf, Agrees, Tallied}
+use Rattle.read_vectors.specs.Agreement.{told, toldCounts, toldWord, toldWords, lent, between, untouchedWords, outcomeOf, stripOf, Agrees}
 use Rattle.read_vectors.specs.declared.Record.{Record}
-use Rattle.read_vectors.specs.declared.Tally.{Tally}
-
-pub never : {A : Type 0} → false ≡ true → A
-never e = absurd (let z : _≡_ {A = ℕ} 0 1 = cc in omega arith)
 
 pub same-counts : (p : Parsed) (v w x y z : ℕ) → p .words ≡ v → p .polys ≡ w → p .portals ≡ x → p .points ≡ y → p .sectors ≡ z → p ≡ record { words = v; polys = w; portals = x; points = y; sectors = z }
 same-counts p v w x y z e f g h i = rw (← e, ← f, ← g, ← h, ← i)
@@ -65,7 +60,3 @@ agreed b at r u x p all len says tells leaves words =
       answer = ap (λ (n : ℕ). shown (outcomeOf b at r n)) len ∙ sym says ∙ tells;
       strip = λ k l. ap (λ (s : List ℕ). getD (stripOf b at r s) k 0) (sym all) ∙ sym (ap (λ (s : List ℕ). getD s k 0) leaves) ∙ words k l;
     }
-
--- a tally holds further on
-pub later : (n a b : ℕ) (t : Tally) → Tallied n a t → a ≤ b → Tallied n b t
-later n a b t g h = record { few = omega (arith, g .few); part = g .part; shown = g .shown; all = g .all }

@@ -1,5 +1,5 @@
 -- What a record of the list says, what reading its pages comes to, and when the two agree. Definitions only.
-use Prim.Native.Nat.{ℕ, _+_, _-_, _*_, _/_, _≤_, _<_, min}
+use Prim.Native.Nat.{ℕ, _+_, _-_, _*_, _≤_, _<_, min}
 use mathlib.Core.Path.{_≡_}
 use mathlib.Core.Bool.{cond}
 use mathlib.Core.List.{List, _++_}
@@ -9,8 +9,8 @@ use Rattle.fields.specs.Bytes.{le}
 use Rattle.strip.specs.Outcome.{Outcome, Paper, refusal, values, shown, left}
 use Rattle.ynv_read.specs.Parse.{parseOutcome}
 use Rattle.ynv_read.specs.declared.Parsed.{Parsed}
+use Rattle.replay.specs.Ends.{endOf, padded}
 use Rattle.read_vectors.specs.declared.Record.{Record}
-use Rattle.read_vectors.specs.declared.Tally.{Tally}
 
 -- how much the cell of the record at a place has
 abbrev pub toldCounts : List ℕ → ℕ → Parsed
@@ -27,13 +27,6 @@ toldWord ws k = cond (ltb (4 * k) (length ws)) (le 4 ws (4 * k)) 0xD1D1D1D1
 -- the strip before the call
 unfoldable pub untouchedWords : List ℕ
 untouchedWords = replicate 512 0xD1D1D1D1
-
--- where so many bytes from a place on end, of n in all; bytes padded to whole words
-unfoldable pub endOf : (n from count : ℕ) → ℕ
-endOf n from count = from + min count (n - from)
-
-unfoldable pub padded : ℕ → ℕ
-padded count = (count + 3) / 4 * 4
 
 -- the words of the cell that stand in the record
 unfoldable pub toldWords : List ℕ → ℕ → ℕ
@@ -84,10 +77,3 @@ pub record Stands (at : ℕ) (r : Record) (n : ℕ) : Type 0 where
   pub last : r .graphics ≤ r .strip
   pub ends : r .strip ≤ r .next
   pub within : r .next ≤ n
-
--- a tally of the records before a place of n bytes: where no difference is shown, all of them agree
-pub record Tallied (n at : ℕ) (t : Tally) : Type 0 where
-  pub few : t .seen ≤ at
-  pub part : t .agreed ≤ t .seen
-  pub shown : t .first ≤ n
-  pub all : t .first ≡ n → t .agreed ≡ t .seen

@@ -4,40 +4,24 @@
 // zeros; the two sections, each padded to whole words; and the words of an accepted cell. The first word that isn't 7 ends the list.
 ghost use mathlib.Core.Path.{_≡_};
 ghost use mathlib.Core.Bool.{true};
-ghost use Prim.Native.Nat.{ℕ, _+_, _*_, _^_, _≤_, _<_, min};
+ghost use Prim.Native.Nat.{ℕ, _+_, _*_, _^_, _≤_, _<_};
 ghost use lib.ListN.{length, getD};
-ghost use Rattle.fields.specs.Bytes.{le};
 ghost use Rattle.strip.specs.Outcome.{refusalOf, shown};
 ghost use Rattle.ynv_read.specs.Parse.{paper};
-ghost use Rattle.read_vectors.specs.Agreement.{told, toldCounts, toldWord, untouchedWords, endOf, padded, toldWords, outcomeOf, stripOf, Agrees, Placed, Stands, Tallied};
+ghost use Rattle.replay.specs.Tallies.{Tallied};
+ghost use Rattle.read_vectors.specs.Agreement.{told, toldCounts, toldWord, untouchedWords, toldWords, outcomeOf, stripOf, Agrees, Placed, Stands};
 use fields::u32_le;
+use replay::Tally;
+use replay::counted;
+use replay::end_of;
+use replay::padded;
+use replay::print;
+use replay::print_first;
+use replay::print_number;
+use replay::print_tally;
 use strip::Refusal;
 use ynv_read::ParseAnswer;
 use ynv_read::Parsed;
-
-fn fewer(a: usize, b: usize) -> usize
-    ensures { λ r. ⌜ r ≡ min a b ⌝ }
-{
-    if a < b {
-        return a;
-    }
-    b
-}
-
-// Where `count` bytes from `from` on end, of n in all. What the list lacks is left out.
-fn end_of(n: usize, from: usize, count: usize) -> usize
-    requires { ⌜ from ≤ n ⌝ }
-    ensures { λ r. ⌜ (r ≡ endOf n from count) × (from ≤ r) × (r ≤ n) ⌝ }
-{
-    from + fewer(count, n - from)
-}
-
-// Whole words that hold so many bytes, in bytes.
-fn padded(count: u32) -> usize
-    ensures { λ r. ⌜ r ≡ padded count ⌝ }
-{
-    ((count as usize) + 3) / 4 * 4
-}
 
 // Where the sections of a record begin and end, its strip begins, and the next record.
 struct Record {
@@ -90,7 +74,7 @@ fn read_record(bytes: &[u8], at: usize, r: Record, strip: &mut [u32]) -> ParseAn
     let system_end = r.system_end;
     let graphics = r.graphics;
     let graphics_end = r.graphics_end;
-    let lent = fewer(u32_le(bytes, at + 12) as usize, strip.len());
+    let lent = fields::least(u32_le(bytes, at + 12) as usize, strip.len());
     ynv_read::parse_ynv(
         &bytes[system..system_end],
         &bytes[graphics..graphics_end],
@@ -195,32 +179,7 @@ fn agrees(bytes: &[u8], at: usize, r: Record) -> bool
     false
 }
 
-// How many records there are, how many of them agree, and where the first stands that doesn't, or the end of the bytes.
-struct Tally {
-    seen: usize,
-    agreed: usize,
-    first: usize,
-}
-
-fn counted(t: Tally, n: usize, at: usize, agreed: bool) -> Tally
-    requires { ⌜ Tallied n at t × (at < n) ⌝ }
-    ensures { λ r. ⌜ Tallied n (at + 1) r ⌝ }
-{
-    if agreed {
-        return Tally {
-            seen: t.seen + 1,
-            agreed: t.agreed + 1,
-            first: t.first,
-        };
-    }
-    Tally {
-        seen: t.seen + 1,
-        agreed: t.agreed,
-        first: fewer(t.first, at),
-    }
-}
-
-// The same, where the record's number is from low to high.
+// The tally with the record at a place, where the record's number is from low to high.
 fn with_record(bytes: &[u8], at: usize, r: Record, t: Tally, low: u32, high: u32) -> Tally
     requires { ⌜ (at + 40 ≤ length (now bytes)) × Stands at r (length (now bytes)) × Tallied (length (now bytes)) at t ⌝ }
     ensures { λ s. ⌜ Tallied (length (now (bytes .entry))) (at + 1) s ⌝ }
@@ -256,26 +215,17 @@ fn tally_of(bytes: &[u8], low: u32, high: u32) -> Tally
     t
 }
 
-fn print(text: &[u8]) {
-    io::write_all(1, text);
-}
-
 // Prints how many of the records with such a number agree. The answer is where the first stands that doesn't.
 fn report(bytes: &[u8], low: u32, high: u32) -> usize
     ensures { λ r. ⌜ r ≤ length (now (bytes .entry)) ⌝ }
 {
     let t = tally_of(bytes, low, high);
-    io::print_decimal(1, t.agreed as u64);
-    print(b" of ");
-    io::print_decimal(1, t.seen as u64);
-    print(b"\n");
+    print_tally(t);
     t.first
 }
 
 fn report_number(bytes: &[u8], n: u32) {
-    print(b"number ");
-    io::print_decimal(1, n as u64);
-    print(b": ");
+    print_number(n);
     report(bytes, n, n);
 }
 
@@ -287,17 +237,13 @@ fn report_numbers(bytes: &[u8], low: u32, high: u32) {
     }
 }
 
-fn replay(bytes: &[u8]) {
+fn report_all(bytes: &[u8]) {
     report_number(bytes, 0);
     report_number(bytes, 2);
     report_numbers(bytes, 30, 41);
     print(b"all ");
     let first = report(bytes, 0, 4294967295);
-    if first < bytes.len() {
-        print(b"first difference at byte ");
-        io::print_decimal(1, first as u64);
-        print(b"\n");
-    }
+    print_first(first, bytes.len(), b"byte");
 }
 
 // Room for a list of 700,000 bytes. What it says of the zeros is their number, which lending them as a slice needs.
@@ -310,5 +256,5 @@ fn room() -> [u8; 700000]
 fn main() {
     let mut bytes = room();
     io::read_full(0, &mut bytes);
-    replay(&bytes);
+    report_all(&bytes);
 }

@@ -2,7 +2,7 @@
 use mathlib.Core.List.{List, [], _∷_, _++_}
 use Prim.Native.Nat.{ℕ, _^_, _<_}
 use native.Mathlib.Omega.{arith}
-use Rattle.pages.proofs.Lists.{all-apart}
+use Rattle.strip.proofs.Alls.{all-apart}
 use Rattle.strip.specs.Cell.{Vec3, Edge, Polygon, Portal, Head, Cell, All, each, vecWords, halfWords, edgeWords, polygonWords, polygonWordsAs, portalWords, pointWords, headWords, endWords, encodeAs, PolygonFits, PortalFits, PointFits, InRange}
 
 pub record WordVec (v : Vec3) : Type 0 where

@@ -9,26 +9,24 @@ use lib.ListN.{length, take, drop, length-drop, take-append-drop}
 use lib.Seq.{length-take-le}
 use Rattle.fields.specs.Bytes.{le, cat}
 use Rattle.fields.specs.Rows.{rowBytes}
+use Rattle.fields.proofs.Bytes.{cat-append}
 use Rattle.fields.proofs.Holds.{Holds, all-held, held-more, held-first, held-second, held-end}
 use Rattle.fields.proofs.Rows.{length-rows, field-in, field-back}
 use Rattle.blocks.specs.Layout.{placeOf, behind, address}
 use Rattle.blocks.specs.Lists.{perPart, partCount, counts, chunks, Wide, offsetsAddress, tableAt, partsFrom, itemsEnd, listRow, partRow, tableBytes, frontBlocks, offsetBlocks, listBlocks}
-use Rattle.blocks.proofs.Lists.{cut-back, cat-append, length-cat, wide-take, wide-drop, table-length}
+use Rattle.blocks.proofs.Lists.{cut-back, length-cat, wide-take, wide-drop, table-length}
 use Rattle.blocks.proofs.Standing.{Stand, stand-first}
 use Rattle.grammar.specs.Parts.{Good, Array}
 use Rattle.grammar.specs.Lists.{Table, no-table, table, Parts, no-part, skipped, part, ListAt, Items, some}
 use Rattle.grammar.proofs.Parts.{held-good}
 use Rattle.pages.specs.Optional.{blockOf, addressOf}
+use Rattle.pages.proofs.Optional.{address-some}
 
 -- ---- a block where there is something
 
 pub block-held : (P : List ℕ) (end : ℕ) (b : List ℕ) → 0 < length b → Stand P end (blockOf b) → Holds P (placeOf end (length b)) b
 block-held P end [] h s = absurd (omega arith)
 block-held P end (x ∷ b) h s = s .0
-
-pub address-some : (end n : ℕ) → 0 < n → addressOf end n ≡ address (placeOf end n)
-address-some end zero h = absurd (omega arith)
-address-some end (suc n) h = refl
 
 -- its address is below 2^64, where the pages are short
 pub address-small : (P : List ℕ) (end n : ℕ) (b : List ℕ) → length P < 2 ^ 28 → length b ≡ n → Stand P end (blockOf b) → addressOf end n < 2 ^ 64

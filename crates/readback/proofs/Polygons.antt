@@ -1,6 +1,6 @@
 -- The polygons that the grammar reads in the written items are the polygons again. Assumes nothing.
 use mathlib.Core.Path.{_≡_, refl, sym, ap, subst, _∙_}
-use mathlib.Core.List.{List, [], _∷_, map}
+use mathlib.Core.List.{List, [], _∷_, map, map-append}
 use Prim.Native.Nat.{ℕ, _+_, _*_, _/_, _%_, _^_, _≤_, _<_}
 use native.Mathlib.Nat.{mod-eq-of-lt}
 use native.Mathlib.Omega.{arith}
@@ -24,7 +24,8 @@ use Rattle.grammar.specs.Derives.{axis, backOf}
 use Rattle.pages.specs.Items.{floats, Corner, gather, tripleIn, cornersOf, cornersIn, corners, triples, named, linksOf, vertexRow, indexRow, halfOf, edgeRow, vertexItems, indexItems, edgeItems, polygonRow, polygonItems}
 use Rattle.pages.specs.Reread.{halfAgain, edgeAgain, positionAgain, polygonAgain}
 use Rattle.pages.specs.Accepted.{Checked, AllChecked}
-use Rattle.pages.proofs.Lists.{map-append, map-at, all-apart}
+use Rattle.strip.proofs.Alls.{all-apart}
+use Rattle.pages.proofs.Lists.{map-at}
 use Rattle.pages.proofs.Sizes.{length-vertices, length-indices, length-edges}
 use Rattle.pages.proofs.Placed.{length-corners}
 use Rattle.readback.proofs.Formed.{WordPolygon}

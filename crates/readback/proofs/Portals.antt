@@ -25,7 +25,8 @@ use Rattle.pages.specs.Sectors.{pointRow, pointItems}
 use Rattle.pages.specs.Pages.{portalRow, portalItems}
 use Rattle.pages.specs.Reread.{positionAgain, portalAgain, pointAgain}
 use Rattle.readback.proofs.Formed.{FinePortal}
-use Rattle.readback.proofs.Lists.{good, block-held, address-some}
+use Rattle.pages.proofs.Optional.{address-some}
+use Rattle.readback.proofs.Lists.{good, block-held}
 use Rattle.readback.proofs.Polygons.{lo, extent, position-back}
 
 module _ (h : Head) where

@@ -10,7 +10,6 @@ use lib.Dec.{T, ltb, eqb}
 use lib.Ieee.{Float, nan, inf, fin, binary32, ofBits, toBits, isNan}
 use lib.Ieee.Scale.{finite}
 use lib.Ieee.Bits.{toBits-ofBits}
-use borrow.Author.Tests.{ltb-true, not-false, lt-ltb}
 use Rattle.fields.specs.Rows.{rowBytes}
 use Rattle.fields.proofs.Holds.{Holds}
 use Rattle.fields.proofs.Rows.{length-rows, field-back}
@@ -19,40 +18,20 @@ use Rattle.math.proofs.Finite.{finite-bits}
 use Rattle.quantise.specs.declared.quarter.QuarterBox.{QuarterBox}
 use Rattle.quantise.specs.declared.bounds.Aabb.{Aabb}
 use Rattle.strip.specs.Cell.{Vec3, Point, Head, Cell, All}
+use Rattle.strip.specs.Box as Box
+use Rattle.strip.proofs.Box.{FiniteVec, FiniteBox}
 use Rattle.blocks.specs.Layout.{placeOf, address}
 use Rattle.blocks.proofs.Standing.{Stand}
-use Rattle.grammar.specs.Derives.{vecOf, Finite, AllFinite}
-use Rattle.grammar.proofs.Runs.{all-append}
+use Rattle.grammar.specs.Derives.{vecOf}
+use Rattle.strip.proofs.Alls.{all-append}
 use Rattle.pages.specs.Items.{floats}
 use Rattle.pages.specs.Sectors.{Sector, sectorCount, sub0, sub1, sub2, sub3, depthBy, depthOf, rootBox, leaves, leafOf, pointsOf, grown, treeOf, preorder, sectorRow, dataFrom, from0, from1, from2, from3, sectorAddress, leafBlocks, treeBlocks}
 use Rattle.pages.specs.Sectors.Sector.{leaf, node}
 use Rattle.pages.specs.Pages.{sectors}
-use Rattle.pages.specs.Checks.{endless, endlessVec, endlessBox}
-use Rattle.pages.proofs.Accepted.{or-false}
 use Rattle.readback.proofs.Formed.{WordVec}
 use Rattle.readback.proofs.Trees.{first-held}
 
--- ---- 10: a box that is finite
-
-finite-word : (w : ℕ) → endless w ≡ false → Finite w
-finite-word w e = ltb-true (w % 2 ^ 31) 0x7F80_0000 (not-false (ltb (w % 2 ^ 31) 0x7F80_0000) e)
-
-finite-vec : (v : Vec3) → endlessVec v ≡ false → AllFinite v
-finite-vec v e =
-    let h = or-false (endless (v .x)) (endless (v .y) || endless (v .z)) e in
-    let k = or-false (endless (v .y)) (endless (v .z)) (h .1) in
-    record { x = finite-word (v .x) (h .0); y = finite-word (v .y) (k .0); z = finite-word (v .z) (k .1) }
-
-pub record FiniteBox (h : Head) : Type 0 where
-  pub min : AllFinite (h .bb-min)
-  pub max : AllFinite (h .bb-max)
-  pub extent : AllFinite (h .bb-size)
-
-pub finite-box : (h : Head) → endlessBox h ≡ false → FiniteBox h
-finite-box h e =
-    let k = or-false (endlessVec (h .bb-min)) (endlessVec (h .bb-max) || endlessVec (h .bb-size)) e in
-    let l = or-false (endlessVec (h .bb-max)) (endlessVec (h .bb-size)) (k .1) in
-    record { min = finite-vec (h .bb-min) (k .0); max = finite-vec (h .bb-max) (l .0); extent = finite-vec (h .bb-size) (l .1) }
+-- ---- a box that is finite
 
 finite-number : (x : Float) → finite x ≡ true → T (not (isNan x))
 unfolding isNan
@@ -61,9 +40,9 @@ finite-number (inf s) e = tt
 finite-number (fin s m k) e = tt
 
 -- the bits of a finite float pass
-float-back : (w : ℕ) → w < 2 ^ 32 → Finite w → toBits binary32 (ofBits binary32 w) % 256 ^ 4 ≡ w
+float-back : (w : ℕ) → w < 2 ^ 32 → Box.finite w ≡ true → toBits binary32 (ofBits binary32 w) % 256 ^ 4 ≡ w
 float-back w h f =
-    let number : T (not (isNan (ofBits binary32 w))) = finite-number (ofBits binary32 w) (finite-bits w ∙ lt-ltb (w % 2 ^ 31) 0x7F80_0000 f) in
+    let number : T (not (isNan (ofBits binary32 w))) = finite-number (ofBits binary32 w) (finite-bits w ∙ f) in
     ap (λ (x : ℕ). x % 256 ^ 4) (toBits-ofBits binary32 w h number) ∙ mod-eq-of-lt h
 
 -- ---- the root
@@ -112,7 +91,7 @@ tree-root P lo size end first (leaf b is ts) h = sector-root P end b (address (p
 tree-root P lo size end first (node b t0 t1 t2 t3) h =
     sector-root P end b 0 (sectorAddress (from0 end)) (sectorAddress (from1 end t0)) (sectorAddress (from2 end t0 t1)) (sectorAddress (from3 end t0 t1 t2)) (h .0)
 
-vec-back : (v : Vec3) → WordVec v → AllFinite v → words (floats v) ≡ v
+vec-back : (v : Vec3) → WordVec v → FiniteVec v → words (floats v) ≡ v
 vec-back v w f = rw (float-back (v .x) (w .x) (f .x), float-back (v .y) (w .y) (f .y), float-back (v .z) (w .z) (f .z))
 
 -- ---- a grown tree

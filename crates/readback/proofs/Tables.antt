@@ -12,7 +12,7 @@ use Rattle.areas.specs.Areas.{seeds, seeded}
 use Rattle.math.specs.declared.vec3.Vec3.{Vec3 as Floats}
 use Rattle.strip.specs.Cell.{Vec3}
 use Rattle.pages.specs.Items.{Corner, gather, cornersOf, cornersIn, corners, named, areaTable, linksOf}
-use Rattle.grammar.proofs.Runs.{all-append}
+use Rattle.strip.proofs.Alls.{all-append}
 use Rattle.readback.proofs.Formed.{WordEdge, WordPolygon}
 
 pub all-in : (l xs : List ℕ) → All (In (distinctFrom l xs)) xs

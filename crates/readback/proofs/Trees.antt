@@ -1,6 +1,6 @@
 -- Where a written tree's blocks stand, the grammar reads a tree of as many sectors, whose points are the leaves' in preorder. Assumes nothing.
 use mathlib.Core.Path.{_≡_, refl, sym, subst, _∙_}
-use mathlib.Core.List.{List, [], _∷_, _++_, append-assoc, append-nil}
+use mathlib.Core.List.{List, [], _∷_, _++_, append-assoc, append-nil, map-append}
 use Prim.Native.Nat.{ℕ, zero, suc, _+_, _*_, _^_, _≤_, _<_}
 use native.Mathlib.Nat.{suc-add, add-assoc, add-zero, zero-add, mod-eq-of-lt}
 use native.Mathlib.Omega.{arith}
@@ -21,7 +21,7 @@ use Rattle.pages.specs.Optional.{blockOf, sizeOf, addressOf}
 use Rattle.pages.specs.Sectors.{Sector, sectorCount, pointCount, leafCounts, preorder, sectorRow, dataRow, sizes, idsFrom, pointsFrom, dataFrom, from0, from1, from2, from3, sectorAddress, pointRow, pointItems, leafBlocks, treeBlocks}
 use Rattle.pages.specs.Sectors.Sector.{leaf, node}
 use Rattle.pages.specs.Accepted.{FewIn}
-use Rattle.pages.proofs.Lists.{map-append, all-apart}
+use Rattle.strip.proofs.Alls.{all-apart}
 use Rattle.pages.proofs.Sizes.{point-count, block-size, length-points, wide-points, tree-lengths}
 use Rattle.readback.proofs.Lists.{good, array-back, address-small}
 
@@ -45,9 +45,6 @@ keep-some (suc n) l h = refl
 module _ (b : Aabb) (d s0 s1 s2 s3 : ℕ) where
   abbrev row : List (ℕ × ℕ)
   row = sectorRow b d s0 s1 s2 s3
-
-  sector-length : length (rowBytes row) ≡ 96
-  sector-length = length-rows row
 
   sector-data : d < 2 ^ 64 → le 8 (rowBytes row) 0x2C ≡ d
   sector-data h = field-back row 0x2C 8 d (omega arith) refl ∙ mod-eq-of-lt h

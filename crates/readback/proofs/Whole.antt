@@ -8,6 +8,7 @@ use Rattle.fields.specs.Bytes.{le, les, cat}
 use Rattle.fields.proofs.Bytes.{length-les}
 use Rattle.fields.proofs.Holds.{Holds, all-held, held-end}
 use Rattle.strip.specs.Cell.{Cell, All, PointFits, encode, InRange}
+use Rattle.strip.proofs.Box.{FiniteBox, box-finite}
 use Rattle.areas.specs.Areas.{seeded}
 use Rattle.blocks.specs.Layout.{placeOf, address}
 use Rattle.blocks.specs.Lists.{listSizes, listBlocks}
@@ -32,7 +33,7 @@ use Rattle.readback.proofs.Polygons.{Known, all-known, polygons-back}
 use Rattle.readback.proofs.Portals.{portals-back, points-back, link-table}
 use Rattle.readback.proofs.Tables.{all-in, area-words, link-shorts}
 use Rattle.readback.proofs.Trees.{stand-behind, first-held, first-behind, tree-back}
-use Rattle.readback.proofs.Root.{boxAt, Root, tree-root, FiniteBox, finite-box, sectors-count, sectors-points, root-min, root-max}
+use Rattle.readback.proofs.Root.{boxAt, Root, tree-root, sectors-count, sectors-points, root-min, root-max}
 
 module _ (c : Cell) where
   abbrev N : Counts
@@ -114,7 +115,7 @@ module _ (c : Cell) where
     form = formed c range
 
     box : FiniteBox (c .head)
-    box = finite-box (c .head) (acc .finite)
+    box = box-finite (c .head) (acc .finite)
 
     st : Standing
     st = standing
@@ -227,9 +228,7 @@ module _ (c : Cell) where
       header-good = good P tail graphics few 368 (header-length (c .head) A N (areas c)) (omega arith) (st .header-block);
       root-good = rw root-va (good P tail graphics few 96 (root .long) (omega arith) (root .held));
       head-is = head-back;
-      min-finite = box .min;
-      max-finite = box .max;
-      size-finite = box .extent;
+      finite-box = acc .finite;
       tree = rw root-va (tree-back P tail graphics few (loOf c) (extentOf c) (endPolygons N T) 0 T (acc .leaves) (st .sector-blocks));
       few-sectors = omega (arith, sectors-count c);
       vertex-list = rw vertices-va (items-back P tail graphics few 6 (omega arith) (omega arith) (endHeader N T) 1080158456 vertexPart (wide-vertices (vertices c)) (omega (arith, length-vertices (vertices c), acc .few-vertices)) (st .vertex-blocks));

@@ -1,10 +1,8 @@
 // The two lent sections in a struct, with thin methods over the lookup. A function that takes, makes or holds a struct with references is
 // proved by a walk of its code, by hand; whoever calls `resolve_in` or `pointer_to`, whose parameters are plain, needs none.
 ghost use mathlib.Core.Path.{_≡_};
-ghost use Rattle.resource.specs.Section.{within, good};
 ghost use Rattle.res_reader.specs.Looked.{Looked, pointerTo};
-use resource::GRAPHICS_BASE;
-use resource::SYSTEM_BASE;
+use resource::is_good;
 
 pub struct ResReader<'a> {
     pub system: &'a [u8],
@@ -21,32 +19,6 @@ pub enum Pointer {
 pub struct OptionalPart<'a> {
     pub pointer: Pointer,
     pub part: &'a [u8],
-}
-
-// Whether the len bytes of s from off on are all inside.
-fn inside(s: &[u8], off: usize, len: usize) -> bool
-    ensures { λ r. ⌜ r ≡ within (now (s .entry)) off len ⌝ }
-{
-    if s.len() < off {
-        return false;
-    }
-    if s.len() - off < len {
-        return false;
-    }
-    true
-}
-
-// Whether va names a section and the len bytes from there on are all inside it.
-fn is_good<'a>(system: &'a [u8], graphics: &'a [u8], va: u64, len: usize) -> bool
-    ensures { λ r. ⌜ r ≡ good (now (system .entry)) (now (graphics .entry)) va len ⌝ }
-{
-    if va & GRAPHICS_BASE == GRAPHICS_BASE {
-        return inside(graphics, (va - GRAPHICS_BASE) as usize, len);
-    }
-    if va & SYSTEM_BASE == SYSTEM_BASE {
-        return inside(system, (va - SYSTEM_BASE) as usize, len);
-    }
-    false
 }
 
 pub fn pointer_to<'a>(system: &'a [u8], graphics: &'a [u8], va: u64, len: usize) -> Pointer

@@ -1,2 +1,4 @@
 pub mod Masks
 pub mod Parts
+pub mod Lookup
+pub mod Good

@@ -4,13 +4,11 @@ use mathlib.Core.Path.{_≡_, refl, _∙_, ap}
 use mathlib.Core.Bool.{Bool, true, false, cond, false≢true}
 use mathlib.Core.List.{List, [], _++_}
 use Prim.Native.Nat.{ℕ, _+_, _-_, _≤_, _<_}
-use native.Mathlib.Nat.{add-assoc, add-sub-cancel-left}
+use native.Mathlib.Nat.{add-sub-cancel-left}
 use native.Mathlib.Omega.{arith}
 use lib.ListN.{length, take, drop, length-drop, length-append}
-use lib.Seq.{length-take-le, getD-take, getD-drop, drop-append-le, take-append-le}
+use lib.Seq.{length-take-le, drop-append-le, take-append-le}
 use borrow.Author.Tests.{le-leb, lt-leb, leb-true, leb-false}
-use Rattle.fields.specs.Bytes.{le}
-use Rattle.fields.proofs.Bytes.{same}
 use Rattle.fields.proofs.Holds.{Holds, held-end, held-taken}
 use Rattle.resource.specs.Section.{inGraphics, inSystem, within, part, good, resolved}
 use Rattle.resource.proofs.Masks.{both-set, not-both}
@@ -28,10 +26,6 @@ module _ (s : List ℕ) (off len : ℕ) where
 
   pub length-inside : off + len ≤ length s → length (part s off len) ≡ len
   length-inside h = ap length (inside h) ∙ length-take-le len (drop off s) (simp length-drop (omega arith))
-
-  -- a field of a part is a field of the section
-  pub field : (n i : ℕ) → off + len ≤ length s → i + n ≤ len → le n (part s off len) i ≡ le n s (off + i)
-  field n i h l = same n (part s off len) i s (off + i) (λ k m. rw (inside h, getD-take len (drop off s) (i + k) 0 (omega arith), getD-drop, add-assoc))
 
 -- what follows a section doesn't matter
 pub part-more : (s t : List ℕ) (off len : ℕ) → off + len ≤ length s → part (s ++ t) off len ≡ part s off len
@@ -82,19 +76,6 @@ module _ (system graphics : List ℕ) (va len : ℕ) where
 
 -- what follows the system section doesn't matter to a part that is good
 module _ (system tail graphics : List ℕ) (va len : ℕ) where
-  pub good-more : good system graphics va len ≡ true → good (system ++ tail) graphics va len ≡ true
-  unfolding good
-  good-more = by (inGraphics va) (inSystem va)
-    where
-      more : (off : ℕ) → within system off len ≡ true → within (system ++ tail) off len ≡ true
-      more off h = let l = leb-true (off + len) (length system) h in le-leb (off + len) (length (system ++ tail)) (rw length-append (omega arith))
-
-      by : (g s : Bool) → cond g (within graphics (va - 0x60000000) len) (cond s (within system (va - 0x50000000) len) false) ≡ true
-          → cond g (within graphics (va - 0x60000000) len) (cond s (within (system ++ tail) (va - 0x50000000) len) false) ≡ true
-      by true s h = h
-      by false true h = more (va - 0x50000000) h
-      by false false h = h
-
   pub resolved-more : good system graphics va len ≡ true → resolved (system ++ tail) graphics va len ≡ resolved system graphics va len
   unfolding good resolved
   resolved-more = by (inGraphics va) (inSystem va)
@@ -126,10 +107,6 @@ module _ (system graphics : List ℕ) (off len : ℕ) (few : off < 0x10000000) w
   unfolding resolved
   at-system = rw (no-graphics, is-system, add-sub-cancel-left 0x50000000 off)
 
-  pub good-at-system : good system graphics (0x50000000 + off) len ≡ within system off len
-  unfolding good
-  good-at-system = rw (no-graphics, is-system, add-sub-cancel-left 0x50000000 off)
-
 -- ---- of what stands in a section
 
 pub held-part : {s : List ℕ} {at : ℕ} {b : List ℕ} → Holds s at b → part s at (length b) ≡ b
@@ -137,6 +114,3 @@ held-part {s} {at} {b} h = inside s at (length b) (held-end h) ∙ held-taken h
 
 pub held-resolved : {s : List ℕ} {at : ℕ} {b : List ℕ} (graphics : List ℕ) → at < 0x10000000 → Holds s at b → resolved s graphics (0x50000000 + at) (length b) ≡ b
 held-resolved {s} {at} {b} graphics few h = at-system s graphics at (length b) few ∙ held-part h
-
-pub held-good : {s : List ℕ} {at : ℕ} {b : List ℕ} (graphics : List ℕ) → at < 0x10000000 → Holds s at b → good s graphics (0x50000000 + at) (length b) ≡ true
-held-good {s} {at} {b} graphics few h = good-at-system s graphics at (length b) few ∙ le-leb (at + length b) (length s) (held-end h)

@@ -5,6 +5,8 @@ use mathlib.Core.List.{List, []}
 use denote.Ref.{RefT}
 use lib.Dec.{leb, eqb}
 use lib.ListN.{length, take, drop}
+use Rattle.resource.specs.declared.Located.{Located}
+use Rattle.resource.specs.declared.Located.the-variants.{Graphics, System, Nowhere}
 
 -- bit k of n is set
 abbrev pub bitSet : ℕ → ℕ → Bool
@@ -16,6 +18,10 @@ inGraphics va = bitSet 29 va && bitSet 30 va
 
 abbrev pub inSystem : ℕ → Bool
 inSystem va = bitSet 28 va && bitSet 30 va
+
+-- the section that an address names, with the offset there
+unfoldable pub located : ℕ → Located
+located va = cond (inGraphics va) (Graphics (va - 0x60000000)) (cond (inSystem va) (System (va - 0x50000000)) Nowhere)
 
 -- the len bytes from off on are all inside a section
 abbrev pub within : List ℕ → ℕ → ℕ → Bool

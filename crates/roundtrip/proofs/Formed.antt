@@ -1,15 +1,13 @@
 -- The cell that is read again fits a strip where the cell that was saved does, so that its words scan to it. Assumes nothing.
-use Prim.Native.Nat.{ℕ, _%_, _^_, _<_}
 use native.Mathlib.Omega.{arith}
 use mathlib.Core.Path.{_≡_, refl, _∙_}
-use mathlib.Core.List.{List, [], _∷_, map}
-use lib.ListN.{length, length-map}
+use lib.ListN.{length-map}
 use Rattle.math.specs.declared.vec3.Vec3.{Vec3 as Floats}
 use Rattle.strip.specs.Cell.{Half, Edge, Polygon, Portal, Point, Cell, HalfFits, EdgeFits, PolygonFits, PortalFits, PointFits, Fits, encode}
 use Rattle.strip.specs.Scan.{Scanned, scan}
 use Rattle.strip.proofs.Exact.{scan-fits}
-use Rattle.grammar.proofs.Runs.{all-map, all-images}
-use Rattle.pages.specs.Items.{Corner, cornersIn}
+use Rattle.strip.proofs.Alls.{all-map, all-images}
+use Rattle.pages.specs.Items.{cornersIn}
 use Rattle.pages.specs.Sectors.{preorder}
 use Rattle.pages.specs.Pages.{loOf, extentOf, sectors}
 use Rattle.pages.specs.Reread.{halfAgain, edgeAgain, positionAgain, polygonAgain, portalAgain, pointAgain, reread}

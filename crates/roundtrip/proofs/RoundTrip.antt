@@ -1,8 +1,9 @@
--- The two calls one after the other. Where writing accepts (`saves`, `saved`), the lent pages as they are then open again (`opened`), and the strip that is read
--- has what has to be kept (`returned`): for every strip of words, work, pages, graphics section and lent strip. Assumes nothing.
-use Prim.Native.Nat.{ℕ, _/_, _≤_, _<_}
+-- The two calls one after the other. Where the writer accepts (`saved`, by its own theorem), the lent pages as they are then (`behind-stays`) open again
+-- (`opened`), and the strip that is read has what has to be kept (`returned`): for every strip of words, work, pages, graphics section and lent strip.
+-- Assumes nothing.
+use Prim.Native.Nat.{ℕ, _≤_, _<_}
 use native.Mathlib.Omega.{arith}
-use mathlib.Core.Path.{_≡_, refl, sym, ap, subst, _∙_}
+use mathlib.Core.Path.{_≡_, refl, sym, ap, _∙_}
 use mathlib.Core.Bool.{Bool, true, false}
 use mathlib.Core.List.{List, [], _∷_, _++_, map}
 use mathlib.Core.Logic.{_⊎_, inl, inr, ⊎-elim}
@@ -10,27 +11,26 @@ use lib.Dec.{leb}
 use lib.ListN.{length, take, drop}
 use lib.Seq.{take-append-seam}
 use borrow.Author.Tests.{leb-true, leb-false}
-use Rattle.strip.specs.Cell.{Portal, Point, Cell, Words, InRange, encode}
-use Rattle.strip.specs.Scan.{Scanned, ok, fault, scan}
+use Rattle.strip.specs.Cell.{Portal, Cell, Words, InRange, encode}
 use Rattle.strip.specs.Outcome.{Outcome, values, refusal, shown, left}
 use Rattle.strip.specs.Outcome as Outcome
-use Rattle.strip.specs.Check.{onCell}
 use Rattle.strip.proofs.Exact.{scan-exact}
 use Rattle.grammar.specs.Polygons.{Each, none, more}
 use Rattle.grammar.specs.Derives.{Derives}
 use Rattle.ynv_read.specs.declared.Parsed.{Parsed}
 use Rattle.ynv_read.specs.Parse.{countsOf}
-use Rattle.ynv_read.proofs.Theorems.{accepted-exactly, too-short-exactly}
+use Rattle.ynv_read.proofs.Theorems.{accepted-exactly as read-exactly, too-short-exactly}
 use Rattle.pages.specs.Sectors.{sectorCount, preorder}
 use Rattle.pages.specs.Pages.{loOf, extentOf, sectors, pages}
-use Rattle.pages.specs.Checks.{Verdict, fine, refused, cellVerdict, onVerdict, cellOutcome}
+use Rattle.pages.specs.Checks.{refused}
 use Rattle.pages.specs.Reread.{portalAgain, pointAgain, reread}
 use Rattle.pages.specs.Accepted.{Accepted}
 use Rattle.pages.proofs.Accepted.{accepted}
-use Rattle.pages.proofs.Placed.{pages-short}
+use Rattle.ynv_write.specs.declared.Written.{Written}
+use Rattle.ynv_write.proofs.Theorems.{Accepts, accepted-exactly}
 use Rattle.readback.proofs.Whole.{makes}
 use Rattle.readback.proofs.Kept.{reread-kept}
-use Rattle.roundtrip.specs.RoundTrip.{saving, savedPages, opening, openedStrip, Saved, Opened, KeptPortal, KeptPoint, Returned}
+use Rattle.roundtrip.specs.RoundTrip.{saving, savedPages, withPages, opening, openedStrip, Opened, KeptPortal, KeptPoint, Returned}
 use Rattle.roundtrip.proofs.Formed.{reread-scans}
 
 -- ---- portals and points of the cell that is read again
@@ -75,9 +75,9 @@ module _ (c : Cell) (range : InRange c) (acc : Accepted c) (tail graphics lent :
   derived : Derives S graphics (encode (reread c))
   derived = record { sectors = sectorCount (sectors c); cell = reread c; makes = makes c tail graphics range acc; strip = refl }
 
-  enough : length (encode (reread c)) ≤ length lent → opening S graphics lent ≡ Outcome.done P (encode (reread c))
+  pub enough : length (encode (reread c)) ≤ length lent → opening S graphics lent ≡ Outcome.done P (encode (reread c))
   unfolding derived
-  enough h = accepted-exactly S graphics (length lent) P (encode (reread c)) .1 (record { derived = derived; fits = h; counts = refl })
+  enough h = read-exactly S graphics (length lent) P (encode (reread c)) .1 (record { derived = derived; fits = h; counts = refl })
 
   lacking : length lent < length (encode (reread c)) → opening S graphics lent ≡ Outcome.refused 2 0
   lacking h = too-short-exactly S graphics (length lent) .1 (encode (reread c), derived, h)
@@ -127,51 +127,38 @@ module _ (c : Cell) (range : InRange c) (acc : Accepted c) (tail graphics lent :
 
 -- ---- the two calls
 
--- writing accepts the strip of a cell that passes every check, with work and pages long enough
-pub saves : {A : Type 0} (answer : Cell → A) (strip : List ℕ) (work : ℕ) (old : List ℕ) (c : Cell) → scan strip ≡ ok c → length strip ≤ work / 4 → Accepted c → length (pages c) ≤ length old
-    → shown (saving answer strip work old) ≡ values (answer c)
-saves answer strip work old c formed long acc fits = rw (formed, accepted (length strip) work (length old) c .1 (long, acc, fits))
+done-shown : {A : Type 0} (o : Outcome A) {v : A} → shown o ≡ values v → (ps : List ℕ) × (o ≡ Outcome.done v ps)
+done-shown (Outcome.done w ps) e = (ps, cc)
+done-shown (Outcome.refused number place) e = let z : _≡_ {A = ℕ} 0 1 = cc in absurd (omega arith)
 
--- writing said v of a strip of words
-module _ {A : Type 0} (answer : Cell → A) (strip : List ℕ) (work : ℕ) (old : List ℕ) (words : Words strip) (v : A) (said : shown (saving answer strip work old) ≡ values v) where
-  pub saved : Saved answer strip work old v (savedPages answer strip work old)
-  saved = by (scan strip) refl said
-    where
-      on : (c : Cell) → scan strip ≡ ok c → (w : Verdict) → cellVerdict (length strip) work (length old) c ≡ w → shown (onVerdict w (Outcome.done (answer c) (pages c))) ≡ values v
-          → Saved answer strip work old v (left (onVerdict w (Outcome.done (answer c) (pages c))) old)
-      on c e fine f h =
-          let a = accepted (length strip) work (length old) c .0 f in
-          record {
-            cell = c;
-            formed = e;
-            answered = cc;
-            work-fits = a .0;
-            accepted = a .1;
-            pages-fit = a .2;
-            short = pages-short c (a .1);
-            bytes = refl;
-          }
-      on c e (refused number place) f h = let z : _≡_ {A = ℕ} 0 1 = cc in absurd (omega arith)
+-- the writer said v of a strip of words
+module _ (strip : List ℕ) (work : ℕ) (old : List ℕ) (words : Words strip) (v : Written) (said : shown (saving strip work old) ≡ values v) where
+  -- what was written
+  pub written : (ps : List ℕ) × (saving strip work old ≡ Outcome.done v ps)
+  written = done-shown (saving strip work old) said
 
-      by : (s : Scanned) → scan strip ≡ s → shown (onCell (cellOutcome answer (length strip) work (length old)) s) ≡ values v
-          → Saved answer strip work old v (left (onCell (cellOutcome answer (length strip) work (length old)) s) old)
-      by (ok c) e h = on c e (cellVerdict (length strip) work (length old) c) refl h
-      by (fault number place) e h = let z : _≡_ {A = ℕ} 0 1 = cc in absurd (omega arith)
+  -- the strip stands for a cell that passes every check, and that cell's pages were written
+  pub saved : Accepts strip work (length old) v (written .0)
+  saved = accepted-exactly strip work (length old) v (written .0) .0 (written .1)
 
-  -- the length that the answer says is that of what was written, where the answer says a cell's length
-  pub length-answered : (said-length : A → ℕ) → ((c : Cell) → said-length (answer c) ≡ length (pages c)) → said-length v ≡ length (pages (saved .cell))
-  length-answered said-length says = ap said-length (saved .answered) ∙ says (saved .cell)
+  pub behind-stays : savedPages strip work old ≡ withPages (saved .cell) old
+  behind-stays = ap (λ (o : Outcome Written). left o old) (written .1) ∙ ap (λ (ps : List ℕ). ps ++ drop (length ps) old) (saved .bytes)
 
+  -- the length that it says is that of what it wrote
+  pub length-is : v .length ≡ length (pages (saved .cell))
+  length-is = ap (λ (w : Written). w .length) (saved .length-told)
+
+  -- those pages are read, with any graphics section, into a lent strip
   module _ (graphics lent : List ℕ) where
     range : InRange (saved .cell)
-    range = scan-exact strip words (saved .cell) .0 (saved .formed) .0
+    range = scan-exact strip words (saved .cell) .0 (saved .scanned) .0
 
     abbrev tail : List ℕ
     tail = drop (length (pages (saved .cell))) old
 
-    pub opened : Opened (saved .cell) (savedPages answer strip work old) graphics lent
-    opened = rw (saved .bytes) (opens (saved .cell) range (saved .accepted) tail graphics lent)
+    pub opened : Opened (saved .cell) (savedPages strip work old) graphics lent
+    opened = rw behind-stays (opens (saved .cell) range (saved .accepted) tail graphics lent)
 
-    pub returned : (p : Parsed) → shown (opening (savedPages answer strip work old) graphics lent) ≡ values p
-        → Returned (saved .cell) p (take (p .words) (openedStrip (savedPages answer strip work old) graphics lent))
-    returned = rw (saved .bytes) (returns (saved .cell) range (saved .accepted) tail graphics lent)
+    pub returned : (p : Parsed) → shown (opening (savedPages strip work old) graphics lent) ≡ values p
+        → Returned (saved .cell) p (take (p .words) (openedStrip (savedPages strip work old) graphics lent))
+    returned = rw behind-stays (returns (saved .cell) range (saved .accepted) tail graphics lent)

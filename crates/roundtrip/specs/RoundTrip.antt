@@ -1,6 +1,6 @@
 -- Writing and then reading: a strip is saved into lent pages, and these are read into a lent strip. What the two calls say and leave, one after the other.
 -- Definitions only.
-use Prim.Native.Nat.{ℕ, _/_, _%_, _^_, _≤_, _<_}
+use Prim.Native.Nat.{ℕ, _%_, _^_, _≤_, _<_}
 use mathlib.Core.Path.{_≡_}
 use mathlib.Core.List.{List, _++_}
 use lib.ListN.{length, drop}
@@ -12,17 +12,17 @@ use Rattle.ynv_read.specs.declared.Parsed.{Parsed}
 use Rattle.ynv_read.specs.Parse.{countsOf, parseOutcome}
 use Rattle.pages.specs.Sectors.{sectorCount, preorder}
 use Rattle.pages.specs.Pages.{sectors, pages}
-use Rattle.pages.specs.Checks.{writeOutcome}
 use Rattle.pages.specs.Reread.{reread}
-use Rattle.pages.specs.Accepted.{Accepted}
 use Rattle.readback.specs.Kept.{Kept}
+use Rattle.ynv_write.specs.declared.Written.{Written}
+use Rattle.ynv_write.specs.Serialize.{serializeOutcome}
 
 -- ---- the two calls
 
--- What writing a strip decides, with so many words of work, into lent pages that hold `old`; `answer` says what an accepted cell is answered with.
-module _ {A : Type 0} (answer : Cell → A) (strip : List ℕ) (work : ℕ) (old : List ℕ) where
-  abbrev pub saving : Outcome A
-  saving = writeOutcome answer strip work (length old)
+-- What writing a strip decides, with so many words of work, into lent pages that hold `old`.
+module _ (strip : List ℕ) (work : ℕ) (old : List ℕ) where
+  abbrev pub saving : Outcome Written
+  saving = serializeOutcome strip work (length old)
 
   -- the lent pages when it returns, with whatever stands behind what was written
   abbrev pub savedPages : List ℕ
@@ -38,17 +38,9 @@ module _ (pages graphics lent : List ℕ) where
 
 -- ---- what holds of them
 
--- Writing said v, and the lent pages are `after` now. The strip stands for a cell that every check passes; work and pages were long enough; what was
--- written are the cell's pages, below 2^28 bytes, and the rest of the lent ones stays.
-pub record Saved {A : Type 0} (answer : Cell → A) (strip : List ℕ) (work : ℕ) (old : List ℕ) (v : A) (after : List ℕ) : Type 0 where
-  pub cell : Cell
-  pub formed : scan strip ≡ Scanned.ok cell
-  pub answered : v ≡ answer cell
-  pub work-fits : length strip ≤ work / 4
-  pub accepted : Accepted cell
-  pub pages-fit : length (pages cell) ≤ length old
-  pub short : length (pages cell) < 2 ^ 28
-  pub bytes : after ≡ pages cell ++ drop (length (pages cell)) old
+-- the lent pages with those of a cell in front: the rest stays
+abbrev pub withPages : Cell → List ℕ → List ℕ
+withPages c old = pages c ++ drop (length (pages c)) old
 
 -- Reading the pages that c was saved in, into a lent strip: one with room for the cell as it is read again gets its words and keeps the rest; a shorter
 -- one is refused with 2; nothing else is ever said.

@@ -12,6 +12,7 @@ use Rattle.fields.specs.Bytes.{le, cut}
 use Rattle.fields.proofs.Bytes.{past}
 use Rattle.resource.specs.Section.{good, resolved}
 use Rattle.resource.proofs.Parts.{good-length, short-bad, full-good, null-empty}
+use Rattle.strip.proofs.Judged.{both}
 use Rattle.grammar.specs.Parts.{Array}
 use Rattle.grammar.specs.Trees.{Data}
 use Rattle.grammar.proofs.Parts.{good-found, found-good}
@@ -19,10 +20,6 @@ use Rattle.fields.proofs.Cuts.{cut-length}
 use Rattle.sector_tree.specs.declared.Found.the-variants.{Points, Bad}
 use Rattle.sector_tree.specs.Sector.{dataOf, countOf, pointsOf, goodData}
 use Rattle.sector_tree.specs.Answer.{foundOf}
-
-both-true : (a b : Bool) → (a && b) ≡ true → (a ≡ true) × (b ≡ true)
-both-true true b e = (refl, e)
-both-true false b e = (cc, cc)
 
 or-more : (n : ℕ) (b : Bool) → (n ≡ 0 → ⊥) → (eqb n 0 || b) ≡ b
 or-more n b h = rw (ne-eqb n 0 h)
@@ -79,7 +76,7 @@ module _ (system graphics s : List ℕ) {va : ℕ} (eva : va ≡ le 8 s 0x2C) wh
       module _ (some : va ≡ 0 → ⊥) (more : n ≡ 0 → ⊥) {pv : ℕ} (ep : pv ≡ le 8 d 0x10) {p : List ℕ} (eq : p ≡ resolved system graphics pv (8 * n)) where
         points-good : good system graphics pv (8 * n) ≡ true
         points-good =
-            let h = both-true (good system graphics va 32) (eqb n 0 || good system graphics (le 8 d 0x10) (8 * n)) (sym (data-is ed en (good system graphics va 32) refl some) ∙ g) .1 in
+            let h = both (good system graphics va 32) (eqb n 0 || good system graphics (le 8 d 0x10) (8 * n)) (sym (data-is ed en (good system graphics va 32) refl some) ∙ g) .1 in
             rw (or-more n (good system graphics (le 8 d 0x10) (8 * n)) more, ← ep) at h
 
         pub points-there : (8 * n ≤ length p) × (pointsOf system graphics s ≡ cut 8 n p) × (length (pointsOf system graphics s) ≡ n)
@@ -113,7 +110,7 @@ module _ (system graphics : List ℕ) where
     data-of zero e g = subst (Data system graphics s) (sym (without-data system graphics s refl e .1)) (Data.no-data e)
     data-of (suc v) e g =
         let more : le 8 s 0x2C ≡ 0 → ⊥ = λ z. omega arith in
-        let (a, b) = both-true _ _ (sym (data-is system graphics s refl refl refl (good system graphics (le 8 s 0x2C) 32) refl more) ∙ g) in
+        let (a, b) = both _ _ (sym (data-is system graphics s refl refl refl (good system graphics (le 8 s 0x2C) 32) refl more) ∙ g) in
         subst (Data system graphics s) (sym (points-are system graphics s refl refl refl))
         (Data.data-at (omega arith) (found-good system graphics (le 8 s 0x2C) 32 (omega arith) a) (good-array 8 _ _ (omega arith) b))
 

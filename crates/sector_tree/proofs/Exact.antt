@@ -1,27 +1,20 @@
 -- The walk and the grammar say the same.
 --     walk-complete   where there are trees, a walk with enough visits spends one on each sector and finds their points
 --     walk-sound      what a walk accepts has trees, of as many sectors as visits were spent, with those points
---     tree-read, read-tree, tree-refused   the same of `treeOutcome`, the answer on the tree at a root
-use Prim.Native.Nat.{ℕ, zero, suc, _+_, _-_, _≤_}
+use Prim.Native.Nat.{ℕ, zero, suc, _+_, _-_}
 use native.Mathlib.Nat.{zero-add, suc-add, add-assoc}
 use native.Mathlib.Omega.{arith}
-use mathlib.Core.Path.{_≡_, refl, sym, ap, subst, _∙_}
-use mathlib.Core.Bool.{Bool, true, false, cond}
+use mathlib.Core.Path.{_≡_, refl, sym, ap, subst}
+use mathlib.Core.Bool.{Bool, true, false}
 use mathlib.Core.List.{List, [], _∷_, _++_, append-assoc, append-nil}
-use lib.Dec.{eqb}
-use lib.ListN.{length}
-use borrow.Author.Tests.{ne-eqb}
 use Rattle.resource.specs.Section.{good, resolved}
-use Rattle.resource.proofs.Parts.{null-bad}
-use Rattle.grammar.specs.Trees.{subsTo, Trees, Tree}
+use Rattle.grammar.specs.Trees.{subsTo, Trees}
 use Rattle.grammar.proofs.Parts.{good-found, found-good}
-use Rattle.strip.specs.Outcome.{Outcome}
 use Rattle.strip.specs.Outcome as Outcome
 use Rattle.sector_tree.specs.declared.Tree as Counts
 use Rattle.sector_tree.specs.Sector.{pointsOf, goodData}
 use Rattle.sector_tree.specs.Walk.{Walked, also, checked, sectorAt, walk}
 use Rattle.sector_tree.specs.Walk.Walked.{done, refused}
-use Rattle.sector_tree.specs.Answer.{outcomeOf, treeOutcome}
 use Rattle.sector_tree.proofs.Data.{data-good-points, good-data}
 
 also-also : (ps qs : List (List ℕ)) (w : Walked) → also ps (also qs w) ≡ also (ps ++ qs) w
@@ -122,58 +115,3 @@ module _ (system graphics : List ℕ) where
   walk-sound (suc f) [] l ps e = sound-none (suc f) l ps e
   walk-sound (suc f) (va ∷ vas) l ps e =
       sound-at va f l vas ps _ _ _ refl refl (λ m qs i. walk-sound f (subsTo (sectorAt system graphics va) 4 ++ vas) m qs i) e
-
-  -- ---- the tree at a root
-
-  module _ (root : ℕ) where
-    -- the walk of the whole tree
-    abbrev pub whole : Walked
-    whole = walk system graphics 4096 (root ∷ [])
-
-    pub whole-is : {n : ℕ} {ps : List (List ℕ)} → Tree system graphics root n ps → n ≤ 4096 → whole ≡ done (4096 - n) ps
-    whole-is {n} {ps} t h =
-        let e : n + (4096 - n) ≡ 4096 = omega arith in
-        rw e at (walk-complete t (4096 - n))
-
-    -- no tree stands at address 0
-    root-there : {n : ℕ} {ps : List (List ℕ)} → Tree system graphics root n ps → root ≡ 0 → ⊥
-    root-there (Trees.tree {va = va} g d r rest) z =
-        let e : true ≡ false = sym (good-found system graphics _ _ g) ∙ rw z (null-bad system graphics 96) in
-        let o : _≡_ {A = ℕ} 0 1 = cc in omega arith
-
-    -- a tree of at most 4,096 sectors is accepted, with its numbers of sectors and points
-    pub tree-read : {n : ℕ} {ps : List (List ℕ)} → Tree system graphics root n ps → n ≤ 4096
-        → treeOutcome system graphics root ≡ Outcome.done (record { sectors = n; points = length ps }) []
-    unfolding treeOutcome
-    tree-read {n} {ps} t h =
-        let e : 4096 - (4096 - n) ≡ n = omega arith in
-        rw (ne-eqb root 0 (root-there t), whole-is t h, e)
-
-    -- what is accepted is a tree, of so many sectors and points
-    abbrev pub Read : Counts.Tree → Type 0
-    Read c = (ps : List (List ℕ)) × Tree system graphics root (c .sectors) ps × (c .sectors ≤ 4096) × (c .points ≡ length ps)
-
-    read-of : (w : Walked) (c : Counts.Tree) → whole ≡ w → outcomeOf w ≡ Outcome.done c [] → Read c
-    read-of (refused x) c v h = let z : _≡_ {A = ℕ} 0 1 = cc in absurd (omega arith)
-    read-of (done l ps) c v h =
-        let (n, t, g) = walk-sound 4096 (root ∷ []) l ps v in
-        let i : record { sectors = 4096 - l; points = length ps } ≡ c = cc in
-        let a : 4096 - l ≡ c .sectors = ap (λ (k : Counts.Tree). k .sectors) i in
-        let b : length ps ≡ c .points = ap (λ (k : Counts.Tree). k .points) i in
-        let m : n ≡ c .sectors = omega arith in
-        (ps, subst (λ (k : ℕ). Tree system graphics root k ps) m t, omega arith, sym b)
-
-    read-by : (b : Bool) (c : Counts.Tree) → cond b (Outcome.refused 31 0) (outcomeOf whole) ≡ Outcome.done c [] → Read c
-    read-by true c h = let z : _≡_ {A = ℕ} 0 1 = cc in absurd (omega arith)
-    read-by false c h = read-of whole c refl h
-
-    pub read-tree : (c : Counts.Tree) → treeOutcome system graphics root ≡ Outcome.done c [] → Read c
-    unfolding treeOutcome
-    read-tree c h = read-by (eqb root 0) c h
-
-    -- where it is refused, no tree there has at most 4,096 sectors
-    pub tree-refused : {number place n : ℕ} {ps : List (List ℕ)} → treeOutcome system graphics root ≡ Outcome.refused number place
-        → Tree system graphics root n ps → n ≤ 4096 → ⊥
-    tree-refused h t few =
-        let e = tree-read t few in
-        let z : _≡_ {A = ℕ} 0 1 = cc in omega arith

@@ -1,42 +1,30 @@
--- The sectors of a cell: the tree by the words is the cell's, and an accepted cell leaves room for it. Assumes nothing.
+-- The sectors of a cell: an accepted cell leaves room for them, and they are laid out as its pages have them. Assumes nothing.
 use Prim.Native.Nat.{ℕ, zero, suc, _+_, _*_, _/_, _%_, _^_, _≤_}
-use mathlib.Core.Path.{_≡_, refl, sym, ap, _∙_}
+use mathlib.Core.Path.{_≡_, refl}
 use mathlib.Core.List.{List, _++_}
 use native.Mathlib.Omega.{arith}
 use lib.ListN.{length, length-append}
-use Rattle.strip.specs.Cell.{Point, Head, Cell, All}
-use Rattle.strip.specs.Reading.{pointsAt}
-use Rattle.blocks.specs.Layout.{endOf, lengths, pagesOf, Laid}
+use Rattle.strip.specs.Cell.{Head, Cell, All}
+use Rattle.blocks.specs.Layout.{endOf, Laid}
 use Rattle.blocks.specs.Lists.{listSizes}
-use Rattle.blocks.proofs.Layouts.{end-append, end-ge, length-blocks}
+use Rattle.blocks.proofs.Layouts.{end-append, end-ge}
 use Rattle.pages.specs.Optional.{sizeOf}
 use Rattle.pages.specs.Sectors as Sectors
 use Rattle.pages.specs.Sectors.{Sector, pointCount, leafCounts, leaves, depthBy, depthOf, rootBox, treeOf, treeBlocks}
 use Rattle.pages.specs.Sectors.Sector.{leaf, node}
 use Rattle.pages.specs.Accepted.{FewIn, Accepted}
-use Rattle.pages.specs.Pages.{Counts, loOf, extentOf, counts, sectors, sizes, sizesOf, blocks, pages, endHeader, endVertices, endIndices, endEdges, endPolygons, endSectors}
-use Rattle.pages.proofs.Lists.{all-apart}
+use Rattle.pages.specs.Pages.{Counts, loOf, extentOf, counts, sectors, sizes, sizesOf, pages, endHeader, endVertices, endIndices, endEdges, endPolygons, endSectors}
+use Rattle.strip.proofs.Alls.{all-apart}
 use Rattle.pages.proofs.Placed.{pages-short}
-use Rattle.pages.proofs.Sizes.{blocks-sizes}
-use Rattle.quadtree.specs.Work.{treeBy, BoxesHeld, LeavesHeld}
-use Rattle.quadtree.proofs.Held.{tree-held}
+use Rattle.pages.proofs.Sizes.{pages-length}
 use Rattle.quadtree.proofs.Tellings.{leaves-length}
 use Rattle.sectors.specs.declared.Spot.{Spot}
-use Rattle.sectors.specs.Written.{treeIn, Room, Wrote}
+use Rattle.sectors.specs.Written.{Room, Wrote}
 use Rattle.sectors.proofs.Steps.{laid-of}
-
--- ---- the tree
-
-pub cell-tree : (c : Cell) (boxes leafs strip : List ℕ) (at : ℕ) → c .points ≡ pointsAt strip at (length leafs) → length boxes ≡ 3 * length (c .polys)
-    → BoxesHeld boxes 0 (c .polys) → LeavesHeld (leaves (depthOf (c .head)) (rootBox (c .head))) leafs 0 (c .points)
-    → treeIn boxes leafs strip at (depthOf (c .head)) 0 (rootBox (c .head)) ≡ sectors c
-unfolding sectors
-cell-tree c boxes leafs strip at e l b v =
-    ap (λ (ts : List Point). treeBy boxes leafs ts (depthOf (c .head)) 0 (rootBox (c .head))) (sym e) ∙ tree-held (c .head) (c .polys) (c .points) boxes leafs l b v
 
 -- ---- its points
 
-few-points : (t : Sector) → All FewIn (leafCounts t) → pointCount t ≤ 2048 * length (leafCounts t)
+pub few-points : (t : Sector) → All FewIn (leafCounts t) → pointCount t ≤ 2048 * length (leafCounts t)
 unfolding leafCounts pointCount
 few-points (leaf b is ts) h = omega (arith, h .0 .points)
 few-points (node b t0 t1 t2 t3) h =
@@ -50,7 +38,7 @@ pub few-leaves : (n : ℕ) → 4 ^ depthBy n ≤ 16
 few-leaves zero = omega arith
 few-leaves (suc n) = omega arith
 
-cell-leaves : (c : Cell) → length (leafCounts (sectors c)) ≤ 16
+pub cell-leaves : (c : Cell) → length (leafCounts (sectors c)) ≤ 16
 unfolding sectors treeOf
 cell-leaves c =
     let h : Head = c .head in
@@ -80,12 +68,11 @@ sectors-end n t =
     ) (end-ge (endSectors n t) (ps ++ ls))
 
 pub cell-room : (c : Cell) → Accepted c → Room (sectors c) (endPolygons (counts c) (sectors c)) 0
-unfolding endSectors sizes pages
+unfolding endSectors sizes
 cell-room c a =
     let n = counts c in
     let t = sectors c in
-    let l : 0 + length (pagesOf (blocks c)) ≡ endOf 0 (lengths (blocks c)) = length-blocks 0 (blocks c) in
-    let m : endOf 0 (lengths (blocks c)) ≡ endOf 0 (sizesOf n t) = ap (endOf 0) (blocks-sizes c) in
+    let l : length (pages c) ≡ endOf 0 (sizesOf n t) = pages-length c in
     record {
       few = a .leaves;
       small = omega (arith, pages-short c a, sectors-end n t);

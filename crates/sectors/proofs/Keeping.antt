@@ -1,13 +1,13 @@
--- Items that are stored where a test passes, one turn at a time; and a block where there is something. Assumes nothing.
+-- Items that are stored where a test passes, one turn at a time. Assumes nothing.
 use Prim.Native.Nat.{ℕ, suc, _+_, _-_, _*_, _≤_, _<_}
-use mathlib.Core.Path.{_≡_, refl, sym, ap}
+use mathlib.Core.Path.{_≡_, refl, ap}
 use mathlib.Core.Bool.{Bool, true, false, cond}
 use mathlib.Core.List.{List, [], _∷_, _++_, append-nil}
 use native.Mathlib.Nat.{mul-zero}
 use native.Mathlib.Omega.{arith}
 use lib.Dec.{eqb}
 use lib.ListN.{length, getD}
-use Rattle.fields.specs.Bytes.{leBytes, les, cat, put, zeros}
+use Rattle.fields.specs.Bytes.{leBytes, les, cat, put}
 use Rattle.fields.specs.Rows.{rowBytes}
 use Rattle.fields.proofs.Bytes.{length-bytes}
 use Rattle.fields.proofs.Puts.{put-nil, put-next}
@@ -15,10 +15,6 @@ use Rattle.fields.proofs.Rows.{length-rows}
 use Rattle.math.specs.declared.vec3.Vec3.{Vec3 as Floats}
 use Rattle.strip.specs.Cell.{Point}
 use Rattle.strip.specs.Reading.{itemsAt, pointAt, pointsAt}
-use Rattle.blocks.specs.declared.Layout.{Layout}
-use Rattle.blocks.specs.Layout.{placeOf, behind, Laid}
-use Rattle.blocks.proofs.Layouts.{laid-none, laid-block}
-use Rattle.pages.specs.Optional.{blockOf}
 use Rattle.pages.specs.Sectors.{pointRow, pointItems}
 use Rattle.quadtree.specs.Work.{pickedFrom}
 
@@ -54,14 +50,3 @@ module _ (leafs s : List ℕ) (k : ℕ) where
   pub points-end : (at i n : ℕ) → n ≤ i → pickedFrom leafs k i (pointsAt s at (n - i)) ≡ []
   unfolding pickedFrom itemsAt
   points-end at i n h = let e : n - i ≡ 0 = omega arith in rw e
-
--- ---- a block where there is something
-
-pub laid-empty : (l : Layout) (b out : List ℕ) → length b ≡ 0 → Laid l (blockOf b) l out out
-laid-empty l [] out h = laid-none l out
-laid-empty l (x ∷ b) out h = absurd (omega arith)
-
-pub laid-some : {l r : Layout} {n start : ℕ} {xs ys zs : List ℕ} (b : List ℕ) → length b ≡ n → (n ≡ 0 → ⊥) → start ≡ placeOf (l .at) n
-    → ys ≡ put (l .at) (zeros (placeOf (l .at) n - l .at)) xs → zs ≡ put start b ys → r .at ≡ behind (l .at) n → Laid l (blockOf b) r xs zs
-laid-some [] e h p z q a = absurd (h (sym e))
-laid-some (x ∷ b) e h p z q a = laid-block e p z q a

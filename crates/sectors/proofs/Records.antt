@@ -1,30 +1,24 @@
 -- The bytes of records, from the words that the writer stores. Assumes nothing.
-use Prim.Native.Nat.{ℕ, zero, suc, _+_, _*_, _/_, _%_, _^_, _<_}
-use mathlib.Core.Path.{_≡_, refl, ap, _∙_}
+use Prim.Native.Nat.{ℕ, _+_, _*_, _/_, _%_, _^_, _<_}
+use mathlib.Core.Path.{_≡_, ap, _∙_}
 use mathlib.Core.List.{List, [], _∷_, _++_, append-assoc}
 use native.Mathlib.Omega.{arith}
 use lib.ListN.{getD}
 use lib.Ieee.{binary32, toBits}
 use Rattle.fields.specs.Bytes.{leBytes, les}
 use Rattle.fields.specs.Rows.{rowBytes, field}
-use Rattle.fields.proofs.Bytes.{le-address, le-pair}
+use Rattle.fields.proofs.Bytes.{le-address, le-pair, zero-words}
 use Rattle.math.specs.declared.vec3.Vec3.{Vec3 as Floats}
 use Rattle.quantise.specs.Short.{shorts}
 use Rattle.quantise.specs.Quarter.{quarterFloor, quarterCeil, bits16}
 use Rattle.quantise.specs.declared.bounds.Aabb.{Aabb}
 use Rattle.strip.specs.Reading.{vecAt, pointAt}
-use Rattle.blocks.specs.Layout.{placeOf, behind, endOf, address}
 use Rattle.pages.specs.Items.{floats}
-use Rattle.pages.specs.Optional.{sizeOf, addressOf}
 use Rattle.pages.specs.Sectors.{nanBits, sectorRow, dataRow, pointRow}
 
 -- an axis of a quarter box, as a word and as two fields
 axis-bytes : (x a b : ℕ) → (x ≡ a + 65536 * b) × (a < 65536) → leBytes 4 x ≡ leBytes 2 a ++ leBytes 2 b
 axis-bytes x a b h = ap (leBytes 4) (h .0) ∙ le-pair a b (h .1)
-
-twelve : leBytes 12 0 ≡ leBytes 4 0 ++ (leBytes 4 0 ++ leBytes 4 0)
-unfolding leBytes
-twelve = refl
 
 pub sector-words : (b : Aabb) (x y z d s0 s1 s2 s3 : ℕ)
     → (x ≡ bits16 (quarterFloor (b .min .x)) + 65536 * bits16 (quarterCeil (b .max .x))) × (bits16 (quarterFloor (b .min .x)) < 65536)
@@ -47,7 +41,7 @@ sector-words b x y z d s0 s1 s2 s3 ex ey ez hd h0 h1 h2 h3 =
       le-address s1 h1,
       le-address s2 h2,
       le-address s3 h3,
-      twelve,
+      zero-words,
       append-assoc,
     )
 
@@ -63,20 +57,6 @@ low-bytes w =
     let a : w % 65536 % 256 ≡ field 0 8 w % 256 = omega arith in
     let b : w % 65536 / 256 % 256 ≡ field 8 8 w % 256 = omega arith in
     rw (a, b)
-
--- ---- addresses
-
-pub address-some : (end size : ℕ) → (size ≡ 0 → ⊥) → addressOf end size ≡ address (placeOf end size)
-address-some end zero h = absurd (h refl)
-address-some end (suc n) h = refl
-
-pub sizes-some : (n : ℕ) → (n ≡ 0 → ⊥) → sizeOf n ≡ n ∷ []
-sizes-some zero h = absurd (h refl)
-sizes-some (suc n) h = refl
-
--- where there is a block, the end behind it
-pub behind-some : (end n : ℕ) → (n ≡ 0 → ⊥) → endOf end (sizeOf n) ≡ behind end n
-behind-some end n h = ap (endOf end) (sizes-some n h)
 
 -- ---- a point
 

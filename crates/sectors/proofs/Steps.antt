@@ -18,7 +18,7 @@ use Rattle.pages.specs.Accepted.{FewIn}
 use Rattle.pages.specs.Optional.{sizeOf}
 use Rattle.pages.specs.Sectors.{Sector, pointCount, leafCounts, sectorRow, sizes, sectorAddress, from0, from1, from2, from3, treeBlocks, grown, sub0, sub1, sub2, sub3}
 use Rattle.pages.specs.Sectors.Sector.{leaf, node}
-use Rattle.pages.proofs.Lists.{all-apart}
+use Rattle.strip.proofs.Alls.{all-apart}
 use Rattle.pages.proofs.Sizes.{tree-lengths}
 use Rattle.sectors.specs.declared.Spot.{Spot}
 use Rattle.sectors.specs.Written.{Room, Wrote}

@@ -8,7 +8,7 @@ ghost use lib.ListN.{length};
 ghost use Rattle.fields.specs.Bytes.{les, cat, put};
 ghost use Rattle.fields.specs.Rows.{rowBytes};
 ghost use Rattle.strip.specs.Reading.{pointAt, pointsAt};
-ghost use Rattle.blocks.specs.Layout.{behind, endOf, address, Laid};
+ghost use Rattle.blocks.specs.Layout.{behind, endOf, Laid};
 ghost use Rattle.pages.specs.Optional.{blockOf, sizeOf, addressOf};
 ghost use Rattle.pages.specs.Sectors.{idsOf, quarters, sectorRow, dataRow, sectorAddress, pointRow, pointItems};
 ghost use Rattle.quadtree.specs.Work.{boxBy, boxesIn, pickedFrom};

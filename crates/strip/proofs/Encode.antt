@@ -5,11 +5,11 @@ use mathlib.Core.List.{List, [], _∷_, _++_, append-assoc}
 use native.Mathlib.Omega.{arith}
 use native.Mathlib.Nat.{add-zero, add-assoc, mul-zero, mod-add-div}
 use native.Mathlib.Numerals.{add-one}
-use lib.ListN.{length, drop, getD, drop-of-length-le}
+use lib.ListN.{length, drop, drop-of-length-le}
 use lib.Seq.{drop-cons}
 use Rattle.fields.specs.Rows.{pack, field}
 use Rattle.strip.specs.Cell.{Cell, Polygon, Portal, Point, vecWords, halfWords, edgeWords, each, polygonHeadAs, polygonWordsAs, polygonWords, portalWords, pointWords, headWords, endWords, encodeAs, encode}
-use Rattle.strip.specs.Reading.{word, wordOf, itemsAt, wordsAt, vecAt, vecsAt, edgeAt, edgesAt, polyAt, polygonOf, polygonAt, portalAt, pointAt, headAt}
+use Rattle.strip.specs.Reading.{word, itemsAt, wordsAt, vecAt, vecsAt, edgeAt, edgesAt, polyAt, polygonOf, polygonAt, portalAt, pointAt, headAt}
 use Rattle.strip.specs.Scan.{Rest, Scanned, kindOf, onRecord, withPolygon, withPortal, withPoint, withHead, restFrom, restAt, scan}
 use Rattle.strip.specs.declared.Record.{Record}
 use Rattle.strip.proofs.Steps.{items-length}
@@ -54,22 +54,6 @@ module _ (s : List ℕ) where
   pub edge-words : (at : ℕ) → edgeWords (edgeAt s at) ≡ wordsAt s at 6
   unfolding itemsAt edgeWords halfWords
   edge-words at = simp (add-assoc, mod-add-div)
-
-  -- word j of item i, where n items of k words each stand
-  words-get : (n at j : ℕ) → j < n → getD (wordsAt s at n) j 0 ≡ word s (at + j)
-  unfolding itemsAt
-  words-get zero at j h = absurd (omega arith)
-  words-get (suc n) at zero h = rw add-zero
-  words-get (suc n) at (suc j) h = let g : at + 1 + j ≡ at + suc j = omega arith in rw (words-get n (at + 1) j (omega arith), g)
-
-  pub items-get : {A : Type 0} (f : A → List ℕ) (item : ℕ → A) (k : ℕ) → ((at : ℕ) → f (item at) ≡ wordsAt s at k)
-      → (n at i j : ℕ) → i < n → j < k → word s (at + k * i + j) ≡ wordOf f (itemsAt item (λ x. x + k) at n) i j
-  unfolding itemsAt wordOf
-  items-get f item k e zero at i j h o = absurd (omega arith)
-  items-get f item k e (suc n) at zero j h o = rw (mul-zero, add-zero, e at, words-get k at j o)
-  items-get f item k e (suc n) at (suc i) j h o =
-      let g : at + k * suc i + j ≡ at + k + k * i + j = omega arith in
-      rw g (items-get f item k e n (at + k) i j (omega arith) o)
 
   point-words : (at : ℕ) → kindOf (word s at) ≡ 4 → field 0 28 (word s at) < 65536 → pointWords (pointAt s at) ≡ wordsAt s at 4
   unfolding itemsAt pointWords vecWords pointAt

@@ -1,8 +1,8 @@
 -- Well-formed strips and cells in range are one another's: `scan-exact`, one cell for a strip and one strip for a cell. Assumes nothing.
-use Prim.Native.Nat.{ℕ, zero, suc, _+_, _-_, _^_, _<_}
+use Prim.Native.Nat.{ℕ, zero, suc, _+_, _-_, _<_}
 use mathlib.Core.Path.{_≡_, ap, sym, _∙_}
 use mathlib.Core.Bool.{true, _&&_}
-use mathlib.Core.List.{List, [], _∷_}
+use mathlib.Core.List.{List}
 use mathlib.Core.Logic.{_↔_}
 use native.Mathlib.Omega.{arith}
 use lib.ListN.{length}
@@ -119,11 +119,6 @@ fits-all s = fits-head s (restAt s 0 0) (fits-from (suc (length s - 0)) s 0 0)
 -- A list of numbers scans to a cell exactly when the cell fits and the list is its strip.
 pub scan-fits : (s : List ℕ) (c : Cell) → (scan s ≡ Scanned.ok c) ↔ (Fits c × (encode c ≡ s))
 scan-fits s c = (λ e. (rw e at (fits-all s), encode-scan s c e), λ h. rw (← h .1) (scan-encode c (h .0)))
-
--- a lent slice of 32-bit words has such a list
-pub words-of : (s : List ℕ) → ((i : ℕ) → word s i < 2 ^ 32) → Words s
-words-of [] h = tt
-words-of (w ∷ s) h = (h 0, words-of s (λ i. h (suc i)))
 
 -- Of words: a strip is well formed exactly when it is the strip of a cell in range, and that is the cell that it stands for.
 pub scan-exact : (s : List ℕ) → Words s → (c : Cell) → (scan s ≡ Scanned.ok c) ↔ (InRange c × (encode c ≡ s))

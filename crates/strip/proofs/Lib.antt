@@ -1,3 +1,5 @@
+pub mod Box
+pub mod Alls
 pub mod Steps
 pub mod Judged
 pub mod Laid

@@ -1,4 +1,5 @@
 pub mod Cell
+pub mod Box
 pub mod Reading
 pub mod Scan
 pub mod Outcome

@@ -47,12 +47,6 @@ edgeAt s at = record { a = halfAt s at; b = halfAt s (at + 3) }
 abbrev pub edgesAt : List ℕ → ℕ → ℕ → List Edge
 edgesAt s = itemsAt (edgeAt s) (λ at. at + 6)
 
--- word k of item i, for items of several words; 0 where there is none
-unfoldable pub wordOf : {A : Type 0} → (A → List ℕ) → List A → ℕ → ℕ → ℕ
-wordOf f [] i k = 0
-wordOf f (a ∷ rest) zero k = getD (f a) k 0
-wordOf f (a ∷ rest) (suc i) k = wordOf f rest i k
-
 -- where the parts of the polygon at a position are, by its counts
 unfoldable pub layout : ℕ → ℕ → ℕ → ℕ → Poly
 layout at links vertices edges =

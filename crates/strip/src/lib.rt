@@ -2,8 +2,8 @@
 ghost use mathlib.Core.Path.{_≡_};
 ghost use Prim.Native.Nat.{_+_, _*_, _≤_, _<_};
 ghost use lib.ListN.{length};
-ghost use Rattle.strip.specs.Cell.{vecWords, edgeWords};
-ghost use Rattle.strip.specs.Reading.{wordOf, polyAt, polygonOf};
+ghost use Rattle.strip.specs.Reading.{vecAt, polyAt, headAt};
+ghost use Rattle.strip.specs.Box.{finite, finiteVec, finiteBox};
 ghost use Rattle.strip.specs.Scan.{firstGood, allBelow, edgesFit, polyFits, cellRecord, polygonRecord, portalRecord, pointRecord, endRecord, recordAt};
 ghost use Rattle.strip.specs.Outcome.{shown};
 ghost use Rattle.strip.specs.Check.{paper, stripOutcome};
@@ -76,22 +76,39 @@ pub fn poly_at(strip: &[u32], at: usize) -> Poly
     }
 }
 
-// Word `axis` of a polygon's vertex `i`.
-pub fn vertex_word(strip: &[u32], p: Poly, i: usize, axis: usize) -> u32
-    requires { ⌜ (p .«vertex_at» + 3 * p .vertices ≤ length (now strip)) × (i < p .vertices) × (axis < 3) ⌝ }
-    ensures { λ r. ⌜ r ≡ wordOf vecWords (polygonOf (now (strip .entry)) p .vertices) i axis ⌝ }
+// Whether w is the bits of neither an infinity nor a NaN.
+pub fn is_finite(w: u32) -> bool
+    ensures { λ r. ⌜ r ≡ finite w ⌝ }
 {
-    let vertex_at = p.vertex_at;
-    strip[vertex_at + 3 * i + axis]
+    w % 0x8000_0000 < 0x7F80_0000
 }
 
-// Word `k` of a polygon's edge `i`.
-pub fn edge_word(strip: &[u32], p: Poly, i: usize, k: usize) -> u32
-    requires { ⌜ (p .«edge_at» + 6 * p .edges ≤ length (now strip)) × (i < p .edges) × (k < 6) ⌝ }
-    ensures { λ r. ⌜ r ≡ wordOf edgeWords (polygonOf (now (strip .entry)) p .edges) i k ⌝ }
+// Whether the three words from `at` on are.
+fn finite_vec(strip: &[u32], at: usize) -> bool
+    requires { ⌜ at + 3 ≤ length (now strip) ⌝ }
+    ensures { λ r. ⌜ r ≡ finiteVec (vecAt (now (strip .entry)) at) ⌝ }
 {
-    let edge_at = p.edge_at;
-    strip[edge_at + 6 * i + k]
+    if !is_finite(strip[at]) {
+        return false;
+    }
+    if !is_finite(strip[at + 1]) {
+        return false;
+    }
+    is_finite(strip[at + 2])
+}
+
+// Whether min, max and size of the cell's box are finite. A caller has the cell's record from `check_strip`.
+pub fn finite_box(strip: &[u32]) -> bool
+    requires { ⌜ 14 ≤ length (now strip) ⌝ }
+    ensures { λ r. ⌜ r ≡ finiteBox (headAt (now (strip .entry)) 0) ⌝ }
+{
+    if !finite_vec(strip, 5) {
+        return false;
+    }
+    if !finite_vec(strip, 8) {
+        return false;
+    }
+    finite_vec(strip, 11)
 }
 
 // Whether `n` words from `at` on are below `limit`.

@@ -12,12 +12,8 @@ use Rattle.areas.specs.Areas.{ensured}
 use Rattle.areas.specs.declared.Areas.{Areas}
 use Rattle.areas.specs.declared.Ensured.{Ensured}
 use Rattle.areas.specs.declared.AreaAnswer.the-variants.{At, Full}
-use Rattle.vectors.specs.Agreement.{isFull, taking, Tallied}
+use Rattle.vectors.specs.Agreement.{isFull, taking}
 use Rattle.vectors.specs.declared.Taken.{Taken}
-use Rattle.vectors.specs.declared.Tally.{Tally}
-
-pub never : {A : Type 0} → false ≡ true → A
-never e = absurd (let z : _≡_ {A = ℕ} 0 1 = cc in omega arith)
 
 -- one word more of a list that is filled from the front by f
 pub filled : (ws : List ℕ) (f : ℕ → ℕ) (i v : ℕ) → i < length ws → ((j : ℕ) → j < i → getD ws j 0 ≡ f j) → v ≡ f i → (j : ℕ) → j < i + 1 → getD (set ws i v) j 0 ≡ f j
@@ -46,7 +42,3 @@ module _ (input : List ℕ) (i : ℕ) (t : Areas) where
   pub no-more : (r : Taken) → length input ≤ i → taking t (i - 1) (drop i input) ≡ r → record { areas = t; count = i - 1 } ≡ r
   unfolding taking
   no-more r h all = rw (drop-of-length-le input h) at all
-
--- a tally holds further on
-pub later : (n a b : ℕ) (t : Tally) → Tallied n a t → a ≤ b → Tallied n b t
-later n a b t g h = record { few = omega (arith, g .few); part = g .part; shown = g .shown; all = g .all }

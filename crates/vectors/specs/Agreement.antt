@@ -18,7 +18,6 @@ use Rattle.strip.specs.Check.{stripOutcome}
 use Rattle.leaves.specs.Entries.{numberOf, answerOf}
 use Rattle.vectors.specs.declared.Taken.{Taken}
 use Rattle.vectors.specs.declared.Record.{Record}
-use Rattle.vectors.specs.declared.Tally.{Tally}
 
 -- word k as a float
 abbrev pub floatAt : List ℕ → ℕ → Float
@@ -83,10 +82,3 @@ pub record Stands (at : ℕ) (r : Record) (n : ℕ) : Type 0 where
   pub ends : r .input ≤ r .output
   pub behind : r .output ≤ r .next
   pub within : r .next ≤ n
-
--- a tally of the records before a place of n words: where no difference is shown, all of them agree
-pub record Tallied (n at : ℕ) (t : Tally) : Type 0 where
-  pub few : t .seen ≤ at
-  pub part : t .agreed ≤ t .seen
-  pub shown : t .first ≤ n
-  pub all : t .first ≡ n → t .agreed ≡ t .seen

@@ -3,13 +3,19 @@
 // record has the tag 0, as what lies behind the list has.
 ghost use mathlib.Core.Path.{_≡_};
 ghost use mathlib.Core.Bool.{true};
-ghost use Prim.Native.Nat.{ℕ, _+_, _*_, _≤_, _<_, min};
+ghost use Prim.Native.Nat.{ℕ, _+_, _*_, _≤_, _<_};
 ghost use lib.ListN.{length, getD, drop};
 ghost use Rattle.fields.specs.Bytes.{le, zeros};
 ghost use Rattle.areas.specs.Areas.{seeded, stored};
-ghost use Rattle.vectors.specs.Agreement.{shortOf, backOf, floorOf, ceilOf, placeIn, stripNumber, stripWords, taking, AreasAgree, FirstThree, Agrees, Stands, Tallied};
+ghost use Rattle.replay.specs.Tallies.{Tallied};
+ghost use Rattle.vectors.specs.Agreement.{shortOf, backOf, floorOf, ceilOf, placeIn, stripNumber, stripWords, taking, AreasAgree, FirstThree, Agrees, Stands};
 use areas::AreaAnswer;
 use areas::Areas;
+use replay::Tally;
+use replay::counted;
+use replay::print;
+use replay::print_first;
+use replay::print_tally;
 
 // Word i, and 0 past the end.
 fn word(words: &[u32], i: usize) -> u32
@@ -164,15 +170,6 @@ fn agrees(tag: u32, input: &[u32], output: &[u32]) -> bool
     }
 }
 
-fn fewer(a: usize, b: usize) -> usize
-    ensures { λ r. ⌜ r ≡ min a b ⌝ }
-{
-    if a < b {
-        return a;
-    }
-    b
-}
-
 // Where a record's words in begin, its words out, and the next record. Words that the list lacks are left out.
 struct Record {
     input: usize,
@@ -185,8 +182,8 @@ fn record_at(words: &[u32], at: usize) -> Record
     ensures { λ r. ⌜ Stands at r (length (now (words .entry))) ⌝ }
 {
     let input = at + 3;
-    let output = input + fewer(words[at + 1] as usize, words.len() - input);
-    let next = output + fewer(words[at + 2] as usize, words.len() - output);
+    let output = input + fields::least(words[at + 1] as usize, words.len() - input);
+    let next = output + fields::least(words[at + 2] as usize, words.len() - output);
     Record {
         input,
         output,
@@ -194,33 +191,7 @@ fn record_at(words: &[u32], at: usize) -> Record
     }
 }
 
-// How many records there are, how many of them agree, and where the first stands that doesn't, or the end of the words.
-struct Tally {
-    seen: usize,
-    agreed: usize,
-    first: usize,
-}
-
-// A tally of n words with the record at a place.
-fn counted(t: Tally, n: usize, at: usize, agreed: bool) -> Tally
-    requires { ⌜ Tallied n at t × (at < n) ⌝ }
-    ensures { λ r. ⌜ Tallied n (at + 1) r ⌝ }
-{
-    if agreed {
-        return Tally {
-            seen: t.seen + 1,
-            agreed: t.agreed + 1,
-            first: t.first,
-        };
-    }
-    Tally {
-        seen: t.seen + 1,
-        agreed: t.agreed,
-        first: fewer(t.first, at),
-    }
-}
-
-// The same, where the record's tag is from low to high.
+// The tally with the record at a place, where the record's tag is from low to high.
 fn with_record(words: &[u32], at: usize, r: Record, t: Tally, low: u32, high: u32) -> Tally
     requires { ⌜ Stands at r (length (now words)) × Tallied (length (now words)) at t ⌝ }
     ensures { λ s. ⌜ Tallied (length (now (words .entry))) (at + 1) s ⌝ }
@@ -257,20 +228,13 @@ fn tally_of(words: &[u32], low: u32, high: u32) -> Tally
     t
 }
 
-fn print(text: &[u8]) {
-    io::write_all(1, text);
-}
-
 // Prints how many of the records with such a tag agree. The answer is where the first stands that doesn't.
 fn report(name: &[u8], words: &[u32], low: u32, high: u32) -> usize
     ensures { λ r. ⌜ r ≤ length (now (words .entry)) ⌝ }
 {
     let t = tally_of(words, low, high);
     print(name);
-    io::print_decimal(1, t.agreed as u64);
-    print(b" of ");
-    io::print_decimal(1, t.seen as u64);
-    print(b"\n");
+    print_tally(t);
     t.first
 }
 
@@ -286,7 +250,7 @@ fn load(bytes: &[u8], words: &mut [u32])
 }
 
 // A line for each kind and one for all, where a record of another tag counts as one that differs.
-fn replay(words: &[u32]) {
+fn report_all(words: &[u32]) {
     report(b"short ", words, 1, 1);
     report(b"back ", words, 2, 2);
     report(b"quarter ", words, 3, 3);
@@ -294,11 +258,7 @@ fn replay(words: &[u32]) {
     report(b"place ", words, 5, 5);
     report(b"strip ", words, 6, 6);
     let first = report(b"all ", words, 1, 4294967295);
-    if first < words.len() {
-        print(b"first difference at word ");
-        io::print_decimal(1, first as u64);
-        print(b"\n");
-    }
+    print_first(first, words.len(), b"word");
 }
 
 // The list has at most 100,000 bytes; zeros lie behind it.
@@ -307,5 +267,5 @@ fn main() {
     io::read_full(0, &mut bytes);
     let mut words = [0u32; 32768];
     load(&bytes, &mut words);
-    replay(&words);
+    report_all(&words);
 }

@@ -1,5 +1,6 @@
 pub mod Triples
 pub mod Buckets
+pub mod Behind
 pub mod Chain
 pub mod Adding
 pub mod Lookup

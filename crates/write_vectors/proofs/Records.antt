@@ -3,7 +3,6 @@ use Prim.Native.Nat.{ℕ, _+_, _*_, _%_, _≤_, min}
 use native.Mathlib.Omega.{arith}
 use native.Mathlib.Numerals.{add-one}
 use mathlib.Core.Path.{_≡_, ap, sym, _∙_}
-use mathlib.Core.Bool.{true, false}
 use mathlib.Core.List.{List, _++_}
 use lib.ListN.{length, take, drop, getD, length-take}
 use borrow.Author.Tests.{eq-eqb, ne-eqb}
@@ -12,12 +11,8 @@ use Rattle.strip.specs.Outcome.{Paper, refusal, values, shown, left}
 use Rattle.ynv_write.specs.Serialize.{serializeOutcome}
 use Rattle.ynv_write.specs.declared.Written.{Written}
 use Rattle.write_vectors.specs.Runs.{Unrolled}
-use Rattle.write_vectors.specs.Agreement.{told, toldLength, sumUpTo, checksum, lent, lentWork, between, outcomeOf, pagesOf, SameBytes, Untouched, PagesAgree, Agrees, untouchedBytes, Tallied}
+use Rattle.write_vectors.specs.Agreement.{told, toldLength, sumUpTo, checksum, lent, lentWork, between, outcomeOf, pagesOf, SameBytes, Untouched, PagesAgree, Agrees, untouchedBytes}
 use Rattle.write_vectors.specs.declared.Record.{Record}
-use Rattle.write_vectors.specs.declared.Tally.{Tally}
-
-pub never : {A : Type 0} → false ≡ true → A
-never e = absurd (let z : _≡_ {A = ℕ} 0 1 = cc in omega arith)
 
 module _ (b : List ℕ) (at : ℕ) where
   pub told-written : (w : Written) → le 4 b (at + 12) ≡ 0 → w .length ≡ le 4 b (at + 16) → values w ≡ told b at
@@ -35,10 +30,6 @@ module _ (b : List ℕ) (at : ℕ) where
   pub told-none : (le 4 b (at + 12) ≡ 0 → ⊥) → 0 ≡ toldLength b at
   unfolding toldLength
   told-none h = rw (ne-eqb (le 4 b (at + 12)) 0 h)
-
--- a tally holds further on
-pub later : (n a b : ℕ) (t : Tally) → Tallied n a t → a ≤ b → Tallied n b t
-later n a b t g h = record { few = omega (arith, g .few); part = g .part; shown = g .shown; all = g .all }
 
 -- the checksum of one byte more, and of all of them
 module _ (xs : List ℕ) (k s : ℕ) where

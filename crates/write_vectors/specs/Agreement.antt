@@ -1,5 +1,5 @@
 -- What a record of the list says, what writing its strip comes to, and when the two agree. Definitions only.
-use Prim.Native.Nat.{ℕ, zero, suc, _+_, _-_, _*_, _/_, _%_, _≤_, _<_, min}
+use Prim.Native.Nat.{ℕ, zero, suc, _+_, _-_, _*_, _%_, _≤_, _<_, min}
 use mathlib.Core.Path.{_≡_}
 use mathlib.Core.Bool.{cond}
 use mathlib.Core.List.{List, _++_}
@@ -9,9 +9,9 @@ use Rattle.fields.specs.Bytes.{le}
 use Rattle.strip.specs.Outcome.{Outcome, Paper, refusal, values, shown, left}
 use Rattle.ynv_write.specs.Serialize.{serializeOutcome}
 use Rattle.ynv_write.specs.declared.Written.{Written}
-use Rattle.write_vectors.specs.Runs.{endOf, Unrolled}
+use Rattle.replay.specs.Ends.{endOf, padded}
+use Rattle.write_vectors.specs.Runs.{Unrolled}
 use Rattle.write_vectors.specs.declared.Record.{Record}
-use Rattle.write_vectors.specs.declared.Tally.{Tally}
 
 -- the answer that the record at a place tells: the number 0 is an accepted strip
 unfoldable pub told : List ℕ → ℕ → Paper Written
@@ -32,10 +32,6 @@ checksum xs = sumUpTo xs (length xs)
 -- the pages before the call
 unfoldable pub untouchedBytes : List ℕ
 untouchedBytes = replicate 1400000 0xD1
-
--- bytes padded to whole words
-unfoldable pub padded : ℕ → ℕ
-padded count = (count + 3) / 4 * 4
 
 -- how many words of work, and how many of n bytes, the record lends
 abbrev pub lentWork : List ℕ → ℕ → ℕ
@@ -93,10 +89,3 @@ pub record Stands (at : ℕ) (r : Record) (n : ℕ) : Type 0 where
   pub inside : r .«bytes_end» ≤ n
   pub behind : r .bytes ≤ r .next
   pub within : r .next ≤ n
-
--- a tally of the records before a place of n bytes: where no difference is shown, all of them agree
-pub record Tallied (n at : ℕ) (t : Tally) : Type 0 where
-  pub few : t .seen ≤ at
-  pub part : t .agreed ≤ t .seen
-  pub shown : t .first ≤ n
-  pub all : t .first ≡ n → t .agreed ≡ t .seen

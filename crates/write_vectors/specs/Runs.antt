@@ -5,6 +5,7 @@ use mathlib.Core.Bool.{cond}
 use mathlib.Core.List.{List, [], _∷_, _++_}
 use lib.Dec.{eqb, ltb}
 use lib.ListN.{length, take, drop}
+use Rattle.replay.specs.Ends.{endOf}
 use Rattle.fields.specs.Bytes.{le}
 use Rattle.write_vectors.specs.declared.Run.{Run}
 
@@ -23,10 +24,6 @@ runWord ws grows k = cond (eqb (which ws k) grows) ((le 4 ws (4 * which ws k) + 
 unfoldable pub runWords : List ℕ → (grows n : ℕ) → List ℕ
 runWords ws grows zero = []
 runWords ws grows (suc n) = runWords ws grows n ++ (runWord ws grows n ∷ [])
-
--- where so many bytes from a place on end, of n in all
-unfoldable pub endOf : (n from count : ℕ) → ℕ
-endOf n from count = from + min count (n - from)
 
 -- where the given words of the run at a place end, and the bytes of them
 abbrev pub runEnd : List ℕ → ℕ → ℕ

@@ -6,41 +6,26 @@
 // again and again, and the one that grows is greater by 256 each time.
 ghost use mathlib.Core.Path.{_≡_};
 ghost use mathlib.Core.Bool.{true};
-ghost use Prim.Native.Nat.{_+_, _-_, _^_, _≤_, _<_, min};
+ghost use Prim.Native.Nat.{_+_, _-_, _^_, _≤_, _<_};
 ghost use lib.ListN.{length, take};
 ghost use Rattle.fields.specs.Bytes.{put};
 ghost use Rattle.strip.specs.Outcome.{values, refusalOf, shown};
 ghost use Rattle.ynv_write.specs.Serialize.{paper};
-ghost use Rattle.write_vectors.specs.Runs.{endOf, runWord, runWords, runOf, RunAt, Unrolled};
-ghost use Rattle.write_vectors.specs.Agreement.{told, toldLength, checksum, untouchedBytes, padded, outcomeOf, pagesOf, SameBytes, Untouched, PagesAgree, Agrees, Placed, Stands, Tallied};
+ghost use Rattle.replay.specs.Tallies.{Tallied};
+ghost use Rattle.write_vectors.specs.Runs.{runWord, runWords, runOf, RunAt, Unrolled};
+ghost use Rattle.write_vectors.specs.Agreement.{told, toldLength, checksum, untouchedBytes, outcomeOf, pagesOf, SameBytes, Untouched, PagesAgree, Agrees, Placed, Stands};
 use fields::u32_le;
+use replay::Tally;
+use replay::counted;
+use replay::end_of;
+use replay::padded;
+use replay::print;
+use replay::print_first;
+use replay::print_number;
+use replay::print_tally;
 use strip::Refusal;
 use ynv_write::SerializeAnswer;
 use ynv_write::Written;
-
-fn fewer(a: usize, b: usize) -> usize
-    ensures { λ r. ⌜ r ≡ min a b ⌝ }
-{
-    if a < b {
-        return a;
-    }
-    b
-}
-
-// Where `count` bytes from `from` on end, of n in all. What the list lacks is left out.
-fn end_of(n: usize, from: usize, count: usize) -> usize
-    requires { ⌜ from ≤ n ⌝ }
-    ensures { λ r. ⌜ (r ≡ endOf n from count) × (from ≤ r) × (r ≤ n) ⌝ }
-{
-    from + fewer(count, n - from)
-}
-
-// Whole words that hold so many bytes, in bytes.
-fn padded(count: u32) -> usize
-    ensures { λ r. ⌜ r ≡ padded count ⌝ }
-{
-    ((count as usize) + 3) / 4 * 4
-}
 
 // Where the runs of a record begin, the bytes told begin and end, and the next record begins.
 struct Record {
@@ -115,7 +100,7 @@ fn run_at(runs: &[u8], at: usize, room: usize) -> Run
     Run {
         words,
         end,
-        count: fewer(u32_le(runs, at) as usize, room),
+        count: fields::least(u32_le(runs, at) as usize, room),
     }
 }
 
@@ -180,8 +165,8 @@ fn write_record(list: &[u8], at: usize, strip: &[u32], pages: &mut [u8]) -> Seri
     ensures { λ _. ⌜ now (pages .exit) ≡ pagesOf (now (list .entry)) at (now (strip .entry)) (now (pages .entry)) ⌝ }
 {
     let mut work = work_room();
-    let words = fewer(u32_le(list, at + 4) as usize, 856000);
-    let room = fewer(u32_le(list, at + 8) as usize, pages.len());
+    let words = fields::least(u32_le(list, at + 4) as usize, 856000);
+    let room = fields::least(u32_le(list, at + 8) as usize, pages.len());
     ynv_write::serialize_ynv(strip, &mut work[..words], &mut pages[..room])
 }
 
@@ -283,7 +268,7 @@ fn pages_agree<'a>(list: &'a [u8], at: usize, r: Record, pages: &'a [u8]) -> boo
 {
     let bytes = r.bytes;
     let bytes_end = r.bytes_end;
-    let filled = fewer(told_length(list, at), pages.len());
+    let filled = fields::least(told_length(list, at), pages.len());
     if checksum(&pages[..filled]) != u32_le(list, at + 20) as u64 {
         return false;
     }
@@ -310,32 +295,7 @@ fn agrees(list: &[u8], at: usize, r: Record) -> bool
     false
 }
 
-// How many records there are, how many of them agree, and where the first stands that doesn't, or the end of the bytes.
-struct Tally {
-    seen: usize,
-    agreed: usize,
-    first: usize,
-}
-
-fn counted(t: Tally, n: usize, at: usize, agreed: bool) -> Tally
-    requires { ⌜ Tallied n at t × (at < n) ⌝ }
-    ensures { λ r. ⌜ Tallied n (at + 1) r ⌝ }
-{
-    if agreed {
-        return Tally {
-            seen: t.seen + 1,
-            agreed: t.agreed + 1,
-            first: t.first,
-        };
-    }
-    Tally {
-        seen: t.seen + 1,
-        agreed: t.agreed,
-        first: fewer(t.first, at),
-    }
-}
-
-// The same, where the record's number is from low to high.
+// The tally with the record at a place, where the record's number is from low to high.
 fn with_record(list: &[u8], at: usize, r: Record, t: Tally, low: u32, high: u32) -> Tally
     requires { ⌜ (at + 32 ≤ length (now list)) × Stands at r (length (now list)) × Tallied (length (now list)) at t ⌝ }
     ensures { λ s. ⌜ Tallied (length (now (list .entry))) (at + 1) s ⌝ }
@@ -371,26 +331,17 @@ fn tally_of(list: &[u8], low: u32, high: u32) -> Tally
     t
 }
 
-fn print(text: &[u8]) {
-    io::write_all(1, text);
-}
-
 // Prints how many of the records with such a number agree. The answer is where the first stands that doesn't.
 fn report(list: &[u8], low: u32, high: u32) -> usize
     ensures { λ r. ⌜ r ≤ length (now (list .entry)) ⌝ }
 {
     let t = tally_of(list, low, high);
-    io::print_decimal(1, t.agreed as u64);
-    print(b" of ");
-    io::print_decimal(1, t.seen as u64);
-    print(b"\n");
+    print_tally(t);
     t.first
 }
 
 fn report_number(list: &[u8], n: u32) {
-    print(b"number ");
-    io::print_decimal(1, n as u64);
-    print(b": ");
+    print_number(n);
     report(list, n, n);
 }
 
@@ -402,16 +353,12 @@ fn report_numbers(list: &[u8], low: u32, high: u32) {
     }
 }
 
-fn replay(list: &[u8]) {
+fn report_all(list: &[u8]) {
     report_numbers(list, 0, 4);
     report_numbers(list, 10, 21);
     print(b"all ");
     let first = report(list, 0, 4294967295);
-    if first < list.len() {
-        print(b"first difference at byte ");
-        io::print_decimal(1, first as u64);
-        print(b"\n");
-    }
+    print_first(first, list.len(), b"byte");
 }
 
 // Room for a list of 250,000 bytes. What it says of the zeros is their number, which lending them as a slice needs.
@@ -424,5 +371,5 @@ fn room() -> [u8; 250000]
 fn main() {
     let mut list = room();
     io::read_full(0, &mut list);
-    replay(&list);
+    report_all(&list);
 }

@@ -6,13 +6,14 @@ use mathlib.Core.List.{List, [], _∷_}
 use lib.Dec.{ltb}
 use Rattle.fields.specs.Bytes.{le}
 use Rattle.strip.specs.Cell.{Cell}
+use Rattle.strip.specs.Box.{finiteBox}
 use Rattle.lists.specs.declared.ListAnswer.the-variants.{Items}
 use Rattle.lists.specs.Lists.{whole, listed}
 use Rattle.sector_tree.specs.Walk.{walk}
 use Rattle.sector_tree.specs.Walk as Walk
 use Rattle.polygons.specs.declared.Tally.the-variants.{Words}
 use Rattle.polygons.specs.Polygons.{limitsOf, tallyFrom}
-use Rattle.ynv_read.specs.Reading.{made, check, onList, onTally, onWalk, finiteBox, header, rootAt, head, source, polygons, portalCount, cellOf, onHead, onLists, afterWalk, readCell}
+use Rattle.ynv_read.specs.Reading.{made, check, onList, onTally, onWalk, header, rootAt, head, source, polygons, portalCount, cellOf, onHead, onLists, afterWalk, readCell}
 use Rattle.ynv_read.proofs.Checks.{check-in, list-in, tally-in, walk-in}
 
 -- the list of items of w bytes whose address stands in the header at off was accepted

@@ -1,18 +1,15 @@
 -- What each check of a reading says when it is passed, and when it passes. Assumes nothing.
-use Prim.Native.Nat.{ℕ, zero, suc, _*_, _%_, _^_, _<_}
+use Prim.Native.Nat.{ℕ, zero, suc, _*_, _<_}
 use native.Mathlib.Nat.{mul-zero, mul-suc}
 use native.Mathlib.Omega.{arith}
 use mathlib.Core.Path.{_≡_, refl, ap}
-use mathlib.Core.Bool.{Bool, true, false, _&&_, and-eq-true-iff}
+use mathlib.Core.Bool.{Bool, true, false}
 use mathlib.Core.List.{List}
-use lib.Dec.{ltb}
 use lib.ListN.{length}
-use borrow.Author.Tests.{ltb-true, lt-ltb}
 use Rattle.fields.specs.Bytes.{cut}
 use Rattle.resource.specs.Section.{resolved}
-use Rattle.strip.specs.Cell.{Vec3, Head, Cell}
+use Rattle.strip.specs.Cell.{Cell}
 use Rattle.grammar.specs.Parts.{Good, Array, none, some}
-use Rattle.grammar.specs.Derives.{AllFinite}
 use Rattle.lists.specs.declared.ListAnswer.{ListAnswer}
 use Rattle.lists.specs.declared.ListAnswer.the-variants.{Items, Refused}
 use Rattle.lists.specs.Lists.{whole}
@@ -22,7 +19,7 @@ use Rattle.polygons.specs.declared.Tally.the-variants.{Words}
 use Rattle.polygons.specs.declared.Tally.the-variants.{Refused as Stopped}
 use Rattle.sector_tree.specs.Walk.{Walked}
 use Rattle.sector_tree.specs.Walk as Walk
-use Rattle.ynv_read.specs.Reading.{Reading, made, refused, check, onList, onWalk, finiteVec, finiteBox, onTally}
+use Rattle.ynv_read.specs.Reading.{Reading, made, refused, check, onList, onWalk, onTally}
 
 refused-made : {number place k : ℕ} {c : Cell} → refused number place ≡ made c k → ⊥
 refused-made e = let z : _≡_ {A = ℕ} 0 1 = cc in omega arith
@@ -39,31 +36,6 @@ pub walk-in : (w : Walked) (rest : List (List ℕ) → ℕ → Reading) {c : Cel
     → (left : ℕ) × (points : List (List ℕ)) × (w ≡ Walk.done left points) × (onWalk (Walk.done left points) rest ≡ made c k)
 walk-in (Walk.done left points) rest e = (left, points, refl, e)
 walk-in (Walk.refused number) rest e = absurd (refused-made e)
-
--- ---- the box
-
-module _ (v : Vec3) where
-  finite-in : finiteVec v ≡ true → AllFinite v
-  finite-in e =
-      let (f, g) = and-eq-true-iff (ltb (v .x % 2 ^ 31) 0x7F80_0000) (ltb (v .y % 2 ^ 31) 0x7F80_0000 && ltb (v .z % 2 ^ 31) 0x7F80_0000) .0 e in
-      let (h, i) = and-eq-true-iff (ltb (v .y % 2 ^ 31) 0x7F80_0000) (ltb (v .z % 2 ^ 31) 0x7F80_0000) .0 g in
-      record { x = ltb-true (v .x % 2 ^ 31) 0x7F80_0000 f; y = ltb-true (v .y % 2 ^ 31) 0x7F80_0000 h; z = ltb-true (v .z % 2 ^ 31) 0x7F80_0000 i }
-
-  finite-out : AllFinite v → finiteVec v ≡ true
-  finite-out f =
-      rw (lt-ltb (v .x % 2 ^ 31) 0x7F80_0000 (f .x), lt-ltb (v .y % 2 ^ 31) 0x7F80_0000 (f .y), lt-ltb (v .z % 2 ^ 31) 0x7F80_0000 (f .z))
-
-module _ (h : Head) where
-  pub box-in : finiteBox h ≡ true → AllFinite (h .bb-min) × AllFinite (h .bb-max) × AllFinite (h .bb-size)
-  unfolding finiteBox
-  box-in e =
-      let (f, g) = and-eq-true-iff (finiteVec (h .bb-min)) (finiteVec (h .bb-max) && finiteVec (h .bb-size)) .0 e in
-      let (i, j) = and-eq-true-iff (finiteVec (h .bb-max)) (finiteVec (h .bb-size)) .0 g in
-      (finite-in (h .bb-min) f, finite-in (h .bb-max) i, finite-in (h .bb-size) j)
-
-  pub box-out : AllFinite (h .bb-min) → AllFinite (h .bb-max) → AllFinite (h .bb-size) → finiteBox h ≡ true
-  unfolding finiteBox
-  box-out a b c = rw (finite-out (h .bb-min) a, finite-out (h .bb-max) b, finite-out (h .bb-size) c)
 
 -- ---- good parts
 

@@ -8,10 +8,9 @@ use lib.ListN.{length}
 use Rattle.fields.specs.Bytes.{le}
 use Rattle.resource.specs.Section.{resolved}
 use Rattle.strip.specs.declared.Refusal.{Refusal}
-use Rattle.fields.proofs.Cuts.{cut-length}
 use Rattle.lists.specs.declared.ListAnswer.{ListAnswer}
 use Rattle.lists.specs.declared.ListAnswer.the-variants.{Items, Refused}
-use Rattle.lists.specs.Lists.{total, tableOf, listBytes, listed, Readable}
+use Rattle.lists.specs.Lists.{total, tableOf, listed, Readable}
 use Rattle.polygon_words.proofs.Words.{links-are, length-links}
 use Rattle.polygons.specs.declared.Limits.{Limits}
 use Rattle.polygons.specs.declared.ListsAnswer.{ListsAnswer}
@@ -25,6 +24,7 @@ use Rattle.polygons.specs.Passes.{itemsIn, Small}
 use Rattle.polygons.specs.Listed.{listsOf, ListsRead, Counts}
 use Rattle.polygons.specs.Listed as Listed
 use Rattle.polygons.proofs.Exact.{tally-made}
+use Rattle.polygons.proofs.Runs.{length-items}
 use Rattle.lists.proofs.Lists.{whole-of, not-whole}
 use Rattle.strip.specs.Cell.{encode}
 use Rattle.ynv_read.specs.declared.Addresses.{Addresses}
@@ -83,10 +83,6 @@ module _ (links : ℕ) where
   taken (Items v) (Items i) (Refused q) d rest e = absurd (never (sym e))
   taken (Items v) (Items i) (Items j) (Refused q) rest e = absurd (never (sym e))
   taken (Items v) (Items i) (Items j) (Items p) rest e = refl
-
-pub length-items : (S G : List ℕ) (w : ℕ) (t : List ℕ) → length (itemsIn S G w t) ≡ total t
-unfolding itemsIn
-length-items S G w t = cut-length w (total t) (listBytes S G w t)
 
 module _ (S G : List ℕ) where
   -- what the list at one of the header's addresses answers

@@ -8,6 +8,7 @@ use lib.ListN.{length}
 use borrow.Author.Tests.{lt-ltb}
 use Rattle.fields.specs.Bytes.{le, cut}
 use Rattle.strip.specs.Cell.{Cell}
+use Rattle.strip.specs.Box.{finiteBox}
 use Rattle.grammar.specs.Parts.{Good, Array}
 use Rattle.grammar.specs.Trees.{Tree}
 use Rattle.grammar.specs.Lists as grammar
@@ -27,9 +28,9 @@ use Rattle.sector_tree.proofs.Exact.{walk-sound, walk-complete}
 use Rattle.polygons.specs.Polygons as Polygons
 use Rattle.polygons.specs.Passes.{itemsIn}
 use Rattle.polygons.proofs.Exact.{tally-made, made-tally}
-use Rattle.ynv_read.specs.Reading.{made, finiteBox, header, rootAt, root, head, itemsAt, source, polygons, portalCount, portals, cellOf, onHead, onLists, afterWalk, readCell}
+use Rattle.ynv_read.specs.Reading.{made, header, rootAt, root, head, itemsAt, source, polygons, portalCount, portals, cellOf, onHead, onLists, afterWalk, readCell}
 use Rattle.ynv_read.proofs.Accepted.{accepted}
-use Rattle.ynv_read.proofs.Checks.{box-in, box-out, good-in, good-out, array-in, array-out}
+use Rattle.ynv_read.proofs.Checks.{good-in, good-out, array-in, array-out}
 
 module _ (S G : List ℕ) where
   -- ---- parts by the header
@@ -83,7 +84,6 @@ module _ (S G : List ℕ) where
       let s = source S G in
       let (n, t, sum) = walk-sound S G 4096 (rootAt S G ∷ []) (f .left) (f .points) (f .walked) in
       let visited : n ≡ k = omega (arith, sum, f .sectors) in
-      let (fa, fb, fc) = box-in (head S G) (f .box) in
       let it : Makes S G k (cellOf S G (f .points)) = record {
         header = hh;
         root = root S G;
@@ -96,9 +96,7 @@ module _ (S G : List ℕ) where
         header-good = header-in (f .header-whole);
         root-good = root-in (f .root-whole);
         head-is = head-is;
-        min-finite = fa;
-        max-finite = fb;
-        size-finite = fc;
+        finite-box = f .box;
         tree = subst (λ (m : ℕ). Tree S G (rootAt S G) m (f .points)) visited t;
         few-sectors = omega (arith, f .sectors);
         vertex-list = items-in 6 (le 8 hh 0x70) 1 (omega arith) (f .vertex-list .1);
@@ -127,7 +125,7 @@ module _ (S G : List ℕ) where
       let e : hh ≡ m .header = m .header-good .there in
       let good : Good S G (rootAt S G) 96 (m .root) = rw (← e) at (m .root-good) in
       let same : head S G ≡ c .head = ap (λ (x : List ℕ). headOf x (root S G)) e ∙ ap (headOf (m .header)) (good .there) ∙ sym (m .head-is) in
-      let fin : finiteBox (head S G) ≡ true = ap finiteBox same ∙ box-out (c .head) (m .min-finite) (m .max-finite) (m .size-finite) in
+      let fin : finiteBox (head S G) ≡ true = ap finiteBox same ∙ m .finite-box in
       let tree : Tree S G (rootAt S G) k (m .points) = rw (← e) at (m .tree) in
       let all : k + (4096 - k) ≡ 4096 = omega (arith, m .few-sectors) in
       let walked : walk S G 4096 (rootAt S G ∷ []) ≡ Walk.done (4096 - k) (m .points) = rw all at (walk-complete S G tree (4096 - k)) in

@@ -33,7 +33,7 @@ use Rattle.ynv_read.specs.Reading.{Reading, made, refused, header, rootA
 use Rattle.ynv_read.specs.Parse.{paper, countsOf, parseOutcome}
 use Rattle.ynv_read.specs.Passes.{answerOf, addresses, frame, linkBytes, polysWords, portalsWords, ListsReady, ReadyFor, PolysFit, Fillable}
 use Rattle.ynv_read.proofs.Accepted.{accepted}
-use Rattle.ynv_read.proofs.Decides.{length-items}
+use Rattle.polygons.proofs.Runs.{length-items}
 use Rattle.ynv_read.proofs.Heads.{back-is}
 use Rattle.ynv_read.proofs.Lengths.{head-length, polys-count, portals-length, points-length, encode-is, encode-length}
 

@@ -1,16 +1,17 @@
 -- What the checks before the walk come to, in their order; and what shorts are turned back by. Assumes nothing.
 use Prim.Native.Nat.{ℕ, _≤_, _<_}
 use native.Mathlib.Nat.{pos-of-ne-zero}
-use mathlib.Core.Path.{_≡_, sym, ap, _∙_}
-use mathlib.Core.Bool.{Bool, true, false, not}
+use mathlib.Core.Path.{_≡_, ap}
+use mathlib.Core.Bool.{true, false}
 use mathlib.Core.List.{List}
 use lib.Dec.{ltb}
 use lib.ListN.{length}
 use borrow.Author.Tests.{lt-ltb}
+use Rattle.strip.specs.Box.{finiteBox}
 use Rattle.grammar.specs.Derives.{vecOf, headOf, axis, backOf}
 use Rattle.lists.proofs.Lists.{whole-of, not-whole}
 use Rattle.records.specs.Back.{backBy, floatsAt}
-use Rattle.ynv_read.specs.Reading.{Reading, refused, finiteBox, header, rootAt, root, head, onHead}
+use Rattle.ynv_read.specs.Reading.{Reading, refused, header, rootAt, root, head, onHead}
 use Rattle.ynv_read.specs.Passes.{frame}
 use Rattle.ynv_read.specs.declared.Frame.{Frame}
 
@@ -45,18 +46,3 @@ module _ (S G : List ℕ) (rest : Reading) where
 pub back-is : (S G : List ℕ) {f : Frame} → f ≡ frame (header S G) (root S G) → backBy (f .«bb_min») (f .«bb_size») ≡ backOf (head S G)
 unfolding frame head backBy floatsAt backOf axis headOf vecOf
 back-is S G e = ap (λ (g : Frame). backBy (g .«bb_min») (g .«bb_size»)) e
-
--- a test by what it answered
-pub failed : {x a : Bool} → x ≡ a → not x ≡ true → a ≡ false
-failed {x} p e = by x p e
-  where
-    by : (t : Bool) {a : Bool} → t ≡ a → not t ≡ true → a ≡ false
-    by false q f = sym q
-    by true q f = sym q ∙ sym f
-
-pub passed : {x a : Bool} → x ≡ a → not x ≡ false → a ≡ true
-passed {x} p e = by x p e
-  where
-    by : (t : Bool) {a : Bool} → t ≡ a → not t ≡ false → a ≡ true
-    by true q f = sym q
-    by false q f = sym q ∙ sym f

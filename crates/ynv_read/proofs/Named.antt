@@ -9,6 +9,7 @@ use lib.Dec.{ltb}
 use lib.ListN.{length}
 use Rattle.fields.specs.Bytes.{le}
 use Rattle.resource.specs.Section.{good}
+use Rattle.strip.specs.Box.{finiteBox}
 use Rattle.grammar.specs.Trees.{subsTo}
 use Rattle.lists.specs.declared.ListAnswer.{ListAnswer}
 use Rattle.lists.specs.declared.ListAnswer.the-variants.{Items, Refused}
@@ -23,7 +24,7 @@ use Rattle.polygons.specs.declared.Tally.the-variants.{Words}
 use Rattle.polygons.specs.declared.Tally.the-variants.{Refused as Stopped}
 use Rattle.polygons.specs.Polygons.{limitsOf, tallyFrom}
 use Rattle.polygons.proofs.Exact.{tally-refused}
-use Rattle.ynv_read.specs.Reading.{Reading, made, refused, check, onList, onTally, onWalk, finiteBox, header, rootAt, head, source, polygons, portalCount, cellOf, onHead, onLists, afterWalk, readCell}
+use Rattle.ynv_read.specs.Reading.{Reading, made, refused, check, onList, onTally, onWalk, header, rootAt, head, source, polygons, portalCount, cellOf, onHead, onLists, afterWalk, readCell}
 
 -- for pages with so many polygons
 pub data Named (polys : ℕ) : ℕ → ℕ → Type 0 where

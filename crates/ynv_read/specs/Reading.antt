@@ -1,11 +1,12 @@
 -- Reading as one decision: the scope document's checks in their order, each with its number and place, and then the cell. Definitions only.
-use Prim.Native.Nat.{ℕ, _-_, _*_, _%_, _^_}
-use mathlib.Core.Bool.{Bool, cond, _&&_}
+use Prim.Native.Nat.{ℕ, _-_, _*_}
+use mathlib.Core.Bool.{Bool, cond}
 use mathlib.Core.List.{List, [], _∷_, map}
 use lib.Dec.{ltb}
 use Rattle.fields.specs.Bytes.{le, cut}
 use Rattle.resource.specs.Section.{resolved}
-use Rattle.strip.specs.Cell.{Vec3, Head, Cell}
+use Rattle.strip.specs.Cell.{Head, Cell}
+use Rattle.strip.specs.Box.{finiteBox}
 use Rattle.grammar.specs.Polygons.{linksAt}
 use Rattle.grammar.specs.Derives.{areaOf, backOf, headOf, portalOf, pointOf}
 use Rattle.lists.specs.declared.ListAnswer.{ListAnswer}
@@ -42,16 +43,6 @@ onTally (Stopped r) rest = refused (r .number) (r .place)
 abbrev pub onWalk : Walked → (List (List ℕ) → ℕ → Reading) → Reading
 onWalk (Walk.done left points) rest = rest points (4096 - left)
 onWalk (Walk.refused number) rest = refused number 0
-
-abbrev pub finite : ℕ → Bool
-finite bits = ltb (bits % 2 ^ 31) 0x7F80_0000
-
-abbrev pub finiteVec : Vec3 → Bool
-finiteVec v = finite (v .x) && (finite (v .y) && finite (v .z))
-
--- min, max and bb_size
-unfoldable pub finiteBox : Head → Bool
-finiteBox h = finiteVec (h .bb-min) && (finiteVec (h .bb-max) && finiteVec (h .bb-size))
 
 -- what the pages hold, by the header's addresses and counts
 module _ (system graphics : List ℕ) where

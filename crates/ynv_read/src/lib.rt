@@ -1,20 +1,18 @@
 // The reader of a cell's pages. It decides first: every check in the scope document's order, and how many words the cell makes. Then it fills
 // the lent strip, where nothing can fail.
 ghost use mathlib.Core.Path.{_≡_};
-ghost use mathlib.Core.Bool.{true};
 ghost use mathlib.Core.List.{List, [], _∷_};
 ghost use Prim.Native.Nat.{ℕ, _+_, _*_, _/_, _^_, _≤_, _<_};
 ghost use lib.ListN.{length};
-ghost use Rattle.fields.specs.Bytes.{le, put};
-ghost use Rattle.resource.specs.Section.{resolved};
+ghost use Rattle.fields.specs.Bytes.{put};
 ghost use Rattle.strip.specs.Cell.{Cell, headWords, encode};
+ghost use Rattle.strip.specs.Box.{finiteVec, finiteBox};
 ghost use Rattle.strip.specs.Outcome.{shown, left};
 ghost use Rattle.grammar.specs.Derives.{vecOf, headOf};
-ghost use Rattle.lists.specs.Lists.{whole};
 ghost use Rattle.sector_tree.specs.Walk.{walk};
 ghost use Rattle.sector_tree.specs.Write.{pointsIn, pointsWords, Fits};
 ghost use Rattle.grammar.specs.Derives.{backOf};
-ghost use Rattle.ynv_read.specs.Reading.{Reading, made, finite, finiteVec, finiteBox, header, rootAt, root, head, polygons, portalCount, portals, onHead, afterWalk, readCell};
+ghost use Rattle.ynv_read.specs.Reading.{Reading, made, header, rootAt, root, head, polygons, portalCount, portals, onHead, afterWalk, readCell};
 ghost use Rattle.ynv_read.specs.Parse.{paper, parseOutcome};
 ghost use Rattle.ynv_read.specs.Passes.{answerOf, after, addresses, frame, linkBytes, polysWords, portalsWords, ListsReady, ReadyFor, ListsChecked, PolysFit, Fillable};
 use fields::u32_le;
@@ -36,6 +34,7 @@ use sector_tree::TreeAnswer;
 use sector_tree::put_tree_points;
 use sector_tree::read_sector_tree;
 use strip::Refusal;
+use strip::is_finite;
 
 // How much an accepted cell has: words of the strip, polygons, portals, points, and the sectors visited.
 pub struct Parsed {
@@ -144,13 +143,6 @@ fn frame_of<'a>(system: &'a [u8], graphics: &'a [u8]) -> Frame
 }
 
 // Deciding.
-
-// Neither an infinity nor a NaN, by its bits.
-fn is_finite(bits: u32) -> bool
-    ensures { λ r. ⌜ r ≡ finite bits ⌝ }
-{
-    bits % 0x8000_0000 < 0x7F80_0000
-}
 
 // Whether the three floats of b from off on are finite.
 fn finite_vec(b: &[u8], off: usize) -> bool

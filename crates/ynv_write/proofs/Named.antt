@@ -2,18 +2,19 @@
 use Prim.Native.Nat.{ℕ, zero, suc, _+_, _/_, _^_, _<_}
 use native.Mathlib.Omega.{arith}
 use mathlib.Core.Path.{_≡_}
-use mathlib.Core.Bool.{Bool, true, false, _||_}
+use mathlib.Core.Bool.{Bool, true, false, not, _||_}
 use mathlib.Core.List.{List, [], _∷_}
 use lib.ListN.{length}
 use lib.Dec.{ltb}
 use Rattle.math.specs.declared.vec3.Vec3.{Vec3 as Floats}
 use Rattle.strip.specs.Cell.{Polygon, Cell, All}
+use Rattle.strip.specs.Box.{finiteBox}
 use Rattle.distinct.specs.Distinct.{withNew, distinctFrom}
 use Rattle.areas.specs.Areas.{seeded}
 use Rattle.pages.specs.Items.{Corner, cornersIn, triples, named}
 use Rattle.pages.specs.Sectors.{treeOf, leafCounts, depthOf, rootBox}
 use Rattle.pages.specs.Pages.{loOf, extentOf, links, sectors, pages}
-use Rattle.pages.specs.Checks.{Verdict, fine, refused, when, first, at, endlessBox, cornerFault, cornersFault, polygonFault, polygonsVerdict, leafFault, leavesVerdict, cellVerdict}
+use Rattle.pages.specs.Checks.{Verdict, fine, refused, when, first, at, cornerFault, cornersFault, polygonFault, polygonsVerdict, leafFault, leavesVerdict, cellVerdict}
 use Rattle.quadtree.proofs.Tellings.{leaves-length}
 
 -- The place of 12 to 16 is a polygon's number, and that of 17 and 18 a leaf's, of which there are 16, or 1 where content bit 2 is set.
@@ -141,7 +142,7 @@ module _ (c : Cell) where
   cell-named words work out =
       at-named 0 _ _
       (first-named (At 0) _
-      (when-named (ltb (work / 4) words) 0 short-work, (when-named (endlessBox (c .head)) 9 endless-box, (when-named (ltb 16383 (length (c .polys))) 10 many-polygons, tt))))
+      (when-named (ltb (work / 4) words) 0 short-work, (when-named (not (finiteBox (c .head))) 9 endless-box, (when-named (ltb 16383 (length (c .polys))) 10 many-polygons, tt))))
       (polygons-named (loOf c) (extentOf c) [] (seeded (c .head .area)) 0 0 (c .polys) _ (omega arith)
       (leaves-named 0 (leafCounts (sectors c)) _ (omega (arith, leaf-count))
       (at-named 0 _ _

@@ -21,6 +21,7 @@ use blocks::Layout;
 use decide::Decision;
 use front::Addresses;
 use front::Totals;
+use math::vec3::floats_at;
 use sectors::Points;
 use sectors::Spot;
 use strip::Counts;
@@ -121,8 +122,8 @@ fn fill_sectors<'a>(
     let mid = at + 3 * n.polys;
     let end = mid + n.points;
     let b = plan::root_box(strip);
-    let lo = decide::floats_at(strip, 5);
-    let size = decide::floats_at(strip, 11);
+    let lo = floats_at(strip, 5);
+    let size = floats_at(strip, 11);
     let points = Points {
         at: strip.len() - 1 - 4 * n.points,
         lo,
@@ -159,8 +160,8 @@ fn fill_rest<'a>(
     ensures { λ r. ⌜ RestFilled (cellAt (now (strip .entry)) (d .counts)) l (now (pages .entry)) (now (pages .exit)) r ⌝ }
 {
     let counts = d.counts;
-    let lo = decide::floats_at(strip, 5);
-    let size = decide::floats_at(strip, 11);
+    let lo = floats_at(strip, 5);
+    let size = floats_at(strip, 11);
     let spot = fill_sectors(pages, strip, counts, work, l);
     let sectors = spot.layout;
     let first = strip.len() - 1 - 4 * counts.points - 11 * counts.portals;
@@ -195,7 +196,7 @@ fn addresses(d: Decision, lists: ListEnds, rest: RestEnds) -> Addresses
 fn area_count(areas: Areas) -> u32
     ensures { λ r. ⌜ r ≡ length (idsOf areas) ⌝ }
 {
-    blocks::least(areas.len, 32) as u32
+    fields::least(areas.len, 32) as u32
 }
 
 // How many there are of each; `bytes` are those of the sectors.

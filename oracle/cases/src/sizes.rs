@@ -2,7 +2,7 @@
 
 use rage::ynv::{NavEdge, NavPoint, NavPoly, NavPortal, Ynv};
 
-use crate::cells::{edge_end, empty_grid, vec3};
+use crate::cells::{edge_end, empty_grid, empty_vehicle, vec3};
 use crate::pages::{part, Pages, LISTS};
 use crate::Rng;
 
@@ -152,4 +152,42 @@ pub fn with_points(count: usize, position: impl Fn(usize) -> (f32, f32)) -> Ynv 
         NavPoint { position: vec3(x, y, 1.0), angle: n as u8, kind: 1 }
     };
     Ynv { points: (0..count).map(point).collect(), ..empty_grid() }
+}
+
+/// A vehicle cell of 65,536 vertices that all lie on one chain of the writer's table: its hash is a
+/// fixed product, so that whoever knows it can choose them.
+pub fn one_chain() -> Ynv {
+    const FACTOR: u32 = 1_640_531_527;
+    let inverse = (0..5).fold(1u32, |i, _| i.wrapping_mul(2u32.wrapping_sub(FACTOR.wrapping_mul(i))));
+    let vertex = |n: u32| {
+        let low = n.wrapping_mul(inverse);
+        vec3((low % 65536) as f32, (low / 65536) as f32, 0.0)
+    };
+    let corners: Vec<u32> = (0..65536).collect();
+    let poly = |run: &[u32]| NavPoly {
+        vertices: run.iter().map(|&n| vertex(n)).collect(),
+        edges: Vec::new(),
+        flags0: 0,
+        flags1: 0,
+        flags2: 0,
+        portal_links: Vec::new(),
+    };
+    let size = vec3(65535.0, 65535.0, 65535.0);
+    let polys = corners.chunks(2047).map(poly).collect();
+    Ynv { polys, bb_min: vec3(0.0, 0.0, 0.0), bb_max: size, bb_size: size, ..empty_vehicle() }
+}
+
+/// Pages in which `polys` polygons have the same run of 2,047 corners and are named `times` over:
+/// a few kilobytes that claim millions of corners.
+pub fn shared_run(polys: usize, times: usize, most: u32) -> Pages {
+    let mut pages = Pages::written(&empty_vehicle());
+    let zeros = pages.block(&[0; 8 * 2047]);
+    let mut record = vec![0u8; 48];
+    record[2..4].copy_from_slice(&(2047u16 << 5).to_le_bytes());
+    let records = pages.block(&record.repeat(polys));
+    with_parts(&mut pages, 1, |_, _| vec![(zeros, 1)]);
+    with_parts(&mut pages, 2, |_, _| (0..2047u32.div_ceil(most)).map(|k| (zeros, most.min(2047 - k * most))).collect());
+    with_parts(&mut pages, 3, |_, _| vec![(zeros, 2047)]);
+    with_parts(&mut pages, 4, |_, _| vec![(records, polys as u32); times]);
+    pages
 }

@@ -6,25 +6,13 @@ use std::collections::BTreeMap;
 
 use cases::{cells, damage, pages, Rng};
 use rage::ynv::Ynv;
-use strips::{counts, derive, encode, judge_write, laid_out, reread, rust_read, rust_write, scan};
-use strips::{Refusal, RustRead, RustWrite};
+use strips::{counts, derive, encode, judge_write, laid_out, refuses_reading, refuses_writing, reread};
+use strips::{rust_read, rust_write, scan, RustRead, RustWrite};
 
 const CASES: u64 = 30_000;
 
 fn tally(name: &str, seen: &BTreeMap<u32, u32>) {
     println!("{name}: number of cases by refusal (0: accepted, 1000: not run) {seen:?}");
-}
-
-/// The start of the Rust's message for a refusal of the writer.
-fn write_message(r: Refusal) -> String {
-    match r.number {
-        12 => format!("polygon {} has ", r.place),
-        13 => "more than 65535 polygon vertices".into(),
-        14 => "more than 65536 distinct vertices".into(),
-        15 => "more than 32 distinct adjacent areas".into(),
-        16 => format!("polygon {} has more than 7 portal links", r.place),
-        number => panic!("{number} is none of the Rust's errors"),
-    }
 }
 
 #[test]
@@ -40,9 +28,7 @@ fn writing() {
                 assert!(bytes == laid_out(&cell), "case {n}: document 01's pages are not the Rust's");
                 read_back(&cell, &bytes);
             }
-            (Err(Refusal { number: 10, .. }), _) => {}
-            (Err(Refusal { number: 17..=20, .. }), RustWrite::Panic(_)) => {}
-            (Err(r), RustWrite::Error(text)) if text.starts_with(&write_message(r)) => {}
+            (Err(r), done) if refuses_writing(r, &cell, &done) => {}
             (judged, done) => panic!("case {n}: judged {judged:?}, the Rust {done:?}"),
         }
     }
@@ -59,27 +45,6 @@ fn read_back(cell: &Ynv, bytes: &[u8]) {
     assert_eq!(derive(&[bytes, &[0; 100]].concat(), &[0; 8]).unwrap(), derived);
 }
 
-/// Parts of the Rust's message for a refusal of the reader.
-fn read_messages(r: Refusal) -> Vec<String> {
-    let list = ["", "vertices", "indices", "edges", "polys"];
-    let exact: &[&str] = match r.number {
-        30 => &["NavMesh header"],
-        31 => &["navmesh has no sector tree"],
-        32 => &["sector root", "sector"],
-        33 => &["sector tree too large or cyclic"],
-        34 => &["sector data", "sector points"],
-        39 => &["portals"],
-        _ => &[],
-    };
-    match r.number {
-        35 => ["header", "parts", "part items"].map(|what| format!("{}: list {what}", list[r.place])).into(),
-        36 => vec![format!("{}: list holds ", list[r.place])],
-        37 => vec![format!("polygon {} indexes past", r.place)],
-        38 => vec![format!("polygon {}: vertex", r.place)],
-        _ => exact.iter().map(|text| text.to_string()).collect(),
-    }
-}
-
 #[test]
 fn reading() {
     let mut rng = Rng::new(2);
@@ -90,12 +55,8 @@ fn reading() {
         *seen.entry(derived.as_ref().err().map_or(0, |r| r.number)).or_insert(0) += 1;
         match (derived, rust_read(&p.system, &p.graphics)) {
             (Ok(derived), RustRead::Cell(cell)) => assert_eq!(encode(&derived.cell), encode(&cell), "case {n}"),
-            (Err(Refusal { number: 40, .. }), _) => {}
-            (Err(Refusal { number: 30..=39, .. }), RustRead::NotRun) => *seen.entry(1000).or_insert(0) += 1,
-            (Err(r), RustRead::Error(text)) => {
-                let end = [37, 38, 36].contains(&r.number);
-                let same = |m: &String| if end { text.starts_with(m) } else { text == *m };
-                assert!(read_messages(r).iter().any(same), "case {n}: judged {r:?}, the Rust says {text}");
+            (Err(r), done) if refuses_reading(r, &done) => {
+                *seen.entry(1000).or_insert(0) += (done == RustRead::NotRun) as u32;
             }
             (derived, done) => panic!("case {n}: judged {derived:?}, the Rust {done:?}"),
         }

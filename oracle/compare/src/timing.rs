@@ -26,6 +26,13 @@ fn now() -> Duration {
     Duration::new(time[0] as u64, time[1] as u32)
 }
 
+/// The processor seconds of one call.
+pub fn seconds(call: impl FnOnce()) -> f64 {
+    let start = now();
+    call();
+    (now() - start).as_secs_f64()
+}
+
 /// Microseconds per call: median and least.
 pub struct Times {
     pub median: f64,

@@ -5,6 +5,7 @@
 mod guard;
 mod layout;
 mod leaf;
+mod messages;
 mod read;
 mod reread;
 mod seams;
@@ -14,6 +15,7 @@ mod write;
 pub use guard::{caught, claimed_bytes, rust_read, rust_write, RustRead, RustWrite, CLAIM_LIMIT};
 pub use layout::laid_out;
 pub use leaf::{areas, back, place, quarter_ceil, quarter_floor, short, AreaTable, PAGE_SIZE};
+pub use messages::{refuses_reading, refuses_writing};
 pub use read::{derive, derived_words, expected_read, Derived, ReadAnswer};
 pub use reread::reread;
 pub use seams::seams;

@@ -6,6 +6,7 @@ use rage::ynv::{NavEdge, NavEdgeEnd, NavPoint, NavPoly, NavPortal, Ynv};
 
 use crate::guard::{rust_read, RustRead};
 use crate::leaf::back;
+use crate::messages::refuses_reading;
 use crate::strip::encode;
 use crate::Refusal;
 
@@ -249,11 +250,15 @@ pub fn derived_words(cell: &Ynv) -> usize {
     15 + polygons.sum::<usize>() + 11 * cell.portals.len() + 4 * cell.points.len()
 }
 
-/// The reader's answer on two sections and a strip of `strip_len` words.
+/// The reader's answer on two sections and a strip of `strip_len` words. Where it refuses, the Rust must agree.
 pub fn expected_read(system: &[u8], graphics: &[u8], strip_len: usize) -> ReadAnswer {
     let derived = match derive(system, graphics) {
         Ok(derived) => derived,
-        Err(refusal) => return ReadAnswer::Refused(refusal),
+        Err(refusal) => {
+            let done = rust_read(system, graphics);
+            assert!(refuses_reading(refusal, &done), "document 01 refuses with {refusal:?}, the Rust {done:?}");
+            return ReadAnswer::Refused(refusal);
+        }
     };
     if strip_len < derived_words(&derived.cell) {
         return ReadAnswer::Refused(Refusal::new(2, 0));

@@ -7,6 +7,7 @@ use rage::ynv::{NavEdge, NavPoly, Ynv};
 
 use crate::guard::{rust_write, RustWrite};
 use crate::leaf::{axis_bounds, quarter_box, short, AreaTable};
+use crate::messages::refuses_writing;
 use crate::strip::scan;
 use crate::Refusal;
 
@@ -120,7 +121,11 @@ pub fn expected_write(strip: &[u32], work_len: usize, room: usize) -> WriteAnswe
         if work_len / 4 < strip.len() {
             return Err(Refusal::new(1, 0));
         }
-        judge_write(&cell)?;
+        if let Err(refusal) = judge_write(&cell) {
+            let done = rust_write(&cell);
+            assert!(refuses_writing(refusal, &cell, &done), "document 01 refuses with {refusal:?}, the Rust doesn't");
+            return Err(refusal);
+        }
         match rust_write(&cell) {
             RustWrite::Bytes(bytes) if bytes.len() > room => Err(Refusal::new(2, 0)),
             RustWrite::Bytes(bytes) => Ok(bytes),

@@ -2,7 +2,8 @@
 use mathlib.Core.Path.{refl}
 use native.Mathlib.Omega.{arith}
 use Rattle.strip.specs.Reading.{headAt}
-use Rattle.decide.proofs.Fronts.{seeds-long, seeds-are, ready, polygons-done}
+use Rattle.areas.proofs.Seeds.{seeds-long, seeds-are}
+use Rattle.decide.proofs.Fronts.{ready, polygons-done}
 use borrow.Author.Needs.{needs}
 use Rattle.decide.proofs.decide_well.Statement.{statement}
 use Rattle.decide.proofs.decide_well.Tie as tie

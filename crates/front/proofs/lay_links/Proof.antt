@@ -9,7 +9,7 @@ use Rattle.fields.specs.Bytes.{les}
 use Rattle.fields.proofs.Bytes.{length-les}
 use Rattle.strip.specs.Reading.{polygonsAt}
 use Rattle.pages.specs.Items.{linksOf}
-use Rattle.front.proofs.Optional.{some-below, laid-nothing, laid-some}
+use Rattle.pages.proofs.Optional.{some-below, laid-nothing, laid-some}
 use Rattle.front.proofs.lay_links.Statement.{statement}
 use Rattle.front.proofs.lay_links.Tie as tie
 

@@ -7,7 +7,7 @@ use lib.ListN.{length}
 use Rattle.fields.specs.Bytes.{cat}
 use Rattle.strip.specs.Reading.{portalsAt}
 use Rattle.pages.specs.Pages.{portalItems}
-use Rattle.front.proofs.Optional.{some-below, laid-nothing, laid-some}
+use Rattle.pages.proofs.Optional.{some-below, laid-nothing, laid-some}
 use Rattle.front.proofs.Turns.{portals-long}
 use borrow.Author.Needs.{needs}
 use Rattle.front.proofs.lay_portals.Statement.{statement}

@@ -47,27 +47,27 @@ floats-at-requires c κs = search needs
 floats-at-requires-2 : tie.Need-floats-at-requires-2 Inv-loop μ-loop
 floats-at-requires-2 c κs = search needs
 
-fewer-requires : tie.Need-fewer-requires Inv-loop μ-loop
-fewer-requires c κs = search needs
+least-requires : tie.Need-least-requires Inv-loop μ-loop
+least-requires c κs = search needs
 
 loop-holds : tie.Need-loop-holds Inv-loop μ-loop
 unfolding shortsTo
 loop-holds c = (omega arith, refl, sym (put-nil 0 _))
 
 mul-floats-at : tie.Need-mul-floats-at Inv-loop μ-loop
-mul-floats-at c = let h = both _ _ _ (c .before .before .fewer .ensures) in omega arith
+mul-floats-at c = let h = both _ _ _ (c .before .before .least .ensures) in omega arith
 
 floats-at-requires-3 : tie.Need-floats-at-requires-3 Inv-loop μ-loop
-floats-at-requires-3 c κs = let h = both _ _ _ (c .before .before .fewer .ensures) in omega arith
+floats-at-requires-3 c κs = let h = both _ _ _ (c .before .before .least .ensures) in omega arith
 
 quantise-requires : tie.Need-quantise-requires Inv-loop μ-loop
 quantise-requires c κs = search needs
 
 mul-store : tie.Need-mul-store Inv-loop μ-loop
-mul-store c = let h = both _ _ _ (c .before .before .before .before .before .fewer .ensures) in omega arith
+mul-store c = let h = both _ _ _ (c .before .before .before .before .before .least .ensures) in omega arith
 
 store-requires : tie.Need-store-requires Inv-loop μ-loop
-store-requires c κs = let h = both _ _ _ (c .before .before .before .before .before .fewer .ensures) in omega arith
+store-requires c κs = let h = both _ _ _ (c .before .before .before .before .before .least .ensures) in omega arith
 
 add-i : tie.Need-add-i Inv-loop μ-loop
 add-i c = omega arith
@@ -90,8 +90,8 @@ same-length c = omega arith
 returns : tie.Need-returns Inv-loop μ-loop
 unfolding put
 returns c = let l = c .before .loop in
-    let e : l .i ≡ c .before .before .fewer .result = omega arith in
-    (c .before .before .fewer .ensures, cc)
+    let e : l .i ≡ c .before .before .least .result = omega arith in
+    (c .before .before .least .ensures, cc)
 
 pub leaf-quantise-all-spec : {M : Type 1} → statement M
 leaf-quantise-all-spec =
@@ -101,7 +101,7 @@ leaf-quantise-all-spec =
     μ-loop
     floats-at-requires
     floats-at-requires-2
-    fewer-requires
+    least-requires
     loop-holds
     mul-floats-at
     floats-at-requires-3

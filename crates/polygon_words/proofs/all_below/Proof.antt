@@ -18,17 +18,11 @@ abbrev μ-loop : tie.MeasureT-loop
 loop-holds : tie.Need-loop-holds Inv-loop μ-loop
 loop-holds c = (search needs, below-begin _ _ _)
 
-mul-u16-le : tie.Need-mul-u16-le Inv-loop μ-loop
-mul-u16-le c = search needs
-
-u16-le-requires : tie.Need-u16-le-requires Inv-loop μ-loop
-u16-le-requires c κs = search needs
-
-cast-if1 : tie.Need-cast-if1 Inv-loop μ-loop
-cast-if1 c = search needs
+index-at-requires : tie.Need-index-at-requires Inv-loop μ-loop
+index-at-requires c κs = search needs
 
 returns : tie.Need-returns Inv-loop μ-loop
-returns c = below-not _ _ _ _ (c .before .before .loop-test .taken) (c .before .u16-le .ensures) (c .if1 .taken) ∙ c .before .before .before .loop .inv .1
+returns c = below-not _ _ _ _ (c .before .before .loop-test .taken) (c .before .index-at .ensures) (c .if1 .taken) ∙ c .before .before .before .loop .inv .1
 
 add-k : tie.Need-add-k Inv-loop μ-loop
 add-k c = search needs
@@ -37,7 +31,7 @@ loop-less : tie.Need-loop-less Inv-loop μ-loop
 loop-less c = search needs
 
 loop-again : tie.Need-loop-again Inv-loop μ-loop
-loop-again c = (search needs, below-more _ _ _ _ (c .before .before .loop-test .taken) (c .before .u16-le .ensures) (c .if1 .left) ∙ c .before .before .before .loop .inv .1)
+loop-again c = (search needs, below-more _ _ _ _ (c .before .before .loop-test .taken) (c .before .index-at .ensures) (c .if1 .left) ∙ c .before .before .before .loop .inv .1)
 
 returns-2 : tie.Need-returns-2 Inv-loop μ-loop
 returns-2 c = below-end _ _ _ _ (c .loop-test .left) ∙ c .before .loop .inv .1
@@ -49,9 +43,7 @@ all-below-spec =
     Inv-loop
     μ-loop
     loop-holds
-    mul-u16-le
-    u16-le-requires
-    cast-if1
+    index-at-requires
     returns
     add-k
     loop-less

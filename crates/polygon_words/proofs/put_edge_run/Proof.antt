@@ -1,15 +1,15 @@
 -- `polygon_words::put_edge_run` meets its contract. The loop's invariant: storing what is left from here gives what is promised.
-use Prim.Native.Nat.{_+_, _-_, _*_, _≤_}
+use native.Mathlib.Omega.{arith}
+use Prim.Native.Nat.{ℕ, _+_, _-_, _*_, _≤_}
 use mathlib.Core.Path.{_≡_, refl, sym, ap, _∙_}
 use mathlib.Core.List.{map}
-use lib.ListN.{length, drop}
+use lib.ListN.{length, take, drop}
 use borrow.Author.Needs.{needs}
 use Rattle.fields.specs.Bytes.{put, cut}
 use Rattle.fields.proofs.Puts.{length-put}
 use Rattle.strip.specs.Cell.{each, edgeWords}
 use Rattle.grammar.specs.Polygons.{edgeOf}
 use Rattle.grammar.specs.Derives.{areaOf}
-use Rattle.lists.specs.Lists.{item}
 use Rattle.records.proofs.Items.{put-begin, put-item, put-end}
 use Rattle.polygon_words.proofs.Words.{edge-six}
 use Rattle.polygon_words.proofs.put_edge_run.Statement.{statement}
@@ -24,24 +24,16 @@ abbrev μ-loop : tie.MeasureT-loop
 loop-holds : tie.Need-loop-holds Inv-loop μ-loop
 loop-holds c = (search needs, refl, put-begin edgeWords 6 edge-six _ _ _ _ _ _)
 
-mul-put-edge : tie.Need-mul-put-edge Inv-loop μ-loop
-mul-put-edge c = search needs
-
-add-put-edge : tie.Need-add-put-edge Inv-loop μ-loop
-add-put-edge c = search needs
-
 put-edge-requires : tie.Need-put-edge-requires Inv-loop μ-loop
-put-edge-requires c κs = search needs
-
-add-k : tie.Need-add-k Inv-loop μ-loop
-add-k c = search needs
-
-loop-less : tie.Need-loop-less Inv-loop μ-loop
-loop-less c = search needs
+put-edge-requires c κs = omega (arith, c .before .before .before .loop .inv .1)
 
 loop-again : tie.Need-loop-again Inv-loop μ-loop
-unfolding item
-loop-again c = (search needs, ap length (c .before .before .put-edge .ensures) ∙ rw (length-put, c .before .before .before .before .before .loop .inv .1), rw (c .before .before .put-edge .ensures) (put-item edgeWords 6 edge-six _ _ _ _ _ (c .before .before .before .before .before .loop .k) _ (c .before .before .before .before .loop-test .taken)) ∙ c .before .before .before .before .before .loop .inv .2)
+loop-again c =
+    let start = c .before .before .before .before .before .before .before .before .before .before .args in
+    let turn = c .before .before .before .before .before .before .loop in
+    let e : 8 * turn .k + 8 - 8 * turn .k ≡ 8 = omega arith in
+    let stored = c .before .before .put-edge .ensures ∙ ap (λ (w : ℕ). put (start .at + 6 * turn .k) (edgeWords (edgeOf (areaOf (start .header .now)) (take w (drop (8 * turn .k) (start .run .now))))) (turn .out)) e in
+    (search needs, ap length stored ∙ length-put _ _ _ ∙ turn .inv .1, rw stored (put-item edgeWords 6 edge-six _ 8 (start .n) (start .run .now) (start .at) (turn .k) (turn .out) (search needs)) ∙ turn .inv .2)
 
 same-length : tie.Need-same-length Inv-loop μ-loop
 same-length c = c .before .loop .inv .1
@@ -56,11 +48,16 @@ put-edge-run-spec =
     Inv-loop
     μ-loop
     loop-holds
-    mul-put-edge
-    add-put-edge
+    (λ c. search needs)
+    (λ c. search needs)
+    (λ c. search needs)
+    (λ c. search needs)
+    (λ c. search needs)
+    (λ c. search needs)
+    (λ c. search needs)
     put-edge-requires
-    add-k
-    loop-less
+    (λ c. search needs)
+    (λ c. search needs)
     loop-again
     same-length
     returns)

@@ -4,11 +4,13 @@ use native.Mathlib.Omega.{arith}
 use mathlib.Core.Path.{_≡_, _∙_}
 use lib.ListN.{drop}
 use borrow.Author.Needs.{needs}
+use Rattle.fields.proofs.Cuts.{cut-length}
 use Rattle.lists.specs.Cursors.{Stands}
 use Rattle.polygons.specs.Passes.{itemsIn}
 use Rattle.polygons.specs.declared.Tally.the-variants.{Words}
 use Rattle.polygons.specs.Polygons.{then, tallyFrom}
-use Rattle.polygons.proofs.Tallies.{tally-more, tally-stop, tally-end, then-none, next-item, no-item, stepped-bad, stepped-good}
+use Rattle.polygons.proofs.Runs.{length-items, part-next, none-left}
+use Rattle.polygons.proofs.Tallies.{runs-more, runs-stop, tally-end, then-none, stepped-bad, stepped-good}
 use Rattle.polygons.proofs.check_polygons.Statement.{statement}
 use Rattle.polygons.proofs.check_polygons.Tie as tie
 
@@ -18,70 +20,63 @@ Inv-loop system graphics polys n limits table words₀ p₀ c₀ i₀ words p c 
 abbrev μ-loop : tie.MeasureT-loop
 μ-loop system graphics polys n limits table words₀ p₀ c₀ i₀ words p c i = n - i
 
-list-start-requires : tie.Need-list-start-requires Inv-loop μ-loop
-list-start-requires c κs = search needs
-
-list-start-requires-2 : tie.Need-list-start-requires-2 Inv-loop μ-loop
-list-start-requires-2 c κs = search needs
-
 loop-holds : tie.Need-loop-holds Inv-loop μ-loop
 loop-holds c =
-    let start = c .before .before .before .before .before .before in
-    (search needs, c .before .list-start .ensures, c .list-start2 .ensures, search needs, then-none (tallyFrom (start .args .limits) (itemsIn (start .args .system .now) (start .args .graphics .now) 2 (start .args .table .now)) 0 (itemsIn (start .args .system .now) (start .args .graphics .now) 48 (start .args .polys .now))))
+    let start = c .before .before .before .before .before .before .args in
+    (search needs, c .before .list-start .ensures, c .list-start2 .ensures, search needs, then-none (tallyFrom (start .limits) (itemsIn (start .system .now) (start .graphics .now) 2 (start .table .now)) 0 (itemsIn (start .system .now) (start .graphics .now) 48 (start .polys .now))))
 
-seek-requires : tie.Need-seek-requires Inv-loop μ-loop
-seek-requires c κs =
-    let start = c .before .before .before .before .before .before .before .before in
-    (c .before .loop .inv .1, omega (arith, start .pre .3, c .loop-test .taken), start .pre .1 .few)
+walk-to-requires : tie.Need-walk-to-requires Inv-loop μ-loop
+walk-to-requires c κs = (c .before .loop .inv .1, omega (arith, c .before .before .before .before .before .before .before .before .pre .3, c .loop-test .taken), c .before .before .before .before .before .before .before .before .pre .1 .few)
 
-list-item-requires : tie.Need-list-item-requires Inv-loop μ-loop
-list-item-requires c κs = (c .before .before .before .before .before .before .before .before .before .pre .1, c .seek .ensures)
+list-run-requires : tie.Need-list-run-requires Inv-loop μ-loop
+list-run-requires c κs = (c .before .before .before .before .before .before .before .before .before .pre .1, c .walk-to .ensures, omega arith)
 
-check-polygon-requires : tie.Need-check-polygon-requires Inv-loop μ-loop
-check-polygon-requires c κs =
-    let start = c .before .before .before .before .before .before .before .before .before .before in
-    (start .pre .0, c .before .before .before .loop .inv .2, start .pre .2)
-
-enum-known-r : tie.Need-enum-known-r Inv-loop μ-loop
-enum-known-r c = search needs
+check-run-requires : tie.Need-check-run-requires Inv-loop μ-loop
+check-run-requires c κs =
+    let start = c .before .before .before .before .before .before .before .before .before .before .args in
+    let part = part-next (start .system .now) (start .graphics .now) 48 (start .polys .now) (omega arith) (c .before .before .before .before .before .before .before .before .before .before .pre .1) (c .before .walk-to .ensures) (c .list-run .ensures) in
+    (c .before .before .before .before .before .before .before .before .before .before .pre .0, c .before .before .before .loop .inv .2, c .before .before .before .before .before .before .before .before .before .before .pre .2, part .whole, omega (arith, part .fits, length-items (start .system .now) (start .graphics .now) 48 (start .polys .now), c .before .before .before .before .before .before .before .before .before .before .pre .1 .few))
 
 returns : tie.Need-returns Inv-loop μ-loop
 returns c =
-    let start = c .before .before .before .before .before .before .before .before .before .before .before .before .before .before in
+    let start = c .before .before .before .before .before .before .before .before .before .before .before .before .before .before .args in
     let turn = c .before .before .before .before .before .before .before .loop in
-    let list-item = c .before .before .before .before .list-item in
-    (tally-stop (start .args .limits) (itemsIn (start .args .system .now) (start .args .graphics .now) 2 (start .args .table .now)) (turn .i) (turn .words) (list-item .result .now) (drop (turn .i + 1) (itemsIn (start .args .system .now) (start .args .graphics .now) 48 (start .args .polys .now))) (next-item (start .args .system .now) (start .args .graphics .now) (start .args .polys .now) (turn .i) (omega (arith, start .pre .3, c .before .before .before .before .before .before .loop-test .taken)) (list-item .ensures)) (stepped-bad _ _ (c .before .before .before .check-polygon .ensures) (c .before .r .given .1)) ∙ turn .inv .4, tt)
-
-enum-known-w : tie.Need-enum-known-w Inv-loop μ-loop
-enum-known-w c = search needs
+    let part = part-next (start .system .now) (start .graphics .now) 48 (start .polys .now) (omega arith) (c .before .before .before .before .before .before .before .before .before .before .before .before .before .before .pre .1) (c .before .before .before .before .before .walk-to .ensures) (c .before .before .before .before .list-run .ensures) in
+    (runs-stop (start .limits) (itemsIn (start .system .now) (start .graphics .now) 2 (start .table .now)) (turn .i) (turn .words) _ _ (part .step) (stepped-bad _ _ _ (c .before .before .before .check-run .ensures) (c .before .r .given .1)) ∙ turn .inv .4, tt)
 
 add-words : tie.Need-add-words Inv-loop μ-loop
 add-words c =
-    let start = c .before .before .before .before .before .before .before .before .before .before .before .before .before .before in
+    let start = c .before .before .before .before .before .before .before .before .before .before .before .before .before .before .args in
     let turn = c .before .before .before .before .before .before .before .loop in
-    let h = stepped-good _ _ (c .before .before .before .check-polygon .ensures) (c .before .w .given .1) in omega (arith, h .2, turn .inv .3, turn .inv .0, c .before .before .before .before .before .before .loop-test .taken, start .pre .1 .few, start .pre .3)
+    let part = part-next (start .system .now) (start .graphics .now) 48 (start .polys .now) (omega arith) (c .before .before .before .before .before .before .before .before .before .before .before .before .before .before .pre .1) (c .before .before .before .before .before .walk-to .ensures) (c .before .before .before .before .list-run .ensures) in
+    let h = stepped-good _ _ _ (c .before .before .before .check-run .ensures) (c .before .w .given .1) in
+    omega (arith, h .2, turn .inv .3, part .fits, length-items (start .system .now) (start .graphics .now) 48 (start .polys .now), c .before .before .before .before .before .before .before .before .before .before .before .before .before .before .pre .1 .few)
 
 add-i : tie.Need-add-i Inv-loop μ-loop
 add-i c =
-    let start = c .before .before .before .before .before .before .before .before .before .before .before .before .before .before in
-    omega (arith, c .before .before .before .before .before .before .loop-test .taken, start .pre .1 .few, start .pre .3)
+    let start = c .before .before .before .before .before .before .before .before .before .before .before .before .before .before .args in
+    let part = part-next (start .system .now) (start .graphics .now) 48 (start .polys .now) (omega arith) (c .before .before .before .before .before .before .before .before .before .before .before .before .before .before .pre .1) (c .before .before .before .before .before .walk-to .ensures) (c .before .before .before .before .list-run .ensures) in
+    omega (arith, part .fits, length-items (start .system .now) (start .graphics .now) 48 (start .polys .now), c .before .before .before .before .before .before .before .before .before .before .before .before .before .before .pre .1 .few)
 
 loop-less : tie.Need-loop-less Inv-loop μ-loop
-loop-less c = omega (arith, c .before .before .before .before .before .before .loop-test .taken)
+loop-less c =
+    let start = c .before .before .before .before .before .before .before .before .before .before .before .before .before .before .args in
+    let part = part-next (start .system .now) (start .graphics .now) 48 (start .polys .now) (omega arith) (c .before .before .before .before .before .before .before .before .before .before .before .before .before .before .pre .1) (c .before .before .before .before .before .walk-to .ensures) (c .before .before .before .before .list-run .ensures) in
+    omega (arith, part .some, c .before .before .before .before .before .before .loop-test .taken)
 
 loop-again : tie.Need-loop-again Inv-loop μ-loop
 loop-again c =
-    let start = c .before .before .before .before .before .before .before .before .before .before .before .before .before .before in
+    let start = c .before .before .before .before .before .before .before .before .before .before .before .before .before .before .args in
     let turn = c .before .before .before .before .before .before .before .loop in
-    let test = c .before .before .before .before .before .before .loop-test in
-    let list-item = c .before .before .before .before .list-item in
-    let h = stepped-good _ _ (c .before .before .before .check-polygon .ensures) (c .before .w .given .1) in (omega (arith, test .taken), c .before .before .before .before .before .seek .ensures .stands, h .1, omega (arith, h .2, turn .inv .3), tally-more (start .args .limits) (itemsIn (start .args .system .now) (start .args .graphics .now) 2 (start .args .table .now)) (turn .i) (turn .words) (list-item .result .now) (drop (turn .i + 1) (itemsIn (start .args .system .now) (start .args .graphics .now) 48 (start .args .polys .now))) (next-item (start .args .system .now) (start .args .graphics .now) (start .args .polys .now) (turn .i) (omega (arith, start .pre .3, test .taken)) (list-item .ensures)) (h .0) ∙ turn .inv .4)
+    let part = part-next (start .system .now) (start .graphics .now) 48 (start .polys .now) (omega arith) (c .before .before .before .before .before .before .before .before .before .before .before .before .before .before .pre .1) (c .before .before .before .before .before .walk-to .ensures) (c .before .before .before .before .list-run .ensures) in
+    let h = stepped-good _ _ _ (c .before .before .before .check-run .ensures) (c .before .w .given .1) in
+    (omega (arith, part .fits, length-items (start .system .now) (start .graphics .now) 48 (start .polys .now), c .before .before .before .before .before .before .before .before .before .before .before .before .before .before .pre .3), c .before .before .before .before .before .walk-to .ensures .stands, h .1, omega (arith, h .2, turn .inv .3), runs-more (start .limits) (itemsIn (start .system .now) (start .graphics .now) 2 (start .table .now)) (turn .i) (turn .words) _ _ (part .step) (cut-length 48 _ _) (h .0) ∙ turn .inv .4)
 
 returns-2 : tie.Need-returns-2 Inv-loop μ-loop
 returns-2 c =
-    let start = c .before .before .before .before .before .before .before .before in
+    let start = c .before .before .before .before .before .before .before .before .args in
     let turn = c .before .loop in
-    (tally-end (start .args .limits) (itemsIn (start .args .system .now) (start .args .graphics .now) 2 (start .args .table .now)) (turn .i) (turn .words) (no-item (start .args .system .now) (start .args .graphics .now) (start .args .polys .now) (turn .i) (omega (arith, start .pre .3, c .loop-test .left))) ∙ turn .inv .4, omega (arith, turn .inv .3, turn .inv .0, c .loop-test .left))
+    (tally-end (start .limits) (itemsIn (start .system .now) (start .graphics .now) 2 (start .table .now)) (turn .i) (turn .words) (none-left (start .system .now) (start .graphics .now) 48 (start .polys .now) (turn .i) (omega (arith, c .before .before .before .before .before .before .before .before .pre .3, c .loop-test .left))) ∙ turn .inv .4, omega (arith, turn .inv .3, turn .inv .0, c .loop-test .left))
 
 pub check-polygons-spec : {M : Type 1} → statement M
 check-polygons-spec =
@@ -89,15 +84,15 @@ check-polygons-spec =
     (tie.spec
     Inv-loop
     μ-loop
-    list-start-requires
-    list-start-requires-2
+    (λ c κs. search needs)
+    (λ c κs. search needs)
     loop-holds
-    seek-requires
-    list-item-requires
-    check-polygon-requires
-    enum-known-r
+    walk-to-requires
+    list-run-requires
+    check-run-requires
+    (λ c. search needs)
     returns
-    enum-known-w
+    (λ c. search needs)
     add-words
     add-i
     loop-less

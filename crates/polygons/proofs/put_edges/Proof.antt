@@ -41,13 +41,13 @@ add-list-run : tie.Need-add-list-run Inv-loop μ-loop
 add-list-run c = search needs
 
 list-run-requires : tie.Need-list-run-requires Inv-loop μ-loop
-list-run-requires c κs = (c .before .before .before .before .before .before .before .before .pre .0, c .seek .ensures)
+list-run-requires c κs = (c .before .before .before .before .before .before .before .before .pre .0, c .seek .ensures, omega arith)
 
-sub-lesser : tie.Need-sub-lesser Inv-loop μ-loop
-sub-lesser c = search needs
+sub-least : tie.Need-sub-least Inv-loop μ-loop
+sub-least c = search needs
 
-lesser-requires : tie.Need-lesser-requires Inv-loop μ-loop
-lesser-requires c κs = search needs
+least-requires : tie.Need-least-requires Inv-loop μ-loop
+least-requires c κs = search needs
 
 mul-put-edge-run : tie.Need-mul-put-edge-run Inv-loop μ-loop
 mul-put-edge-run c =
@@ -63,17 +63,17 @@ put-edge-run-requires : tie.Need-put-edge-run-requires Inv-loop μ-loop
 put-edge-run-requires c κs =
     let start = c .before .before .before .before .before .before .before .before .before .before .before in
     let turn = c .before .before .before .before .before .loop in
-    let t = taken _ _ 8 _ (omega arith) (start .pre .0) (start .args .start) (start .args .count) (turn .k) (c .before .before .before .seek .ensures) (c .before .before .list-run .ensures) (c .before .lesser .ensures) (start .pre .2) (c .before .before .before .before .loop-test .taken) in (t .whole, omega (arith, t .fits, turn .inv .2, start .pre .3))
+    let t = taken _ _ 8 _ (omega arith) (start .pre .0) (start .args .start) (start .args .count) (turn .k) (c .before .before .before .seek .ensures) (c .before .before .list-run .ensures) (c .before .least .ensures) (start .pre .2) (c .before .before .before .before .loop-test .taken) in (t .whole, omega (arith, t .fits, turn .inv .2, start .pre .3))
 
 add-k : tie.Need-add-k Inv-loop μ-loop
 add-k c =
     let start = c .before .before .before .before .before .before .before .before .before .before .before .before .before .before in
-    let t = taken _ _ 8 _ (omega arith) (start .pre .0) (start .args .start) (start .args .count) (c .before .before .before .before .before .before .before .before .loop .k) (c .before .before .before .before .before .before .seek .ensures) (c .before .before .before .before .before .list-run .ensures) (c .before .before .before .before .lesser .ensures) (start .pre .2) (c .before .before .before .before .before .before .before .loop-test .taken) in omega (arith, t .fits)
+    let t = taken _ _ 8 _ (omega arith) (start .pre .0) (start .args .start) (start .args .count) (c .before .before .before .before .before .before .before .before .loop .k) (c .before .before .before .before .before .before .seek .ensures) (c .before .before .before .before .before .list-run .ensures) (c .before .before .before .before .least .ensures) (start .pre .2) (c .before .before .before .before .before .before .before .loop-test .taken) in omega (arith, t .fits)
 
 loop-less : tie.Need-loop-less Inv-loop μ-loop
 loop-less c =
     let start = c .before .before .before .before .before .before .before .before .before .before .before .before .before .before in
-    let t = taken _ _ 8 _ (omega arith) (start .pre .0) (start .args .start) (start .args .count) (c .before .before .before .before .before .before .before .before .loop .k) (c .before .before .before .before .before .before .seek .ensures) (c .before .before .before .before .before .list-run .ensures) (c .before .before .before .before .lesser .ensures) (start .pre .2) (c .before .before .before .before .before .before .before .loop-test .taken) in omega (arith, t .some, t .fits)
+    let t = taken _ _ 8 _ (omega arith) (start .pre .0) (start .args .start) (start .args .count) (c .before .before .before .before .before .before .before .before .loop .k) (c .before .before .before .before .before .before .seek .ensures) (c .before .before .before .before .before .list-run .ensures) (c .before .before .before .before .least .ensures) (start .pre .2) (c .before .before .before .before .before .before .before .loop-test .taken) in omega (arith, t .some, t .fits)
 
 loop-again : tie.Need-loop-again Inv-loop μ-loop
 loop-again c =
@@ -81,9 +81,9 @@ loop-again c =
     let turn = c .before .before .before .before .before .before .before .before .loop in
     let seek = c .before .before .before .before .before .before .seek in
     let list-run = c .before .before .before .before .before .list-run in
-    let lesser = c .before .before .before .before .lesser in
+    let least = c .before .before .before .before .least in
     let put-edge-run = c .before .before .put-edge-run in
-    let t = taken _ _ 8 _ (omega arith) (start .pre .0) (start .args .start) (start .args .count) (turn .k) (seek .ensures) (list-run .ensures) (lesser .ensures) (start .pre .2) (c .before .before .before .before .before .before .before .loop-test .taken) in (t .fits, seek .ensures .stands, ap length (put-edge-run .ensures) ∙ rw (length-put, turn .inv .2), rw (put-edge-run .ensures) (put-part edgeWords 6 edge-six _ _ (turn .k) (lesser .result) (cut 8 (lesser .result) (list-run .result .now)) _ (t .step) (cut-length 8 (lesser .result) (list-run .result .now)) _ ∙ turn .inv .3))
+    let t = taken _ _ 8 _ (omega arith) (start .pre .0) (start .args .start) (start .args .count) (turn .k) (seek .ensures) (list-run .ensures) (least .ensures) (start .pre .2) (c .before .before .before .before .before .before .before .loop-test .taken) in (t .fits, seek .ensures .stands, ap length (put-edge-run .ensures) ∙ rw (length-put, turn .inv .2), rw (put-edge-run .ensures) (put-part edgeWords 6 edge-six _ _ (turn .k) (least .result) (cut 8 (least .result) (list-run .result .now)) _ (t .step) (cut-length 8 (least .result) (list-run .result .now)) _ ∙ turn .inv .3))
 
 same-length : tie.Need-same-length Inv-loop μ-loop
 same-length c = c .before .loop .inv .2
@@ -105,8 +105,8 @@ put-edges-spec =
     seek-requires
     add-list-run
     list-run-requires
-    sub-lesser
-    lesser-requires
+    sub-least
+    least-requires
     mul-put-edge-run
     add-put-edge-run
     put-edge-run-requires

@@ -1,68 +1,66 @@
 -- `polygons::put_polygons` meets its contract. The loop's invariant is `Going`: storing what is left from here gives what is promised.
-use Prim.Native.Nat.{_-_}
+use Prim.Native.Nat.{_-_, _/_, _≤_}
 use native.Mathlib.Omega.{arith}
 use mathlib.Core.Path.{refl}
+use lib.ListN.{length, drop}
 use borrow.Author.Needs.{needs}
-use Rattle.polygons.proofs.Writes.{Going, polygon-asks, goes-on, all-put}
+use Rattle.fields.specs.Bytes.{cut}
+use Rattle.lists.specs.Cursors.{Stands}
+use Rattle.polygons.specs.Passes.{itemsIn}
+use Rattle.polygons.proofs.Runs.{length-items, part-next, none-left}
+use Rattle.polygons.proofs.InOrder.{Going, begins, run-asks, goes-on, ends}
 use Rattle.polygons.proofs.put_polygons.Statement.{statement}
 use Rattle.polygons.proofs.put_polygons.Tie as tie
 
 abbrev Inv-loop : tie.InvT-loop
-Inv-loop system graphics vertices indices edges links header bb-min bb-size polys n out₀ at c₀ p₀ e₀ i₀ out c p e i = Going system graphics vertices indices edges links header bb-min bb-size polys n out₀ at out c p e i
+Inv-loop system graphics vertices indices edges links header bb-min bb-size polys n out₀ at c₀ p₀ e₀ i₀ out c p e i = (i ≤ n) × Stands polys p × Going system graphics vertices indices edges links header bb-min bb-size (itemsIn system graphics 48 polys) out₀ at out c e (drop i (itemsIn system graphics 48 polys))
 
 abbrev μ-loop : tie.MeasureT-loop
 μ-loop system graphics vertices indices edges links header bb-min bb-size polys n out₀ at c₀ p₀ e₀ i₀ out c p e i = n - i
 
-list-start-requires : tie.Need-list-start-requires Inv-loop μ-loop
-list-start-requires c κs = search needs
-
-list-start-requires-2 : tie.Need-list-start-requires-2 Inv-loop μ-loop
-list-start-requires-2 c κs = search needs
-
-list-start-requires-3 : tie.Need-list-start-requires-3 Inv-loop μ-loop
-list-start-requires-3 c κs = search needs
-
-list-start-requires-4 : tie.Need-list-start-requires-4 Inv-loop μ-loop
-list-start-requires-4 c κs = search needs
-
 loop-holds : tie.Need-loop-holds Inv-loop μ-loop
 loop-holds c =
-    let start = c .before .before .before .before .before .before .before .before .before .before .before .before .before in
-    record { low = search needs; in-polys = c .list-start4 .ensures; ready = record { vertex-list = start .pre .0 .0; index-list = start .pre .0 .1; edge-list = start .pre .0 .2; in-vertices = c .before .before .before .list-start .ensures; in-indices = c .before .before .list-start2 .ensures; in-edges = c .before .list-start3 .ensures }; same-length = refl; passed = start .pre .1; next = refl; strip = refl }
+    let lists = c .before .before .before .before .before .before .before .before .before .before .before .before .before .pre .0 in
+    (search needs, c .list-start4 .ensures, begins _ _ _ _ _ _ _ _ _ _ _ _ (record { vertex-list = lists .0; index-list = lists .1; edge-list = lists .2; in-vertices = c .before .before .before .list-start .ensures; in-indices = c .before .before .list-start2 .ensures; in-edges = c .before .list-start3 .ensures }) (c .before .before .before .before .before .before .before .before .before .before .before .before .before .pre .1) refl)
 
-seek-requires : tie.Need-seek-requires Inv-loop μ-loop
-seek-requires c κs =
-    let start = c .before .before .before .before .before .before .before .before .before .before .before .before .before .before .before in
-    (c .before .loop .inv .in-polys, omega (arith, start .pre .0 .4, c .loop-test .taken), start .pre .0 .3 .few)
+walk-to-requires : tie.Need-walk-to-requires Inv-loop μ-loop
+walk-to-requires c κs = (c .before .loop .inv .1, omega (arith, c .before .before .before .before .before .before .before .before .before .before .before .before .before .before .before .pre .0 .4, c .loop-test .taken), c .before .before .before .before .before .before .before .before .before .before .before .before .before .before .before .pre .0 .3 .few)
 
-list-item-requires : tie.Need-list-item-requires Inv-loop μ-loop
-list-item-requires c κs = (c .before .before .before .before .before .before .before .before .before .before .before .before .before .before .before .before .pre .0 .3, c .seek .ensures)
+list-run-requires : tie.Need-list-run-requires Inv-loop μ-loop
+list-run-requires c κs = (c .before .before .before .before .before .before .before .before .before .before .before .before .before .before .before .before .pre .0 .3, c .walk-to .ensures, omega arith)
 
-put-polygon-requires : tie.Need-put-polygon-requires Inv-loop μ-loop
-put-polygon-requires c κs =
-    let start = c .before .before .before .before .before .before .before .before .before .before .before .before .before .before .before .before .before .before in
-    polygon-asks (start .args .system .now) (start .args .graphics .now) (start .args .vertices .now) (start .args .indices .now) (start .args .edges .now) (start .args .links .now) (start .args .header .now) (start .args .bb-min) (start .args .bb-size) (start .args .polys .now) (start .args .n) (start .args .out .now) (start .args .at) (start .pre .0 .4) (c .before .before .before .before .loop .inv) (c .before .before .before .loop-test .taken) (c .before .before .seek .ensures) (c .before .list-item .ensures)
+put-run-requires : tie.Need-put-run-requires Inv-loop μ-loop
+put-run-requires c κs =
+    let start = c .before .before .before .before .before .before .before .before .before .before .before .before .before .before .before .before .before .before .args in
+    let g = c .before .before .before .before .loop .inv .2 in
+    let part = part-next (start .system .now) (start .graphics .now) 48 (start .polys .now) (omega arith) (c .before .before .before .before .before .before .before .before .before .before .before .before .before .before .before .before .before .before .pre .0 .3) (c .before .before .walk-to .ensures) (c .before .list-run .ensures) in
+    (g .ready, part .whole, run-asks _ _ _ _ _ _ _ _ _ _ _ _ g _ _ (part .step))
 
 add-i : tie.Need-add-i Inv-loop μ-loop
 add-i c =
-    let start = c .before .before .before .before .before .before .before .before .before .before .before .before .before .before .before .before .before .before .before .before .before .before in
-    omega (arith, c .before .before .before .before .before .before .before .loop-test .taken, start .pre .0 .3 .few, start .pre .0 .4)
+    let start = c .before .before .before .before .before .before .before .before .before .before .before .before .before .before .before .before .before .before .before .before .before .before .args in
+    let part = part-next (start .system .now) (start .graphics .now) 48 (start .polys .now) (omega arith) (c .before .before .before .before .before .before .before .before .before .before .before .before .before .before .before .before .before .before .before .before .before .before .pre .0 .3) (c .before .before .before .before .before .before .walk-to .ensures) (c .before .before .before .before .before .list-run .ensures) in
+    omega (arith, part .fits, length-items (start .system .now) (start .graphics .now) 48 (start .polys .now), c .before .before .before .before .before .before .before .before .before .before .before .before .before .before .before .before .before .before .before .before .before .before .pre .0 .3 .few)
 
 loop-less : tie.Need-loop-less Inv-loop μ-loop
-loop-less c = omega (arith, c .before .before .before .before .before .before .before .loop-test .taken)
+loop-less c =
+    let start = c .before .before .before .before .before .before .before .before .before .before .before .before .before .before .before .before .before .before .before .before .before .before .args in
+    let part = part-next (start .system .now) (start .graphics .now) 48 (start .polys .now) (omega arith) (c .before .before .before .before .before .before .before .before .before .before .before .before .before .before .before .before .before .before .before .before .before .before .pre .0 .3) (c .before .before .before .before .before .before .walk-to .ensures) (c .before .before .before .before .before .list-run .ensures) in
+    omega (arith, part .some, c .before .before .before .before .before .before .before .loop-test .taken)
 
 loop-again : tie.Need-loop-again Inv-loop μ-loop
 loop-again c =
-    let start = c .before .before .before .before .before .before .before .before .before .before .before .before .before .before .before .before .before .before .before .before .before .before in
-    goes-on (start .args .system .now) (start .args .graphics .now) (start .args .vertices .now) (start .args .indices .now) (start .args .edges .now) (start .args .links .now) (start .args .header .now) (start .args .bb-min) (start .args .bb-size) (start .args .polys .now) (start .args .n) (start .args .out .now) (start .args .at) (start .pre .0 .4) (c .before .before .before .before .before .before .before .before .loop .inv) (c .before .before .before .before .before .before .before .loop-test .taken) (c .before .before .before .before .before .before .seek .ensures) (c .before .before .before .before .before .list-item .ensures) (c .before .before .before .put-polygon .ensures)
+    let start = c .before .before .before .before .before .before .before .before .before .before .before .before .before .before .before .before .before .before .before .before .before .before .args in
+    let part = part-next (start .system .now) (start .graphics .now) 48 (start .polys .now) (omega arith) (c .before .before .before .before .before .before .before .before .before .before .before .before .before .before .before .before .before .before .before .before .before .before .pre .0 .3) (c .before .before .before .before .before .before .walk-to .ensures) (c .before .before .before .before .before .list-run .ensures) in
+    (omega (arith, part .fits, length-items (start .system .now) (start .graphics .now) 48 (start .polys .now), c .before .before .before .before .before .before .before .before .before .before .before .before .before .before .before .before .before .before .before .before .before .before .pre .0 .4), c .before .before .before .before .before .before .walk-to .ensures .stands, goes-on _ _ _ _ _ _ _ _ _ _ _ _ (c .before .before .before .before .before .before .before .before .loop .inv .2) (cut 48 (length (c .before .before .before .before .before .list-run .result .now) / 48) (c .before .before .before .before .before .list-run .result .now)) _ (part .step) (c .before .before .before .put-run .ensures))
 
 same-length : tie.Need-same-length Inv-loop μ-loop
-same-length c = c .before .loop .inv .same-length
+same-length c = c .before .loop .inv .2 .same-length
 
 returns : tie.Need-returns Inv-loop μ-loop
 returns c =
-    let start = c .before .before .before .before .before .before .before .before .before .before .before .before .before .before .before in
-    all-put (start .args .system .now) (start .args .graphics .now) (start .args .vertices .now) (start .args .indices .now) (start .args .edges .now) (start .args .links .now) (start .args .header .now) (start .args .bb-min) (start .args .bb-size) (start .args .polys .now) (start .args .n) (start .args .out .now) (start .args .at) (start .pre .0 .4) (c .before .loop .inv) (c .loop-test .left)
+    let start = c .before .before .before .before .before .before .before .before .before .before .before .before .before .before .before .args in
+    ends _ _ _ _ _ _ _ _ _ _ _ _ (c .before .loop .inv .2) (none-left (start .system .now) (start .graphics .now) 48 (start .polys .now) (c .before .loop .i) (omega (arith, c .before .before .before .before .before .before .before .before .before .before .before .before .before .before .before .pre .0 .4, c .loop-test .left)))
 
 pub put-polygons-spec : {M : Type 1} → statement M
 put-polygons-spec =
@@ -70,14 +68,14 @@ put-polygons-spec =
     (tie.spec
     Inv-loop
     μ-loop
-    list-start-requires
-    list-start-requires-2
-    list-start-requires-3
-    list-start-requires-4
+    (λ c κs. search needs)
+    (λ c κs. search needs)
+    (λ c κs. search needs)
+    (λ c κs. search needs)
     loop-holds
-    seek-requires
-    list-item-requires
-    put-polygon-requires
+    walk-to-requires
+    list-run-requires
+    put-run-requires
     add-i
     loop-less
     loop-again

@@ -48,13 +48,13 @@ add-list-run c =
     omega (arith, start .pre .1 .0, c .before .loop-test .taken, start .pre .0 .1 .few)
 
 list-run-requires : tie.Need-list-run-requires Inv-loop μ-loop
-list-run-requires c κs = (c .before .before .before .before .before .before .before .before .before .before .pre .0 .1, c .seek .ensures)
+list-run-requires c κs = (c .before .before .before .before .before .before .before .before .before .before .pre .0 .1, c .seek .ensures, omega arith)
 
-sub-lesser : tie.Need-sub-lesser Inv-loop μ-loop
-sub-lesser c = omega (arith, c .before .before .loop-test .taken)
+sub-least : tie.Need-sub-least Inv-loop μ-loop
+sub-least c = omega (arith, c .before .before .loop-test .taken)
 
-lesser-requires : tie.Need-lesser-requires Inv-loop μ-loop
-lesser-requires c κs = search needs
+least-requires : tie.Need-least-requires Inv-loop μ-loop
+least-requires c κs = search needs
 
 mul-put-vertex-run : tie.Need-mul-put-vertex-run Inv-loop μ-loop
 mul-put-vertex-run c =
@@ -71,18 +71,18 @@ put-vertex-run-requires c κs =
     let start = c .before .before .before .before .before .before .before .before .before .before .before .before .before in
     let turn = c .before .before .before .before .before .loop in
     let list-run = c .before .before .list-run in
-    let lesser = c .before .lesser in
-    let t = taken _ _ 2 _ (omega arith) (start .pre .0 .1) (start .args .start) (start .args .count) (turn .k) (c .before .before .before .seek .ensures) (list-run .ensures) (lesser .ensures) (start .pre .1 .0) (c .before .before .before .before .loop-test .taken) in ((start .pre .0 .0, turn .inv .1, t .whole, omega (arith, t .fits, turn .inv .3, start .pre .1 .1)), both-below _ (cut 2 (lesser .result) (list-run .result .now)) (left (itemsIn (start .args .system .now) (start .args .graphics .now) 2 (start .args .indices .now)) (start .args .start) (start .args .count) (turn .k + lesser .result)) (t .step) (turn .inv .4) .0)
+    let least = c .before .least in
+    let t = taken _ _ 2 _ (omega arith) (start .pre .0 .1) (start .args .start) (start .args .count) (turn .k) (c .before .before .before .seek .ensures) (list-run .ensures) (least .ensures) (start .pre .1 .0) (c .before .before .before .before .loop-test .taken) in ((start .pre .0 .0, turn .inv .1, t .whole, omega (arith, t .fits, turn .inv .3, start .pre .1 .1)), both-below _ (cut 2 (least .result) (list-run .result .now)) (left (itemsIn (start .args .system .now) (start .args .graphics .now) 2 (start .args .indices .now)) (start .args .start) (start .args .count) (turn .k + least .result)) (t .step) (turn .inv .4) .0)
 
 add-k : tie.Need-add-k Inv-loop μ-loop
 add-k c =
     let start = c .before .before .before .before .before .before .before .before .before .before .before .before .before .before .before .before in
-    let t = taken _ _ 2 _ (omega arith) (start .pre .0 .1) (start .args .start) (start .args .count) (c .before .before .before .before .before .before .before .before .loop .k) (c .before .before .before .before .before .before .seek .ensures) (c .before .before .before .before .before .list-run .ensures) (c .before .before .before .before .lesser .ensures) (start .pre .1 .0) (c .before .before .before .before .before .before .before .loop-test .taken) in omega (arith, t .fits, start .pre .1 .0, start .pre .0 .1 .few)
+    let t = taken _ _ 2 _ (omega arith) (start .pre .0 .1) (start .args .start) (start .args .count) (c .before .before .before .before .before .before .before .before .loop .k) (c .before .before .before .before .before .before .seek .ensures) (c .before .before .before .before .before .list-run .ensures) (c .before .before .before .before .least .ensures) (start .pre .1 .0) (c .before .before .before .before .before .before .before .loop-test .taken) in omega (arith, t .fits, start .pre .1 .0, start .pre .0 .1 .few)
 
 loop-less : tie.Need-loop-less Inv-loop μ-loop
 loop-less c =
     let start = c .before .before .before .before .before .before .before .before .before .before .before .before .before .before .before .before in
-    let t = taken _ _ 2 _ (omega arith) (start .pre .0 .1) (start .args .start) (start .args .count) (c .before .before .before .before .before .before .before .before .loop .k) (c .before .before .before .before .before .before .seek .ensures) (c .before .before .before .before .before .list-run .ensures) (c .before .before .before .before .lesser .ensures) (start .pre .1 .0) (c .before .before .before .before .before .before .before .loop-test .taken) in omega (arith, t .some, t .fits)
+    let t = taken _ _ 2 _ (omega arith) (start .pre .0 .1) (start .args .start) (start .args .count) (c .before .before .before .before .before .before .before .before .loop .k) (c .before .before .before .before .before .before .seek .ensures) (c .before .before .before .before .before .list-run .ensures) (c .before .before .before .before .least .ensures) (start .pre .1 .0) (c .before .before .before .before .before .before .before .loop-test .taken) in omega (arith, t .some, t .fits)
 
 loop-again : tie.Need-loop-again Inv-loop μ-loop
 loop-again c =
@@ -90,9 +90,9 @@ loop-again c =
     let turn = c .before .before .before .before .before .before .before .before .loop in
     let seek = c .before .before .before .before .before .before .seek in
     let list-run = c .before .before .before .before .before .list-run in
-    let lesser = c .before .before .before .before .lesser in
+    let least = c .before .before .before .before .least in
     let put-vertex-run = c .before .before .put-vertex-run in
-    let t = taken _ _ 2 _ (omega arith) (start .pre .0 .1) (start .args .start) (start .args .count) (turn .k) (seek .ensures) (list-run .ensures) (lesser .ensures) (start .pre .1 .0) (c .before .before .before .before .before .before .before .loop-test .taken) in (t .fits, put-vertex-run .ensures .0, seek .ensures .stands, ap length (put-vertex-run .ensures .1) ∙ rw (length-put, turn .inv .3), both-below _ (cut 2 (lesser .result) (list-run .result .now)) (left (itemsIn (start .args .system .now) (start .args .graphics .now) 2 (start .args .indices .now)) (start .args .start) (start .args .count) (turn .k + lesser .result)) (t .step) (turn .inv .4) .1, rw (put-vertex-run .ensures .1) (put-part vecWords 3 vec-three _ _ (turn .k) (lesser .result) (cut 2 (lesser .result) (list-run .result .now)) (left (itemsIn (start .args .system .now) (start .args .graphics .now) 2 (start .args .indices .now)) (start .args .start) (start .args .count) (turn .k + lesser .result)) (t .step) (cut-length 2 (lesser .result) (list-run .result .now)) _ ∙ turn .inv .5))
+    let t = taken _ _ 2 _ (omega arith) (start .pre .0 .1) (start .args .start) (start .args .count) (turn .k) (seek .ensures) (list-run .ensures) (least .ensures) (start .pre .1 .0) (c .before .before .before .before .before .before .before .loop-test .taken) in (t .fits, put-vertex-run .ensures .0, seek .ensures .stands, ap length (put-vertex-run .ensures .1) ∙ rw (length-put, turn .inv .3), both-below _ (cut 2 (least .result) (list-run .result .now)) (left (itemsIn (start .args .system .now) (start .args .graphics .now) 2 (start .args .indices .now)) (start .args .start) (start .args .count) (turn .k + least .result)) (t .step) (turn .inv .4) .1, rw (put-vertex-run .ensures .1) (put-part vecWords 3 vec-three _ _ (turn .k) (least .result) (cut 2 (least .result) (list-run .result .now)) (left (itemsIn (start .args .system .now) (start .args .graphics .now) 2 (start .args .indices .now)) (start .args .start) (start .args .count) (turn .k + least .result)) (t .step) (cut-length 2 (least .result) (list-run .result .now)) _ ∙ turn .inv .5))
 
 same-length : tie.Need-same-length Inv-loop μ-loop
 same-length c = c .before .loop .inv .3
@@ -114,8 +114,8 @@ put-vertices-spec =
     seek-requires
     add-list-run
     list-run-requires
-    sub-lesser
-    lesser-requires
+    sub-least
+    least-requires
     mul-put-vertex-run
     add-put-vertex-run
     put-vertex-run-requires

@@ -36,18 +36,18 @@ add-list-run : tie.Need-add-list-run Inv-loop μ-loop
 add-list-run c = search needs
 
 list-run-requires : tie.Need-list-run-requires Inv-loop μ-loop
-list-run-requires c κs = (c .before .before .before .before .before .before .pre .0, c .seek .ensures)
+list-run-requires c κs = (c .before .before .before .before .before .before .pre .0, c .seek .ensures, omega arith)
 
-sub-lesser : tie.Need-sub-lesser Inv-loop μ-loop
-sub-lesser c = search needs
+sub-least : tie.Need-sub-least Inv-loop μ-loop
+sub-least c = search needs
 
-lesser-requires : tie.Need-lesser-requires Inv-loop μ-loop
-lesser-requires c κs = search needs
+least-requires : tie.Need-least-requires Inv-loop μ-loop
+least-requires c κs = search needs
 
 all-below-requires : tie.Need-all-below-requires Inv-loop μ-loop
 all-below-requires c κs =
     let start = c .before .before .before .before .before .before .before .before in
-    let t = taken _ _ 2 _ (omega arith) (start .pre .0) (start .args .start) (start .args .count) (c .before .before .before .before .loop .k) (c .before .before .seek .ensures) (c .before .list-run .ensures) (c .lesser .ensures) (start .pre .2) (c .before .before .before .loop-test .taken) in t .whole
+    let t = taken _ _ 2 _ (omega arith) (start .pre .0) (start .args .start) (start .args .count) (c .before .before .before .before .loop .k) (c .before .before .seek .ensures) (c .before .list-run .ensures) (c .least .ensures) (start .pre .2) (c .before .before .before .loop-test .taken) in t .whole
 
 returns : tie.Need-returns Inv-loop μ-loop
 returns c =
@@ -55,18 +55,18 @@ returns c =
     let turn = c .before .before .before .before .before .before .loop in
     let seek = c .before .before .before .before .seek in
     let list-run = c .before .before .before .list-run in
-    let lesser = c .before .before .lesser in
-    let t = taken _ _ 2 _ (omega arith) (start .pre .0) (start .args .start) (start .args .count) (turn .k) (seek .ensures) (list-run .ensures) (lesser .ensures) (start .pre .2) (c .before .before .before .before .before .loop-test .taken) in (not-below-part _ (cut 2 (lesser .result) (list-run .result .now)) _ (t .step) (c .before .all-below .ensures) (not-true _ (c .if1 .taken)) ∙ turn .inv .2, seek .ensures .stands)
+    let least = c .before .before .least in
+    let t = taken _ _ 2 _ (omega arith) (start .pre .0) (start .args .start) (start .args .count) (turn .k) (seek .ensures) (list-run .ensures) (least .ensures) (start .pre .2) (c .before .before .before .before .before .loop-test .taken) in (not-below-part _ (cut 2 (least .result) (list-run .result .now)) _ (t .step) (c .before .all-below .ensures) (not-true _ (c .if1 .taken)) ∙ turn .inv .2, seek .ensures .stands)
 
 add-k : tie.Need-add-k Inv-loop μ-loop
 add-k c =
     let start = c .before .before .before .before .before .before .before .before .before .before in
-    let t = taken _ _ 2 _ (omega arith) (start .pre .0) (start .args .start) (start .args .count) (c .before .before .before .before .before .before .loop .k) (c .before .before .before .before .seek .ensures) (c .before .before .before .list-run .ensures) (c .before .before .lesser .ensures) (start .pre .2) (c .before .before .before .before .before .loop-test .taken) in omega (arith, t .fits)
+    let t = taken _ _ 2 _ (omega arith) (start .pre .0) (start .args .start) (start .args .count) (c .before .before .before .before .before .before .loop .k) (c .before .before .before .before .seek .ensures) (c .before .before .before .list-run .ensures) (c .before .before .least .ensures) (start .pre .2) (c .before .before .before .before .before .loop-test .taken) in omega (arith, t .fits)
 
 loop-less : tie.Need-loop-less Inv-loop μ-loop
 loop-less c =
     let start = c .before .before .before .before .before .before .before .before .before .before in
-    let t = taken _ _ 2 _ (omega arith) (start .pre .0) (start .args .start) (start .args .count) (c .before .before .before .before .before .before .loop .k) (c .before .before .before .before .seek .ensures) (c .before .before .before .list-run .ensures) (c .before .before .lesser .ensures) (start .pre .2) (c .before .before .before .before .before .loop-test .taken) in omega (arith, t .some, t .fits)
+    let t = taken _ _ 2 _ (omega arith) (start .pre .0) (start .args .start) (start .args .count) (c .before .before .before .before .before .before .loop .k) (c .before .before .before .before .seek .ensures) (c .before .before .before .list-run .ensures) (c .before .before .least .ensures) (start .pre .2) (c .before .before .before .before .before .loop-test .taken) in omega (arith, t .some, t .fits)
 
 loop-again : tie.Need-loop-again Inv-loop μ-loop
 loop-again c =
@@ -74,8 +74,8 @@ loop-again c =
     let turn = c .before .before .before .before .before .before .loop in
     let seek = c .before .before .before .before .seek in
     let list-run = c .before .before .before .list-run in
-    let lesser = c .before .before .lesser in
-    let t = taken _ _ 2 _ (omega arith) (start .pre .0) (start .args .start) (start .args .count) (turn .k) (seek .ensures) (list-run .ensures) (lesser .ensures) (start .pre .2) (c .before .before .before .before .before .loop-test .taken) in (t .fits, seek .ensures .stands, below-part _ (cut 2 (lesser .result) (list-run .result .now)) _ (t .step) (c .before .all-below .ensures) (not-false _ (c .if1 .left)) ∙ turn .inv .2)
+    let least = c .before .before .least in
+    let t = taken _ _ 2 _ (omega arith) (start .pre .0) (start .args .start) (start .args .count) (turn .k) (seek .ensures) (list-run .ensures) (least .ensures) (start .pre .2) (c .before .before .before .before .before .loop-test .taken) in (t .fits, seek .ensures .stands, below-part _ (cut 2 (least .result) (list-run .result .now)) _ (t .step) (c .before .all-below .ensures) (not-false _ (c .if1 .left)) ∙ turn .inv .2)
 
 returns-2 : tie.Need-returns-2 Inv-loop μ-loop
 returns-2 c =
@@ -94,8 +94,8 @@ run-below-spec =
     seek-requires
     add-list-run
     list-run-requires
-    sub-lesser
-    lesser-requires
+    sub-least
+    least-requires
     all-below-requires
     returns
     add-k

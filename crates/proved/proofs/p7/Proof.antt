@@ -1,6 +1,4 @@
 -- `proved::p7` meets its contract: its callee's equation, and the table.
-use mathlib.Core.Path.{_∙_, ap}
-use lib.ListN.{take}
 use borrow.Author.Needs.{needs}
 use Rattle.fields.specs.Bytes.{over}
 use Rattle.proved.proofs.Table.{table}

@@ -1,7 +1,8 @@
 -- `read_vectors::answer_agrees` meets its contract, by the answer's cases.
+use mathlib.Core.Bool.{false≢true}
 use mathlib.Core.Path.{ap, sym, _∙_}
 use Rattle.ynv_read.specs.Parse.{paper}
-use Rattle.read_vectors.proofs.Records.{never, told-cell}
+use Rattle.read_vectors.proofs.Records.{told-cell}
 use borrow.Author.Needs.{needs}
 use Rattle.read_vectors.proofs.answer_agrees.Statement.{statement}
 use Rattle.read_vectors.proofs.answer_agrees.Tie as tie
@@ -10,7 +11,7 @@ returns : tie.Need-returns
 returns c = λ h. ap paper (c .before .before .before .before .a .given .1) ∙ told-cell _ _ _ (sym (c .before .before .u32-le .ensures) ∙ c .before .if1 .taken) (c .counts-agree .ensures h)
 
 returns-2 : tie.Need-returns-2
-returns-2 c = λ h. never h
+returns-2 c = λ h. absurd (false≢true h)
 
 returns-3 : tie.Need-returns-3
 returns-3 c = λ h. ap paper (c .before .before .a2 .given .1) ∙ c .refusal-agrees .ensures h

@@ -13,7 +13,7 @@ slice-aggregate-parse-ynv : tie.Need-slice-aggregate-parse-ynv
 slice-aggregate-parse-ynv c = simp length-take (omega arith)
 
 returns : tie.Need-returns
-returns c = let e = c .before .before .before .before .before .before .fewer .ensures ∙ ap (λ (w : ℕ). min w (length (now (c .before .before .before .before .before .before .before .before .before .before .args .strip)))) (c .before .before .before .before .before .before .before .u32-le .ensures) in (answered _ _ (c .before .before .before .before .before .before .before .before .before .before .args .r) _ _ e _ (c .before .before .parse-ynv .ensures .0), strip-left _ _ (c .before .before .before .before .before .before .before .before .before .before .args .r) _ _ e _ (c .before .before .parse-ynv .ensures .1))
+returns c = let e = c .before .before .before .before .before .before .least .ensures ∙ ap (λ (w : ℕ). min w (length (now (c .before .before .before .before .before .before .before .before .before .before .args .strip)))) (c .before .before .before .before .before .before .before .u32-le .ensures) in (answered _ _ (c .before .before .before .before .before .before .before .before .before .before .args .r) _ _ e _ (c .before .before .parse-ynv .ensures .0), strip-left _ _ (c .before .before .before .before .before .before .before .before .before .before .args .r) _ _ e _ (c .before .before .parse-ynv .ensures .1))
 
 pub read-record-spec : {M : Type 1} → statement M
 read-record-spec =

@@ -1,11 +1,11 @@
 -- `read_vectors::words_agree` meets its contract. The loop's invariant: the words passed agree. The measure is how many are left.
+use mathlib.Core.Bool.{false≢true}
 use Prim.Native.Nat.{ℕ, _-_, _≤_, _<_}
 use native.Mathlib.Omega.{arith}
 use mathlib.Core.Path.{_≡_, _∙_}
 use lib.ListN.{getD}
 use borrow.Author.Count.{below-none, below-more}
 use Rattle.read_vectors.specs.Agreement.{toldWord}
-use Rattle.read_vectors.proofs.Records.{never}
 use borrow.Author.Needs.{needs}
 use Rattle.read_vectors.proofs.words_agree.Statement.{statement}
 use Rattle.read_vectors.proofs.words_agree.Tie as tie
@@ -20,7 +20,7 @@ loop-holds : tie.Need-loop-holds Inv-loop μ-loop
 loop-holds c = (omega arith, below-none _)
 
 returns : tie.Need-returns Inv-loop μ-loop
-returns c = λ h. never h
+returns c = λ h. absurd (false≢true h)
 
 loop-again : tie.Need-loop-again Inv-loop μ-loop
 loop-again c = (omega arith, below-more _ _ (c .before .before .before .before .loop .inv .1) (c .if1 .left ∙ c .before .before .told-word .ensures))

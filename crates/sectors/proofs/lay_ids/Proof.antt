@@ -5,8 +5,7 @@ use mathlib.Core.List.{List}
 use lib.ListN.{length}
 use native.Mathlib.Omega.{arith}
 use denote.Ref.{now}
-use Rattle.sectors.proofs.Keeping.{laid-empty, laid-some}
-use Rattle.sectors.proofs.Records.{behind-some}
+use Rattle.pages.proofs.Optional.{behind-some, laid-nothing, laid-some}
 use Rattle.fields.specs.Bytes.{les, put}
 use Rattle.fields.proofs.Bytes.{length-les}
 use Rattle.pages.specs.Sectors.{idsOf, quarters}
@@ -20,7 +19,7 @@ returns : tie.Need-returns
 returns c =
     let a = c .before .before .before .args in
     let is = idsOf (quarters (a .b)) 0 (boxesIn (now (a .boxes))) in
-    laid-empty (a .l) (les 2 is) (now (a .out)) (omega (arith, length-les 2 is, c .before .before .before .pre .0, c .if1 .taken))
+    laid-nothing (a .l) (les 2 is) (now (a .out)) (omega (arith, length-les 2 is, c .before .before .before .pre .0, c .if1 .taken))
 
 quarter-pair-requires : tie.Need-quarter-pair-requires
 quarter-pair-requires c κs = tt
@@ -32,7 +31,7 @@ mul-pad : tie.Need-mul-pad
 mul-pad c = omega (arith, c .before .before .before .before .before .before .pre .1)
 
 pad-requires : tie.Need-pad-requires
-pad-requires c κs = omega (arith, behind-some (c .before .before .before .before .before .before .args .l .at) (2 * c .before .before .before .before .before .before .args .n) (λ e. c .before .before .before .if1 .left (omega arith)), c .before .before .before .before .before .before .pre .2)
+pad-requires c κs = omega (arith, behind-some (c .before .before .before .before .before .before .args .l .at) (2 * c .before .before .before .before .before .before .args .n) (omega (arith, c .before .before .before .if1 .left)), c .before .before .before .before .before .before .pre .2)
 
 put-ids-requires : tie.Need-put-ids-requires
 put-ids-requires c κs =
@@ -40,7 +39,7 @@ put-ids-requires c κs =
     let s = k .before .before .before .before .before in
     omega (
       arith,
-      behind-some (s .args .l .at) (2 * s .args .n) (λ e. k .before .before .if1 .left (omega arith)),
+      behind-some (s .args .l .at) (2 * s .args .n) (omega (arith, k .before .before .if1 .left)),
       ap length (ids-of (s .args .b) _ _ (k .before .quarter-pair .ensures .0) (k .quarter-pair2 .ensures .0) 0 (boxesIn (now (s .args .boxes)))),
       s .pre .0,
       s .pre .2,
@@ -51,7 +50,7 @@ mul-alloc : tie.Need-mul-alloc
 mul-alloc c = omega (arith, c .before .before .before .before .before .before .before .before .before .before .before .before .before .pre .1)
 
 alloc-requires : tie.Need-alloc-requires
-alloc-requires c κs = omega (arith, behind-some (c .before .before .before .before .before .before .before .before .before .before .before .before .before .args .l .at) (2 * c .before .before .before .before .before .before .before .before .before .before .before .before .before .args .n) (λ e. c .before .before .before .before .before .before .before .before .before .before .if1 .left (omega arith)), c .before .before .before .before .before .before .before .before .before .before .before .before .before .pre .2)
+alloc-requires c κs = omega (arith, behind-some (c .before .before .before .before .before .before .before .before .before .before .before .before .before .args .l .at) (2 * c .before .before .before .before .before .before .before .before .before .before .before .before .before .args .n) (omega (arith, c .before .before .before .before .before .before .before .before .before .before .if1 .left)), c .before .before .before .before .before .before .before .before .before .before .before .before .before .pre .2)
 
 same-length : tie.Need-same-length
 same-length c = search needs
@@ -64,7 +63,7 @@ returns-2 c =
     let a = s .args in
     let is = idsOf (quarters (a .b)) 0 (boxesIn (now (a .boxes))) in
     let e = ids-of (a .b) _ _ (k .before .quarter-pair .ensures .0) (k .quarter-pair2 .ensures .0) 0 (boxesIn (now (a .boxes))) in
-    laid-some (les 2 is) (length-les 2 is ∙ ap (λ (j : ℕ). 2 * j) (sym (s .pre .0))) (λ e. k .before .before .if1 .left (omega arith)) (q .pad .ensures .0) (q .pad .ensures .1)
+    laid-some (les 2 is) (length-les 2 is ∙ ap (λ (j : ℕ). 2 * j) (sym (s .pre .0))) (omega (arith, k .before .before .if1 .left)) (q .pad .ensures .0) (q .pad .ensures .1)
     (c .before .before .before .put-ids .ensures ∙ ap (λ (js : List ℕ). put (q .pad .result) (les 2 js) (q .pad .last .0)) e) (c .alloc .ensures)
 
 pub lay-ids-spec : {M : Type 1} → statement M

@@ -4,8 +4,7 @@ use Prim.Native.Nat.{ℕ, _*_}
 use native.Mathlib.Omega.{arith}
 use lib.ListN.{length}
 use denote.Ref.{now}
-use Rattle.sectors.proofs.Keeping.{laid-empty, laid-some}
-use Rattle.sectors.proofs.Records.{behind-some}
+use Rattle.pages.proofs.Optional.{behind-some, laid-nothing, laid-some}
 use Rattle.fields.specs.Bytes.{cat}
 use Rattle.strip.specs.Reading.{pointsAt}
 use Rattle.pages.specs.Sectors.{pointItems}
@@ -19,22 +18,22 @@ returns : tie.Need-returns
 returns c =
     let a = c .before .before .before .before .args in
     let ts = pickedFrom (now (a .leafs)) (a .k) 0 (pointsAt (now (a .strip)) (a .points .at) (length (now (a .leafs)))) in
-    laid-empty (a .l) (cat (pointItems (a .points .lo) (a .points .size) ts)) (now (a .out)) (omega (arith, length-points (a .points .lo) (a .points .size) ts, c .before .before .before .before .pre .1, c .if1 .taken))
+    laid-nothing (a .l) (cat (pointItems (a .points .lo) (a .points .size) ts)) (now (a .out)) (omega (arith, length-points (a .points .lo) (a .points .size) ts, c .before .before .before .before .pre .1, c .if1 .taken))
 
 mul-pad : tie.Need-mul-pad
 mul-pad c = omega (arith, c .before .before .before .before .before .pre .2)
 
 pad-requires : tie.Need-pad-requires
-pad-requires c κs = omega (arith, behind-some (c .before .before .before .before .before .args .l .at) (8 * c .before .before .before .before .before .args .n) (λ e. c .before .if1 .left (omega arith)), c .before .before .before .before .before .pre .3)
+pad-requires c κs = omega (arith, behind-some (c .before .before .before .before .before .args .l .at) (8 * c .before .before .before .before .before .args .n) (omega (arith, c .before .if1 .left)), c .before .before .before .before .before .pre .3)
 
 put-points-requires : tie.Need-put-points-requires
-put-points-requires c κs = (c .before .before .before .before .before .before .before .before .before .pre .0, omega (arith, behind-some (c .before .before .before .before .before .before .before .before .before .args .l .at) (8 * c .before .before .before .before .before .before .before .before .before .args .n) (λ e. c .before .before .before .before .before .if1 .left (omega arith)), c .before .before .before .before .before .before .before .before .before .pre .1, c .before .before .before .before .before .before .before .before .before .pre .3, c .before .before .before .pad .ensures .0))
+put-points-requires c κs = (c .before .before .before .before .before .before .before .before .before .pre .0, omega (arith, behind-some (c .before .before .before .before .before .before .before .before .before .args .l .at) (8 * c .before .before .before .before .before .before .before .before .before .args .n) (omega (arith, c .before .before .before .before .before .if1 .left)), c .before .before .before .before .before .before .before .before .before .pre .1, c .before .before .before .before .before .before .before .before .before .pre .3, c .before .before .before .pad .ensures .0))
 
 mul-alloc : tie.Need-mul-alloc
 mul-alloc c = omega (arith, c .before .before .before .before .before .before .before .before .before .before .before .before .pre .2)
 
 alloc-requires : tie.Need-alloc-requires
-alloc-requires c κs = omega (arith, behind-some (c .before .before .before .before .before .before .before .before .before .before .before .before .args .l .at) (8 * c .before .before .before .before .before .before .before .before .before .before .before .before .args .n) (λ e. c .before .before .before .before .before .before .before .before .if1 .left (omega arith)), c .before .before .before .before .before .before .before .before .before .before .before .before .pre .3)
+alloc-requires c κs = omega (arith, behind-some (c .before .before .before .before .before .before .before .before .before .before .before .before .args .l .at) (8 * c .before .before .before .before .before .before .before .before .before .before .before .before .args .n) (omega (arith, c .before .before .before .before .before .before .before .before .if1 .left)), c .before .before .before .before .before .before .before .before .before .before .before .before .pre .3)
 
 same-length : tie.Need-same-length
 same-length c = search needs
@@ -43,7 +42,7 @@ returns-2 : tie.Need-returns-2
 returns-2 c =
     let a = c .before .before .before .before .before .before .before .before .before .before .before .before .before .args in
     let ts = pickedFrom (now (a .leafs)) (a .k) 0 (pointsAt (now (a .strip)) (a .points .at) (length (now (a .leafs)))) in
-    laid-some (cat (pointItems (a .points .lo) (a .points .size) ts)) (length-points (a .points .lo) (a .points .size) ts ∙ ap (λ (j : ℕ). 8 * j) (sym (c .before .before .before .before .before .before .before .before .before .before .before .before .before .pre .1))) (λ e. c .before .before .before .before .before .before .before .before .before .if1 .left (omega arith)) (c .before .before .before .before .before .before .before .pad .ensures .0) (c .before .before .before .before .before .before .before .pad .ensures .1) (c .before .before .before .put-points .ensures) (c .alloc .ensures)
+    laid-some (cat (pointItems (a .points .lo) (a .points .size) ts)) (length-points (a .points .lo) (a .points .size) ts ∙ ap (λ (j : ℕ). 8 * j) (sym (c .before .before .before .before .before .before .before .before .before .before .before .before .before .pre .1))) (omega (arith, c .before .before .before .before .before .before .before .before .before .if1 .left)) (c .before .before .before .before .before .before .before .pad .ensures .0) (c .before .before .before .before .before .before .before .pad .ensures .1) (c .before .before .before .put-points .ensures) (c .alloc .ensures)
 
 pub lay-points-spec : {M : Type 1} → statement M
 lay-points-spec =

@@ -13,7 +13,7 @@ use Rattle.strip.specs.Cell.{Point}
 use Rattle.strip.specs.Reading.{pointAt, pointsAt}
 use Rattle.pages.specs.Sectors.{pointItems}
 use Rattle.quadtree.specs.Work.{pickedFrom}
-use Rattle.quadtree.proofs.Picks.{keep-length}
+use Rattle.pages.proofs.Lists.{keep-length}
 use Rattle.sectors.proofs.Keeping.{put-point, points-turn, points-end}
 use Rattle.sectors.proofs.put_points.Statement.{statement}
 use Rattle.sectors.proofs.put_points.Tie as tie

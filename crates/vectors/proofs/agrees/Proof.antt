@@ -1,6 +1,6 @@
 -- `vectors::agrees` meets its contract: each kind has its callee's promise.
+use mathlib.Core.Bool.{false≢true}
 use Rattle.vectors.specs.Agreement.{as-short, as-back, as-quarter, as-areas, as-place, as-strip}
-use Rattle.vectors.proofs.Turns.{never}
 use borrow.Author.Needs.{needs}
 use Rattle.vectors.proofs.agrees.Statement.{statement}
 use Rattle.vectors.proofs.agrees.Tie as tie
@@ -42,10 +42,10 @@ returns-6 : tie.Need-returns-6
 returns-6 c = λ h. rw (c .before .match .keys6) (as-strip (c .strip-agrees .ensures h))
 
 returns-7 : tie.Need-returns-7
-returns-7 c = λ h. never h
+returns-7 c = λ h. absurd (false≢true h)
 
 returns-8 : tie.Need-returns-8
-returns-8 c = λ h. never h
+returns-8 c = λ h. absurd (false≢true h)
 
 pub agrees-spec : {M : Type 1} → statement M
 agrees-spec =

@@ -1,6 +1,6 @@
 -- `vectors::areas_agree` meets its contract: its callees' equations.
+use mathlib.Core.Bool.{false≢true}
 use mathlib.Core.Path.{_∙_}
-use Rattle.vectors.proofs.Turns.{never}
 use borrow.Author.Needs.{needs}
 use Rattle.vectors.proofs.areas_agree.Statement.{statement}
 use Rattle.vectors.proofs.areas_agree.Tie as tie
@@ -21,10 +21,10 @@ cast-len : tie.Need-cast-len
 cast-len c = search needs
 
 returns : tie.Need-returns
-returns c = λ h. never h
+returns c = λ h. absurd (false≢true h)
 
 returns-2 : tie.Need-returns-2
-returns-2 c = λ h. never h
+returns-2 c = λ h. absurd (false≢true h)
 
 ids-agree-requires : tie.Need-ids-agree-requires
 ids-agree-requires c κs = search needs

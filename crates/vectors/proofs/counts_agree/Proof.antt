@@ -1,7 +1,7 @@
 -- `vectors::counts_agree` meets its contract: its callees' equations.
+use mathlib.Core.Bool.{false≢true}
 use mathlib.Core.Path.{_∙_}
 use borrow.Author.Tests.{eqb-true}
-use Rattle.vectors.proofs.Turns.{never}
 use borrow.Author.Needs.{needs}
 use Rattle.vectors.proofs.counts_agree.Statement.{statement}
 use Rattle.vectors.proofs.counts_agree.Tie as tie
@@ -34,10 +34,10 @@ element-copy-out-c : tie.Need-element-copy-out-c
 element-copy-out-c c = search needs
 
 returns : tie.Need-returns
-returns c = λ h. never h
+returns c = λ h. absurd (false≢true h)
 
 returns-2 : tie.Need-returns-2
-returns-2 c = λ h. never h
+returns-2 c = λ h. absurd (false≢true h)
 
 returns-3 : tie.Need-returns-3
 returns-3 c = λ h. record {

@@ -1,10 +1,10 @@
 -- `vectors::ids_agree` meets its contract. The loop's invariant: the words passed agree. The measure is how many are left.
+use mathlib.Core.Bool.{false≢true}
 use Prim.Native.Nat.{ℕ, _+_, _-_, _≤_, _<_}
 use native.Mathlib.Omega.{arith}
 use mathlib.Core.Path.{_≡_, _∙_}
 use lib.ListN.{getD}
 use borrow.Author.Count.{below-none, below-more}
-use Rattle.vectors.proofs.Turns.{never}
 use borrow.Author.Needs.{needs}
 use Rattle.vectors.proofs.ids_agree.Statement.{statement}
 use Rattle.vectors.proofs.ids_agree.Tie as tie
@@ -31,7 +31,7 @@ element-copy-out-found : tie.Need-element-copy-out-found Inv-loop μ-loop
 element-copy-out-found c = search needs
 
 returns : tie.Need-returns Inv-loop μ-loop
-returns c = λ h. never h
+returns c = λ h. absurd (false≢true h)
 
 add-k : tie.Need-add-k Inv-loop μ-loop
 add-k c = search needs

@@ -1,6 +1,6 @@
 -- `vectors::quarter_agrees` meets its contract: its callees' equations.
+use mathlib.Core.Bool.{false≢true}
 use borrow.Author.Tests.{eqb-true}
-use Rattle.vectors.proofs.Turns.{never}
 use borrow.Author.Needs.{needs}
 use Rattle.vectors.proofs.quarter_agrees.Statement.{statement}
 use Rattle.vectors.proofs.quarter_agrees.Tie as tie
@@ -24,7 +24,7 @@ returns : tie.Need-returns
 returns c = λ h. (cc (c .before .before .if1 .taken), cc (eqb-true (c .before .leaf-quarter2 .result) (c .word3 .result) h))
 
 returns-2 : tie.Need-returns-2
-returns-2 c = λ h. never h
+returns-2 c = λ h. absurd (false≢true h)
 
 pub quarter-agrees-spec : {M : Type 1} → statement M
 quarter-agrees-spec =

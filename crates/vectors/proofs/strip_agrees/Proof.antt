@@ -1,10 +1,10 @@
 -- `vectors::strip_agrees` meets its contract: its callees' equations.
+use mathlib.Core.Bool.{false≢true}
 use Prim.Native.Nat.{ℕ}
 use mathlib.Core.Path.{sym, subst, _∙_}
 use mathlib.Core.List.{List}
 use denote.Ref.{now}
 use Rattle.vectors.specs.Agreement.{FirstThree}
-use Rattle.vectors.proofs.Turns.{never}
 use borrow.Author.Needs.{needs}
 use Rattle.vectors.proofs.strip_agrees.Statement.{statement}
 use Rattle.vectors.proofs.strip_agrees.Tie as tie
@@ -25,7 +25,7 @@ returns c = λ h. (
 )
 
 returns-2 : tie.Need-returns-2
-returns-2 c = λ h. never h
+returns-2 c = λ h. absurd (false≢true h)
 
 pub strip-agrees-spec : {M : Type 1} → statement M
 strip-agrees-spec =

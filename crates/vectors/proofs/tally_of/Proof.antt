@@ -3,8 +3,8 @@ use Prim.Native.Nat.{_-_, _≤_}
 use native.Mathlib.Omega.{arith}
 use mathlib.Core.Path.{refl}
 use lib.ListN.{length}
-use Rattle.vectors.specs.Agreement.{Tallied}
-use Rattle.vectors.proofs.Turns.{later}
+use Rattle.replay.specs.Tallies.{Tallied}
+use Rattle.replay.proofs.Tallies.{later}
 use Rattle.vectors.proofs.tally_of.Statement.{statement}
 use Rattle.vectors.proofs.tally_of.Tie as tie
 

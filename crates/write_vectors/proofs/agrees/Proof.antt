@@ -1,7 +1,8 @@
 -- `write_vectors::agrees` meets its contract: what its callees say of the strip, the answer and the pages.
+use mathlib.Core.Bool.{false≢true}
 use native.Mathlib.Omega.{arith}
 use lib.ListN.{length-take}
-use Rattle.write_vectors.proofs.Records.{never, agreed}
+use Rattle.write_vectors.proofs.Records.{agreed}
 use borrow.Author.Needs.{needs}
 use Rattle.write_vectors.proofs.agrees.Statement.{statement}
 use Rattle.write_vectors.proofs.agrees.Tie as tie
@@ -13,7 +14,7 @@ returns : tie.Need-returns
 returns c = λ h. agreed _ _ (c .before .before .before .before .before .before .before .before .before .before .before .before .before .before .before .args .r) (c .before .before .before .before .before .before .before .before .before .before .before .before .before .strip-room .result) _ (c .before .before .before .before .before .before .before .before .untouched .result) _ _ (c .before .before .before .before .before .before .before .before .before .before .before .before .before .strip-room .ensures) (c .before .before .before .before .before .before .before .before .before .before .make-strip .ensures .0 .1) (c .before .before .before .before .before .before .before .before .untouched .ensures .0) (c .before .before .before .before .before .before .before .before .untouched .ensures .1) (c .before .before .before .before .before .write-record .ensures .0) (c .before .before .before .answer-agrees .ensures (c .before .before .if1 .taken)) (c .before .before .before .before .before .write-record .ensures .1) (c .pages-agree .ensures h)
 
 returns-2 : tie.Need-returns-2
-returns-2 c = λ h. never h
+returns-2 c = λ h. absurd (false≢true h)
 
 pub agrees-spec : {M : Type 1} → statement M
 agrees-spec =

@@ -1,10 +1,10 @@
 -- `write_vectors::bytes_agree` meets its contract. The loop's invariant: the bytes passed agree. The measure is how many are left.
+use mathlib.Core.Bool.{false≢true}
 use Prim.Native.Nat.{ℕ, _-_, _≤_, _<_}
 use native.Mathlib.Omega.{arith}
 use mathlib.Core.Path.{_≡_}
 use lib.ListN.{length, getD}
 use borrow.Author.Count.{below-none, below-more}
-use Rattle.write_vectors.proofs.Records.{never}
 use Rattle.write_vectors.proofs.bytes_agree.Statement.{statement}
 use Rattle.write_vectors.proofs.bytes_agree.Tie as tie
 
@@ -15,7 +15,7 @@ abbrev μ-loop : tie.MeasureT-loop
 μ-loop told pages k₀ k = length told - k
 
 returns : tie.Need-returns Inv-loop μ-loop
-returns c = λ h. never h
+returns c = λ h. absurd (false≢true h)
 
 loop-holds : tie.Need-loop-holds Inv-loop μ-loop
 loop-holds c = (omega arith, omega arith, below-none _)
@@ -27,7 +27,7 @@ shared-slice-read-if2-2 : tie.Need-shared-slice-read-if2-2 Inv-loop μ-loop
 shared-slice-read-if2-2 c = omega arith
 
 returns-2 : tie.Need-returns-2 Inv-loop μ-loop
-returns-2 c = λ h. never h
+returns-2 c = λ h. absurd (false≢true h)
 
 add-k : tie.Need-add-k Inv-loop μ-loop
 add-k c = omega arith

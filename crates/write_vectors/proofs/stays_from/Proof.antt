@@ -1,10 +1,10 @@
 -- `write_vectors::stays_from` meets its contract. The loop's invariant: the bytes passed are as they were. The measure is how many are left.
+use mathlib.Core.Bool.{false≢true}
 use Prim.Native.Nat.{ℕ, _-_, _≤_, _<_}
 use native.Mathlib.Omega.{arith}
 use mathlib.Core.Path.{_≡_}
 use lib.ListN.{length, getD}
 use borrow.Author.Count.{below-more}
-use Rattle.write_vectors.proofs.Records.{never}
 use Rattle.write_vectors.proofs.stays_from.Statement.{statement}
 use Rattle.write_vectors.proofs.stays_from.Tie as tie
 
@@ -21,7 +21,7 @@ shared-slice-read-if1 : tie.Need-shared-slice-read-if1 Inv-loop μ-loop
 shared-slice-read-if1 c = omega arith
 
 returns : tie.Need-returns Inv-loop μ-loop
-returns c = λ h. never h
+returns c = λ h. absurd (false≢true h)
 
 add-k : tie.Need-add-k Inv-loop μ-loop
 add-k c = omega arith

@@ -1,7 +1,7 @@
 -- `finite_box` meets its contract. One test after the other.
-use Rattle.ynv_read.proofs.Heads.{failed, passed}
+use Rattle.strip.proofs.Box.{failed, passed}
 use Rattle.grammar.specs.Derives.{headOf}
-use Rattle.ynv_read.specs.Reading.{finiteBox}
+use Rattle.strip.specs.Box.{finiteBox}
 use borrow.Author.Needs.{needs}
 use Rattle.ynv_read.proofs.finite_box.Statement.{statement}
 use Rattle.ynv_read.proofs.finite_box.Tie as tie

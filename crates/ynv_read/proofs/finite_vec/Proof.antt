@@ -1,8 +1,8 @@
 -- `finite_vec` meets its contract. One test after the other.
 use mathlib.Core.Path.{ap, _∙_}
-use Rattle.ynv_read.proofs.Heads.{failed, passed}
+use Rattle.strip.proofs.Box.{failed, passed}
 use Rattle.grammar.specs.Derives.{vecOf}
-use Rattle.ynv_read.specs.Reading.{finite}
+use Rattle.strip.specs.Box.{finite}
 use Prim.Native.Nat.{ℕ}
 use borrow.Author.Needs.{needs}
 use Rattle.ynv_read.proofs.finite_vec.Statement.{statement}

@@ -4,19 +4,13 @@ use lib.ListN.{length, length-take}
 use borrow.Author.Needs.{needs}
 use Rattle.ynv_write.proofs.area_count.Statement.{statement}
 use Rattle.ynv_write.proofs.area_count.Tie as tie
-use Rattle.ynv_write.proofs.area_count.Reads as reads
-use Rattle.ynv_write.proofs.area_count.Lts as lts
-use Rattle.blocks.proofs.least.Reads as least-reads
 
--- src/lib.rt:189:5
 least-requires : tie.Need-least-requires
 least-requires c κs = search needs
 
--- src/lib.rt:189:5
 cast-result : tie.Need-cast-result
 cast-result c = search needs
 
--- src/lib.rt:186:1
 returns : tie.Need-returns
 returns c =
     let a = c .before .args .areas in

@@ -7,19 +7,10 @@ use Rattle.front.proofs.Planned.{link-count}
 use Rattle.ynv_write.proofs.Whole.{near, few, filled}
 use Rattle.ynv_write.proofs.fill.Statement.{statement}
 use Rattle.ynv_write.proofs.fill.Tie as tie
-use Rattle.ynv_write.proofs.fill.Reads as reads
-use Rattle.ynv_write.proofs.fill.Lts as lts
-use Rattle.front.proofs.put_header.Reads as put-header-reads
-use Rattle.ynv_write.proofs.addresses.Reads as addresses-reads
-use Rattle.ynv_write.proofs.fill_lists.Reads as fill-lists-reads
-use Rattle.ynv_write.proofs.fill_rest.Reads as fill-rest-reads
-use Rattle.ynv_write.proofs.totals.Reads as totals-reads
 
--- src/lib.rt:212:9
 fill-lists-requires : tie.Need-fill-lists-requires
 fill-lists-requires c κs = c .before .before .before .before .before .pre .0
 
--- src/lib.rt:213:9
 fill-rest-requires : tie.Need-fill-rest-requires
 fill-rest-requires c κs =
     let s = c .before .before .before .before .before .before .before .before .before .before .before .before .args .strip .now in
@@ -28,7 +19,6 @@ fill-rest-requires c κs =
     let R = c .before .before .before .before .before .before .before .before .before .before .before .before .pre .0 in
     (c .before .before .before .before .before .before .fill-lists .ensures .1 .kept, link-count s w d R, c .before .before .before .before .before .before .fill-lists .ensures .0 .polygons)
 
--- src/lib.rt:214:9
 addresses-requires : tie.Need-addresses-requires
 addresses-requires c κs =
     let s = c .before .before .before .before .before .before .before .before .before .before .before .before .before .before .before .args .strip .now in
@@ -37,7 +27,6 @@ addresses-requires c κs =
     let R = c .before .before .before .before .before .before .before .before .before .before .before .before .before .before .before .pre .0 in
     near s w d R (c .before .before .before .before .before .before .before .before .before .fill-lists .ensures .0) (c .before .before .fill-rest .ensures)
 
--- src/lib.rt:215:9
 totals-requires : tie.Need-totals-requires
 totals-requires c κs =
     let s = c .before .before .before .before .before .before .before .before .before .before .before .before .before .before .before .before .args .strip .now in
@@ -46,11 +35,9 @@ totals-requires c κs =
     let R = c .before .before .before .before .before .before .before .before .before .before .before .before .before .before .before .before .pre .0 in
     few s w d R (c .before .before .before .before .before .before .before .before .before .before .before .before .before .before .before .before .args .bytes) (c .before .before .before .before .before .before .before .before .before .before .before .before .before .before .before .before .pre .1)
 
--- src/lib.rt:217:5
 put-header-requires : tie.Need-put-header-requires
 put-header-requires c κs = c .before .before .before .before .before .before .before .before .before .before .before .before .before .before .before .before .before .before .before .pre .0 .long
 
--- src/lib.rt:208:1
 returns : tie.Need-returns
 returns c =
     let s = c .before .before .before .before .before .before .before .before .before .before .before .before .before .before .before .before .before .before .before .before .before .before .args .strip .now in
@@ -59,11 +46,9 @@ returns c =
     let R = c .before .before .before .before .before .before .before .before .before .before .before .before .before .before .before .before .before .before .before .before .before .before .pre .0 in
     filled s w d R (c .before .before .before .before .before .before .before .before .before .before .before .before .before .before .before .before .fill-lists .ensures .0) (c .before .before .before .before .before .before .before .before .before .fill-rest .ensures) (c .before .before .before .before .before .before .before .before .before .before .before .before .before .before .before .before .fill-lists .ensures .1) _ (c .before .before .before .before .before .before .addresses .ensures) _ (c .before .before .before .before .before .before .before .before .before .before .before .before .before .before .before .before .before .before .before .before .before .before .pre .1) _ (c .before .before .before .before .before .totals .ensures) (c .before .before .put-header .ensures)
 
--- src/lib.rt:208:1
 same-length : tie.Need-same-length
 same-length c = search needs
 
--- src/lib.rt:208:1
 same-length-2 : tie.Need-same-length-2
 same-length-2 c = ap length (returns c .bytes) ∙ length-put 0 _ _
 

@@ -9,30 +9,16 @@ use Rattle.ynv_write.proofs.Lists.{header-end, vertices-ask, indices-as
 use borrow.Author.Needs.{needs}
 use Rattle.ynv_write.proofs.fill_lists.Statement.{statement}
 use Rattle.ynv_write.proofs.fill_lists.Tie as tie
-use Rattle.ynv_write.proofs.fill_lists.Reads as reads
-use Rattle.ynv_write.proofs.fill_lists.Lts as lts
-use Rattle.blocks.proofs.Layout.alloc.Reads as alloc-reads
-use Rattle.blocks.proofs.Layout.new.Reads as new-reads
-use Rattle.decide.proofs.chain_count.Reads as chain-count-reads
-use Rattle.decide.proofs.tables_end.Reads as tables-end-reads
-use Rattle.items.proofs.lay_indices.Reads as lay-indices-reads
-use Rattle.items.proofs.lay_polygons.Reads as lay-polygons-reads
-use Rattle.items.proofs.lay_vertices.Reads as lay-vertices-reads
-use Rattle.ynv_write.proofs.fill_edges.Reads as fill-edges-reads
 
--- src/lib.rt:89:9
 chain-count-requires : tie.Need-chain-count-requires
 chain-count-requires c κs = search needs
 
--- src/lib.rt:93:18
 new-requires : tie.Need-new-requires
 new-requires c κs = search needs
 
--- src/lib.rt:93:9
 alloc-requires : tie.Need-alloc-requires
 alloc-requires c κs = rw (c .new .ensures) (omega (arith, place-near 0 368))
 
--- src/lib.rt:94:9
 lay-vertices-requires : tie.Need-lay-vertices-requires
 lay-vertices-requires c κs =
     let s = c .before .before .before .before .before .before .before .before .before .args .strip .now in
@@ -42,15 +28,12 @@ lay-vertices-requires c κs =
     let e0 : c .before .before .alloc .result .at ≡ endHeader (counts (cellAt s (d .counts))) (sectors (cellAt s (d .counts))) = header-end _ (c .before .before .alloc .ensures ∙ rw (c .before .before .before .new .ensures)) in
     vertices-ask s w d R _ e0 _ (c .before .before .before .before .before .chain-count .ensures)
 
--- src/lib.rt:95:66
 mul-lay-indices : tie.Need-mul-lay-indices
 mul-lay-indices c = search needs
 
--- src/lib.rt:95:61
 add-lay-indices : tie.Need-add-lay-indices
 add-lay-indices c = search needs
 
--- src/lib.rt:95:9
 lay-indices-requires : tie.Need-lay-indices-requires
 lay-indices-requires c κs =
     let s = c .before .before .before .before .before .before .before .before .before .before .before .before .before .before .args .strip .now in
@@ -61,7 +44,6 @@ lay-indices-requires c κs =
     let v = vertices-step s w d R e0 (c .before .before .before .before .before .before .before .before .before .before .chain-count .result) (c .before .before .before .before .before .before .before .before .before .before .chain-count .ensures) (c .before .before .before .before .lay-vertices .ensures) in
     indices-ask s w d R _ (v .0) _ (c .before .before .before .before .before .before .before .before .before .before .chain-count .ensures)
 
--- src/lib.rt:96:9
 fill-edges-requires : tie.Need-fill-edges-requires
 fill-edges-requires c κs =
     let s = c .before .before .before .before .before .before .before .before .before .before .before .before .before .before .before .before .before .before .before .args .strip .now in
@@ -73,31 +55,24 @@ fill-edges-requires c κs =
     let i = indices-step s w d R (v .0) (c .before .before .before .before .before .before .before .before .before .before .before .before .before .before .before .chain-count .result) (c .before .before .before .before .before .before .before .before .before .before .before .before .before .before .before .chain-count .ensures) (c .before .before .before .before .lay-indices .ensures) in
     edges-ask s w d R _ (i .0) _ (c .before .before .before .before .before .before .before .before .before .before .before .before .before .before .before .chain-count .ensures)
 
--- src/lib.rt:97:9
 tables-end-requires : tie.Need-tables-end-requires
 tables-end-requires c κs = search needs
 
--- src/lib.rt:98:23
 mul-end : tie.Need-mul-end
 mul-end c = omega (arith, c .before .before .before .before .before .before .before .before .before .before .before .before .before .before .before .before .before .before .before .before .before .before .before .before .before .pre .held .room, c .before .before .before .before .before .before .before .before .before .before .before .before .before .before .before .before .before .before .before .before .before .before .before .before .before .good)
 
--- src/lib.rt:98:15
 add-end : tie.Need-add-end
 add-end c = omega (arith, c .before .before .before .before .before .before .before .before .before .before .before .before .before .before .before .before .before .before .before .before .before .before .before .before .before .pre .held .room, c .tables-end .ensures, c .before .before .before .before .before .before .before .before .before .before .before .before .before .before .before .before .before .before .before .before .before .before .before .before .before .good)
 
--- src/lib.rt:99:64
 mul-lay-polygons : tie.Need-mul-lay-polygons
 mul-lay-polygons c = omega (arith, c .before .before .before .before .before .before .before .before .before .before .before .before .before .before .before .before .before .before .before .before .before .before .before .before .before .before .pre .held .room, c .before .tables-end .ensures, c .before .before .before .before .before .before .before .before .before .before .before .before .before .before .before .before .before .before .before .before .before .before .before .before .before .before .good)
 
--- src/lib.rt:99:64
 sub-lay-polygons : tie.Need-sub-lay-polygons
 sub-lay-polygons c = search needs
 
--- src/lib.rt:99:64
 part-lay-polygons-start : tie.Need-part-lay-polygons-start
 part-lay-polygons-start c = search needs
 
--- src/lib.rt:99:64
 part-lay-polygons-end : tie.Need-part-lay-polygons-end
 part-lay-polygons-end c =
     let s = c .before .before .before .before .before .before .before .before .before .before .before .before .before .before .before .before .before .before .before .before .before .before .before .before .before .before .before .args .strip .now in
@@ -107,7 +82,6 @@ part-lay-polygons-end c =
     let k = work-left s w d R (idsOf (d .areas)) (c .before .before .before .before .before .before .before .before .before .before .before .before .before .before .before .before .before .before .before .before .before .before .before .chain-count .result) (c .before .before .before .before .before .before .before .before .before .before .before .before .before .before .before .before .before .before .before .before .before .before .before .chain-count .ensures) _ (c .before .before .before .before .before .before .before .fill-edges .ensures .1) in
     omega (arith, k .kept .held .room, c .before .before .tables-end .ensures)
 
--- src/lib.rt:99:9
 lay-polygons-requires : tie.Need-lay-polygons-requires
 lay-polygons-requires c κs =
     let s = c .before .before .before .before .before .before .before .before .before .before .before .before .before .before .before .before .before .before .before .before .before .before .before .before .before .before .before .before .args .strip .now in
@@ -120,15 +94,12 @@ lay-polygons-requires c κs =
     let e = edges-step s w d R (i .0) (c .before .before .before .before .before .before .before .before .fill-edges .ensures .0) in
     polygons-ask s w d R (idsOf (d .areas)) (c .before .before .before .before .before .before .before .before .before .before .before .before .before .before .before .before .before .before .before .before .before .before .before .before .chain-count .result) (c .before .before .before .before .before .before .before .before .before .before .before .before .before .before .before .before .before .before .before .before .before .before .before .before .chain-count .ensures) _ (c .before .before .before .before .before .before .before .before .fill-edges .ensures .1) _ (e .0) _ (c .before .before .before .tables-end .ensures)
 
--- src/lib.rt:83:1
 same-length : tie.Need-same-length
 same-length c = search needs
 
--- src/lib.rt:83:1
 same-length-2 : tie.Need-same-length-2
 same-length-2 c = search needs
 
--- src/lib.rt:83:1
 returns : tie.Need-returns
 returns c =
     let s = c .before .before .before .before .before .before .before .before .before .before .before .before .before .before .before .before .before .before .before .before .before .before .before .before .before .before .before .before .before .before .before .args .strip .now in

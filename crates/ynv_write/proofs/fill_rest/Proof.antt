@@ -4,46 +4,31 @@ use Rattle.ynv_write.proofs.Rest.{portals-ask, links-ask, rest-filled}
 use borrow.Author.Needs.{needs}
 use Rattle.ynv_write.proofs.fill_rest.Statement.{statement}
 use Rattle.ynv_write.proofs.fill_rest.Tie as tie
-use Rattle.ynv_write.proofs.fill_rest.Reads as reads
-use Rattle.ynv_write.proofs.fill_rest.Lts as lts
-use Rattle.decide.proofs.floats_at.Reads as floats-at-reads
-use Rattle.front.proofs.lay_links.Reads as lay-links-reads
-use Rattle.front.proofs.lay_portals.Reads as lay-portals-reads
-use Rattle.ynv_write.proofs.fill_sectors.Reads as fill-sectors-reads
 
--- src/lib.rt:155:9
 floats-at-requires : tie.Need-floats-at-requires
 floats-at-requires c κs = search needs
 
--- src/lib.rt:156:9
 floats-at-requires-2 : tie.Need-floats-at-requires-2
 floats-at-requires-2 c κs = search needs
 
--- src/lib.rt:157:9
 fill-sectors-requires : tie.Need-fill-sectors-requires
 fill-sectors-requires c κs = search needs
 
--- src/lib.rt:159:17
 sub-first : tie.Need-sub-first
 sub-first c = search needs
 
--- src/lib.rt:159:35
 mul-first : tie.Need-mul-first
 mul-first c = search needs
 
--- src/lib.rt:159:17
 sub-first-2 : tie.Need-sub-first-2
 sub-first-2 c = search needs
 
--- src/lib.rt:159:55
 mul-first-2 : tie.Need-mul-first-2
 mul-first-2 c = search needs
 
--- src/lib.rt:159:17
 sub-first-3 : tie.Need-sub-first-3
 sub-first-3 c = search needs
 
--- src/lib.rt:160:9
 lay-portals-requires : tie.Need-lay-portals-requires
 lay-portals-requires c κs =
     let s = c .before .before .before .before .before .before .before .before .before .before .before .before .before .before .args .strip .now in
@@ -52,7 +37,6 @@ lay-portals-requires c κs =
     let K = c .before .before .before .before .before .before .before .before .before .before .before .before .before .before .pre .0 in
     portals-ask s w n K (c .before .before .before .before .before .before .fill-sectors .ensures) _ refl
 
--- src/lib.rt:161:9
 lay-links-requires : tie.Need-lay-links-requires
 lay-links-requires c κs =
     let s = c .before .before .before .before .before .before .before .before .before .before .before .before .before .before .before .before .before .before .args .strip .now in
@@ -61,11 +45,9 @@ lay-links-requires c κs =
     let K = c .before .before .before .before .before .before .before .before .before .before .before .before .before .before .before .before .before .before .pre .0 in
     links-ask s w n K (c .before .before .before .before .before .before .before .before .before .before .fill-sectors .ensures) _ refl _ _ (c .before .before .before .before .before .before .before .before .before .before .before .before .before .floats-at .ensures) (c .before .before .before .before .before .before .before .before .before .before .before .before .floats-at2 .ensures) (c .before .before .before .lay-portals .ensures) _ (c .before .before .before .before .before .before .before .before .before .before .before .before .before .before .before .before .before .before .pre .1)
 
--- src/lib.rt:143:1
 same-length : tie.Need-same-length
 same-length c = search needs
 
--- src/lib.rt:143:1
 returns : tie.Need-returns
 returns c =
     let s = c .before .before .before .before .before .before .before .before .before .before .before .before .before .before .before .before .before .before .before .before .before .args .strip .now in

@@ -5,63 +5,43 @@ use Rattle.ynv_write.proofs.Tree.{points-inside, leaves-few, sectors-as
 use borrow.Author.Needs.{needs}
 use Rattle.ynv_write.proofs.fill_sectors.Statement.{statement}
 use Rattle.ynv_write.proofs.fill_sectors.Tie as tie
-use Rattle.ynv_write.proofs.fill_sectors.Reads as reads
-use Rattle.ynv_write.proofs.fill_sectors.Lts as lts
-use Rattle.decide.proofs.floats_at.Reads as floats-at-reads
-use Rattle.decide.proofs.tables_end.Reads as tables-end-reads
-use Rattle.plan.proofs.root_box.Reads as root-box-reads
-use Rattle.quadtree.proofs.boxes.depth_of.Reads as depth-of-reads
-use Rattle.sectors.proofs.write_sector.Reads as write-sector-reads
 
--- src/lib.rt:122:9
 tables-end-requires : tie.Need-tables-end-requires
 tables-end-requires c κs = search needs
 
--- src/lib.rt:123:20
 mul-mid : tie.Need-mul-mid
 mul-mid c = search needs
 
--- src/lib.rt:123:15
 add-mid : tie.Need-add-mid
 add-mid c = search needs
 
--- src/lib.rt:124:15
 add-end : tie.Need-add-end
 add-end c = search needs
 
--- src/lib.rt:125:9
 root-box-requires : tie.Need-root-box-requires
 root-box-requires c κs = search needs
 
--- src/lib.rt:126:9
 floats-at-requires : tie.Need-floats-at-requires
 floats-at-requires c κs = search needs
 
--- src/lib.rt:127:9
 floats-at-requires-2 : tie.Need-floats-at-requires-2
 floats-at-requires-2 c κs = search needs
 
--- src/lib.rt:129:13
 sub-write-sector : tie.Need-sub-write-sector
 sub-write-sector c = search needs
 
--- src/lib.rt:129:31
 mul-write-sector : tie.Need-mul-write-sector
 mul-write-sector c = search needs
 
--- src/lib.rt:129:13
 sub-write-sector-2 : tie.Need-sub-write-sector-2
 sub-write-sector-2 c = search needs
 
--- src/lib.rt:138:43
 shared-slice-read-depth-of : tie.Need-shared-slice-read-depth-of
 shared-slice-read-depth-of c = search needs
 
--- src/lib.rt:138:9
 depth-of-requires : tie.Need-depth-of-requires
 depth-of-requires c κs = search needs
 
--- src/lib.rt:139:50
 mul-write-sector-2 : tie.Need-mul-write-sector-2
 mul-write-sector-2 c =
     let s = c .before .before .before .before .before .before .before .before .before .before .before .before .before .args .strip .now in
@@ -70,15 +50,12 @@ mul-write-sector-2 c =
     let K = c .before .before .before .before .before .before .before .before .before .before .before .before .before .pre .0 in
     omega (arith, K .held .room, c .before .before .before .before .before .before .before .before .before .tables-end .ensures, c .before .before .before .before .before .before .before .before .before .before .before .before .before .good)
 
--- src/lib.rt:139:50
 sub-write-sector-3 : tie.Need-sub-write-sector-3
 sub-write-sector-3 c = search needs
 
--- src/lib.rt:139:50
 part-write-sector-start : tie.Need-part-write-sector-start
 part-write-sector-start c = search needs
 
--- src/lib.rt:139:50
 part-write-sector-end : tie.Need-part-write-sector-end
 part-write-sector-end c =
     let s = c .before .before .before .before .before .before .before .before .before .before .before .before .before .args .strip .now in
@@ -87,7 +64,6 @@ part-write-sector-end c =
     let K = c .before .before .before .before .before .before .before .before .before .before .before .before .before .pre .0 in
     omega (arith, K .held .room, c .before .before .before .before .before .before .before .before .before .tables-end .ensures)
 
--- src/lib.rt:139:66
 mul-write-sector-3 : tie.Need-mul-write-sector-3
 mul-write-sector-3 c =
     let s = c .before .before .before .before .before .before .before .before .before .before .before .before .before .before .args .strip .now in
@@ -96,15 +72,12 @@ mul-write-sector-3 c =
     let K = c .before .before .before .before .before .before .before .before .before .before .before .before .before .before .pre .0 in
     omega (arith, K .held .room, c .before .before .before .before .before .before .before .before .before .before .tables-end .ensures, c .before .before .before .before .before .before .before .before .before .before .before .before .before .before .good)
 
--- src/lib.rt:139:66
 sub-write-sector-4 : tie.Need-sub-write-sector-4
 sub-write-sector-4 c = search needs
 
--- src/lib.rt:139:66
 part-write-sector-start-2 : tie.Need-part-write-sector-start-2
 part-write-sector-start-2 c = search needs
 
--- src/lib.rt:139:66
 part-write-sector-end-2 : tie.Need-part-write-sector-end-2
 part-write-sector-end-2 c =
     let s = c .before .before .before .before .before .before .before .before .before .before .before .before .before .before .args .strip .now in
@@ -113,7 +86,6 @@ part-write-sector-end-2 c =
     let K = c .before .before .before .before .before .before .before .before .before .before .before .before .before .before .pre .0 in
     omega (arith, K .held .room, c .before .before .before .before .before .before .before .before .before .before .tables-end .ensures)
 
--- src/lib.rt:139:5
 write-sector-requires : tie.Need-write-sector-requires
 write-sector-requires c κs =
     let s = c .before .before .before .before .before .before .before .before .before .before .before .before .before .before .before .args .strip .now in
@@ -127,11 +99,9 @@ write-sector-requires c κs =
       sectors-ask s w n K (c .before .before .before .before .before .before .before .before .before .before .before .tables-end .result) (c .before .before .before .before .before .before .before .before .before .before .before .tables-end .ensures) _ _ _ refl (c .before .before .before .depth-of .ensures .0) (c .before .before .before .before .before .before .before .before .root-box .ensures) _ (c .before .before .before .before .before .before .before .before .before .before .before .before .before .before .before .pre .1),
     )
 
--- src/lib.rt:112:1
 same-length : tie.Need-same-length
 same-length c = search needs
 
--- src/lib.rt:112:1
 returns : tie.Need-returns
 returns c =
     let s = c .before .before .before .before .before .before .before .before .before .before .before .before .before .before .before .before .before .before .args .strip .now in

@@ -11,21 +11,13 @@ use Rattle.ynv_write.proofs.Whole.{refuses, too-short, writes, told}
 use borrow.Author.Needs.{needs}
 use Rattle.ynv_write.proofs.serialize_ynv.Statement.{statement}
 use Rattle.ynv_write.proofs.serialize_ynv.Tie as tie
-use Rattle.ynv_write.proofs.serialize_ynv.Reads as reads
-use Rattle.ynv_write.proofs.serialize_ynv.Lts as lts
-use Rattle.front.proofs.ends.pages_end.Reads as pages-end-reads
-use Rattle.plan.proofs.plan.Reads as plan-reads
-use Rattle.ynv_write.proofs.fill.Reads as fill-reads
 
--- src/lib.rt:226:9
 plan-requires : tie.Need-plan-requires
 plan-requires c κs = search needs
 
--- src/lib.rt:228:9
 same-length : tie.Need-same-length
 same-length c = search needs
 
--- src/lib.rt:228:9
 returns : tie.Need-returns
 returns c =
     let s = c .before .before .before .before .before .before .before .before .before .args .strip .now in
@@ -34,15 +26,12 @@ returns c =
     let no = refuses s w _ _ P (length (c .before .before .before .before .before .before .before .before .before .args .pages .now)) (c .if1 .taken) in
     (rw no, (rw no, P .long))
 
--- src/lib.rt:233:9
 pages-end-requires : tie.Need-pages-end-requires
 pages-end-requires c κs = ready _ _ _ _ (c .before .before .before .before .before .plan .ensures) (c .before .if1 .left)
 
--- src/lib.rt:236:9
 same-length-2 : tie.Need-same-length-2
 same-length-2 c = search needs
 
--- src/lib.rt:236:9
 returns-2 : tie.Need-returns-2
 returns-2 c =
     let s = c .before .before .before .before .before .before .before .before .before .before .before .before .args .strip .now in
@@ -51,19 +40,15 @@ returns-2 c =
     let short = too-short s w _ _ P (length (c .before .before .before .before .before .before .before .before .before .before .before .before .args .pages .now)) (c .before .before .before .if1 .left) (omega (arith, c .if2 .taken, c .before .pages-end .ensures .0)) in
     (rw short, (rw short, P .long))
 
--- src/lib.rt:241:5
 fill-requires : tie.Need-fill-requires
 fill-requires c κs = (ready _ _ _ _ (c .before .before .before .before .before .before .before .before .before .plan .ensures) (c .before .before .before .before .before .if1 .left), c .before .before .before .pages-end .ensures .1)
 
--- src/lib.rt:221:1
 same-length-3 : tie.Need-same-length-3
 same-length-3 c = search needs
 
--- src/lib.rt:221:1
 same-length-4 : tie.Need-same-length-4
 same-length-4 c = search needs
 
--- src/lib.rt:221:1
 returns-3 : tie.Need-returns-3
 returns-3 c =
     let s = c .before .before .before .before .before .before .before .before .before .before .before .before .before .before .before .before .before .before .before .args .strip .now in

@@ -5,71 +5,52 @@ use native.Mathlib.Omega.{arith}
 use borrow.Author.Needs.{needs}
 use Rattle.ynv_write.proofs.totals.Statement.{statement}
 use Rattle.ynv_write.proofs.totals.Tie as tie
-use Rattle.ynv_write.proofs.totals.Reads as reads
-use Rattle.ynv_write.proofs.totals.Lts as lts
-use Rattle.ynv_write.proofs.area_count.Reads as area-count-reads
 
--- src/lib.rt:198:17
 mul-items : tie.Need-mul-items
 mul-items c = search needs
 
--- src/lib.rt:198:34
 mul-items-2 : tie.Need-mul-items-2
 mul-items-2 c = search needs
 
--- src/lib.rt:198:17
 add-items : tie.Need-add-items
 add-items c = search needs
 
--- src/lib.rt:198:51
 mul-items-3 : tie.Need-mul-items-3
 mul-items-3 c = search needs
 
--- src/lib.rt:198:17
 add-items-2 : tie.Need-add-items-2
 add-items-2 c = search needs
 
--- src/lib.rt:198:71
 mul-items-4 : tie.Need-mul-items-4
 mul-items-4 c = search needs
 
--- src/lib.rt:198:17
 add-items-3 : tie.Need-add-items-3
 add-items-3 c = search needs
 
--- src/lib.rt:200:19
 cast-t12 : tie.Need-cast-t12
 cast-t12 c = search needs
 
--- src/lib.rt:201:18
 cast-t13 : tie.Need-cast-t13
 cast-t13 c = search needs
 
--- src/lib.rt:202:16
 area-count-requires : tie.Need-area-count-requires
 area-count-requires c κs = search needs
 
--- src/lib.rt:203:19
 cast-t15 : tie.Need-cast-t15
 cast-t15 c = search needs
 
--- src/lib.rt:205:18
 cast-t16 : tie.Need-cast-t16
 cast-t16 c = search needs
 
--- src/lib.rt:206:16
 cast-t17 : tie.Need-cast-t17
 cast-t17 c = search needs
 
--- src/lib.rt:207:24
 cast-t18 : tie.Need-cast-t18
 cast-t18 c = search needs
 
--- src/lib.rt:207:16
 add-t19 : tie.Need-add-t19
 add-t19 c = search needs
 
--- src/lib.rt:193:1
 returns : tie.Need-returns
 returns c =
     let d = c .before .before .before .before .before .before .before .before .before .before .before .args .d in

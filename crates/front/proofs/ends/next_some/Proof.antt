@@ -2,7 +2,7 @@
 use mathlib.Core.Path.{_∙_}
 use native.Mathlib.Omega.{arith}
 use Rattle.front.proofs.Behind.{reached-none}
-use Rattle.front.proofs.Optional.{size-some}
+use Rattle.pages.proofs.Optional.{size-some}
 use Rattle.front.proofs.ends.next_some.Statement.{statement}
 use Rattle.front.proofs.ends.next_some.Tie as tie
 

@@ -1,6 +1,5 @@
 -- `quadtree::boxes::leaf_of` meets its contract. Assumes nothing.
 use mathlib.Core.Path.{sym, _∙_}
-use native.Mathlib.Omega.{arith}
 use Rattle.pages.specs.Sectors.{leaves, leafOf}
 use Rattle.quadtree.proofs.Widths.{depth-two, depth-none}
 use Rattle.quadtree.proofs.Placing.{leaf-crossed}

@@ -1,0 +1,12 @@
+-- `replay::end_of` meets its contract.
+use Rattle.replay.specs.Ends.{endOf}
+use borrow.Author.Needs.{needs}
+use Rattle.replay.proofs.end_of.Statement.{statement}
+use Rattle.replay.proofs.end_of.Tie as tie
+
+returns : tie.Need-returns
+unfolding endOf
+returns c = search needs
+
+pub end-of-spec : {M : Type 1} → statement M
+end-of-spec = tie.close (tie.spec (λ c. search needs) (λ c κs. search needs) (λ c. search needs) returns)

@@ -1,0 +1,5 @@
+pub mod Ends
+pub mod Words
+pub mod Rooms
+pub mod Last
+pub mod Calls

@@ -1,0 +1,105 @@
+-- How many words the strip of a cell has, and that of the cell that is read again. Assumes nothing.
+use Prim.Native.Nat.{ℕ, _+_, _*_, _≤_}
+use mathlib.Core.Path.{_≡_, refl, sym, _∙_}
+use mathlib.Core.List.{List, [], _∷_, _++_, map}
+use native.Mathlib.Omega.{arith}
+use lib.ListN.{length, length-append, length-map}
+use Rattle.math.specs.declared.vec3.Vec3.{Vec3 as Floats}
+use Rattle.strip.specs.Cell.{Polygon, Cell, vecWords, edgeWords, each, headWords, polygonHeadAs, polygonWordsAs, polygonWords, portalWords, pointWords, endWords, encodeAs, encode}
+use Rattle.records.proofs.Items.{length-each}
+use Rattle.records.proofs.Stores.{portal-length}
+use Rattle.sector_tree.proofs.Stores.{point-length}
+use Rattle.polygon_words.proofs.Words.{vec-three, edge-six}
+use Rattle.ynv_read.proofs.Lengths.{head-length}
+use Rattle.pages.specs.Items.{gather, cornersIn, corners, linksOf}
+use Rattle.pages.specs.Sectors.{preorder, pointCount}
+use Rattle.pages.specs.Pages.{allCorners, loOf, extentOf, links, sectors}
+use Rattle.pages.specs.Reread.{edgeAgain, positionAgain, polygonAgain, portalAgain, pointAgain, reread}
+use Rattle.pages.specs.Accepted.{AllChecked}
+use Rattle.pages.proofs.Placed.{length-corners}
+use Rattle.pages.proofs.Stored.{length-preorder}
+
+-- ---- polygons
+
+polygon-words : (p : Polygon) → length (polygonWords p) ≡ 4 + length (p .links) + 3 * length (p .vertices) + 6 * length (p .edges)
+unfolding polygonWordsAs
+polygon-words p =
+    let front = polygonHeadAs 2 p ∷ p .flags0 ∷ p .flags1 ∷ p .flags2 ∷ p .links in
+    let vs = each vecWords (p .vertices) in
+    omega (arith, length-append (front ++ vs) (each edgeWords (p .edges)), length-append front vs, length-each vecWords 3 vec-three (p .vertices), length-each edgeWords 6 edge-six (p .edges))
+
+module _ (lo size : Floats) where
+  corner-count : (p : Polygon) → length (cornersIn lo size p) ≡ length (p .vertices)
+  corner-count p = length-corners lo size (p .vertices) (p .edges)
+
+  polygons-words : (ps : List Polygon)
+      → length (each polygonWords ps) ≡ 4 * length ps + length (linksOf ps) + 3 * length (corners lo size ps) + 6 * length (gather (λ p. p .edges) ps)
+  unfolding each gather
+  polygons-words [] = omega arith
+  polygons-words (p ∷ ps) =
+      omega (
+        arith,
+        length-append (polygonWords p) (each polygonWords ps),
+        length-append (p .links) (linksOf ps),
+        length-append (cornersIn lo size p) (corners lo size ps),
+        length-append (p .edges) (gather (λ (q : Polygon). q .edges) ps),
+        polygon-words p,
+        corner-count p,
+        polygons-words ps,
+      )
+
+  -- each of the polygons that are checked has three vertices
+  pub three-corners : (start : ℕ) (ps : List Polygon) → AllChecked start ps → 3 * length ps ≤ length (corners lo size ps)
+  unfolding gather
+  three-corners start [] h = omega arith
+  three-corners start (p ∷ ps) h =
+      omega (arith, length-append (cornersIn lo size p) (corners lo size ps), corner-count p, h .0 .least-vertices, three-corners (start + length (p .vertices)) ps (h .1))
+
+-- what is gathered of the polygons that are made of others
+gather-made : {A B : Type 0} (f : Polygon → List A) (g : Polygon → List B) (make : Polygon → Polygon) → ((p : Polygon) → length (f (make p)) ≡ length (g p))
+    → (ps : List Polygon) → length (gather f (map make ps)) ≡ length (gather g ps)
+unfolding gather
+gather-made f g make same [] = refl
+gather-made f g make same (p ∷ ps) =
+    omega (arith, length-append (f (make p)) (gather f (map make ps)), length-append (g p) (gather g ps), same p, gather-made f g make same ps)
+
+-- ---- the whole
+
+encode-words : (c : Cell) → length (encode c) ≡ 15 + length (each polygonWords (c .polys)) + 11 * length (c .portals) + 4 * length (c .points)
+unfolding encodeAs
+encode-words c =
+    let h = headWords (c .head) in
+    let p = each polygonWords (c .polys) in
+    let q = each portalWords (c .portals) in
+    let t = each pointWords (c .points) in
+    omega (arith, length-append (h ++ p ++ q ++ t) endWords, length-append (h ++ p ++ q) t, length-append (h ++ p) q, length-append h p, head-length (c .head), length-each portalWords 11 portal-length (c .portals), length-each pointWords 4 point-length (c .points))
+
+module _ (c : Cell) where
+  -- edges may be missing
+  pub words-least : 15 + 4 * length (c .polys) + length (links c) + 3 * length (allCorners c) + 11 * length (c .portals) + 4 * length (c .points) ≤ length (encode c)
+  unfolding links
+  words-least = omega (arith, encode-words c, polygons-words (loOf c) (extentOf c) (c .polys))
+
+  -- and are there when the cell is read again; points that were dropped are not
+  pub words-again : length (encode (reread c))
+      ≡ 15 + 4 * length (c .polys) + length (links c) + 9 * length (allCorners c) + 11 * length (c .portals) + 4 * pointCount (sectors c)
+  unfolding reread links polygonAgain
+  words-again =
+      let lo = loOf c in
+      let size = extentOf c in
+      let again = polygonAgain lo size in
+      let ls : length (linksOf (map again (c .polys))) ≡ length (linksOf (c .polys)) = gather-made (λ p. p .links) (λ p. p .links) again (λ p. refl) (c .polys) in
+      let ks : length (corners lo size (map again (c .polys))) ≡ length (corners lo size (c .polys)) =
+      gather-made (cornersIn lo size) (cornersIn lo size) again
+      (λ p. corner-count lo size (again p) ∙ length-map (p .vertices) (positionAgain lo size) ∙ sym (corner-count lo size p)) (c .polys) in
+      let es : length (gather (λ (p : Polygon). p .edges) (map again (c .polys))) ≡ length (corners lo size (c .polys)) =
+      gather-made (λ p. p .edges) (cornersIn lo size) again (λ p. length-map (cornersIn lo size p) (λ k. edgeAgain (k .edge))) (c .polys) in
+      omega (
+        arith,
+        encode-words (reread c),
+        polygons-words lo size (map again (c .polys)),
+        length-map (c .polys) again,
+        length-map (c .portals) (portalAgain lo size),
+        length-map (preorder (sectors c)) (pointAgain lo size),
+        length-preorder (sectors c),
+      )
