@@ -113,6 +113,21 @@ static void print_grid_cell(float x, float y)
            ynv_float(answer[0]), ynv_float(answer[1]), ynv_float(answer[2]), ynv_float(answer[3]));
 }
 
+/* The polygon under the middle of the cell's box, whose min and size are words 5 and 11 of the strip and on. */
+static void print_middle(struct words strip)
+{
+    uint64_t spot[8], answer[8];
+    float x = ynv_float(strip.at[5]) + ynv_float(strip.at[11]) / 2;
+    float y = ynv_float(strip.at[6]) + ynv_float(strip.at[12]) / 2;
+    accepted("ynv_spot_for_position", ynv_spot_for_position(strip.at, strip.length, x, y, spot), spot);
+    accepted("ynv_pick_poly",
+             ynv_pick_poly(strip.at, strip.length, (uint16_t)spot[0], (uint16_t)spot[1], answer), answer);
+    if (answer[0] == 1)
+        printf("under (%g, %g): polygon %" PRIu64 "\n", x, y, answer[1]);
+    else
+        printf("under (%g, %g): no polygon\n", x, y);
+}
+
 int main(int argc, char **argv)
 {
     if (argc != 2)
@@ -120,6 +135,7 @@ int main(int argc, char **argv)
     struct bytes before = read_file(argv[1]);
     struct words strip = read_cell(before);
     print_seams(strip);
+    print_middle(strip);
     print_grid_cell(-1500.0f, 2000.0f);
     struct bytes after = write_cell(strip);
     int same = before.length == after.length && memcmp(before.at, after.at, after.length) == 0;

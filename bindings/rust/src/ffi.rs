@@ -25,6 +25,8 @@ extern "C" {
         answer: *mut u64,
     ) -> u32;
     fn ynv_count_seams(strip: *const u32, strip_len: usize, answer: *mut u64) -> u32;
+    fn ynv_spot_for_position(strip: *const u32, strip_len: usize, x: f32, y: f32, answer: *mut u64) -> u32;
+    fn ynv_pick_poly(strip: *const u32, strip_len: usize, x: u16, y: u16, answer: *mut u64) -> u32;
     fn ynv_cell_for_position(x: f32, y: f32, answer: *mut u64) -> u32;
     fn ynv_cell_bounds(cx: u32, cy: u32, answer: *mut u64) -> u32;
 }
@@ -48,6 +50,16 @@ pub fn serialize(strip: &[u32], work: &mut [u32], pages: &mut [u8], answer: &mut
 pub fn count_seams(strip: &[u32], answer: &mut Answer) -> u32 {
     // SAFETY: as in `parse`; only the answer is written.
     unsafe { ynv_count_seams(strip.as_ptr(), strip.len(), answer.as_mut_ptr()) }
+}
+
+pub fn spot_for_position(strip: &[u32], x: f32, y: f32, answer: &mut Answer) -> u32 {
+    // SAFETY: as in `parse`; only the answer is written, and every float is taken.
+    unsafe { ynv_spot_for_position(strip.as_ptr(), strip.len(), x, y, answer.as_mut_ptr()) }
+}
+
+pub fn pick_poly(strip: &[u32], x: u16, y: u16, answer: &mut Answer) -> u32 {
+    // SAFETY: as in `parse`; only the answer is written.
+    unsafe { ynv_pick_poly(strip.as_ptr(), strip.len(), x, y, answer.as_mut_ptr()) }
 }
 
 pub fn cell_for_position(x: f32, y: f32, answer: &mut Answer) -> u32 {

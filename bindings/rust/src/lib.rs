@@ -177,6 +177,52 @@ pub fn count_seams(strip: &[u32]) -> Result<u64, Refusal> {
     Ok(accepted(number, answer)?[0])
 }
 
+/// The spot (x, y) of a position, for [`pick_poly`]: the shorts that saving stores of a vertex there, from 0 at bb_min up to
+/// 65535 at the other end of a side of bb_size, and 0 everywhere on a side below 2^-23. What lies outside the box goes to
+/// its border, and a NaN to 0: so test first whether the cursor is in the box, or it may pick a polygon at the near border.
+///
+/// ```
+/// // A cell from 0 to 2 in x and y.
+/// let mut strip = vec![0; 15];
+/// (strip[0], strip[14]) = (1 << 28, 5 << 28);
+/// strip[11..13].fill(2f32.to_bits());
+/// assert_eq!(ynv::spot_for_position(&strip, 1.0, 2.0)?, (32_768, 65_535));
+/// assert_eq!(ynv::spot_for_position(&strip, -1.0, f32::NAN)?, (0, 0));
+/// # Ok::<(), ynv::Refusal>(())
+/// ```
+pub fn spot_for_position(strip: &[u32], x: f32, y: f32) -> Result<(u16, u16), Refusal> {
+    let mut answer = [0; 8];
+    let number = ffi::spot_for_position(strip, x, y, &mut answer);
+    let [x, y, ..] = accepted(number, answer)?.map(|short| short as u16);
+    Ok((x, y))
+}
+
+/// The lowest-numbered polygon that contains a spot, or none. [`spot_for_position`] makes the spot. A rectangle contains
+/// the spots from its least x and y on and below its greatest. At 65535, the far sides of the box and half a step before
+/// them, there is no polygon.
+///
+/// ```
+/// // A cell from 0 to 150 in x and y with one triangle, (0, 0), (150, 0), (0, 150).
+/// let far = 150f32.to_bits();
+/// let mut strip = vec![0; 14];
+/// strip[0] = 1 << 28;
+/// strip[11..14].fill(far);
+/// strip.extend([2 << 28 | 3, 0, 0, 0]);
+/// strip.extend([0, 0, 0, far, 0, 0, 0, far, 0]);
+/// strip.push(5 << 28);
+///
+/// let (x, y) = ynv::spot_for_position(&strip, 20.0, 70.0)?;
+/// assert_eq!(ynv::pick_poly(&strip, x, y)?, Some(0));
+/// assert_eq!(ynv::pick_poly(&strip, 65_535, 0)?, None);
+/// # Ok::<(), ynv::Refusal>(())
+/// ```
+pub fn pick_poly(strip: &[u32], x: u16, y: u16) -> Result<Option<usize>, Refusal> {
+    let mut answer = [0; 8];
+    let number = ffi::pick_poly(strip, x, y, &mut answer);
+    let [found, poly, ..] = accepted(number, answer)?;
+    Ok((found == 1).then_some(poly as usize))
+}
+
 /// The cell (x, y) of the map's grid in which a position lies: 100 by 100 cells of 150 from -6000. A position outside
 /// the map gives the nearest cell, a NaN coordinate 0.
 ///

@@ -1,6 +1,6 @@
 //! The crate's calls on the sample cell, on large cells, and on input that they refuse.
 
-use ynv::{count_seams, parse, parse_into, serialize, serialize_into, Refusal};
+use ynv::{count_seams, parse, parse_into, pick_poly, serialize, serialize_into, spot_for_position, Refusal};
 
 /// P12's vehicle: 688 bytes of pages.
 const SAMPLE: &[u8] = include_bytes!("../../../crates/cellsum/stdin");
@@ -117,9 +117,41 @@ fn refusals_name_their_place() {
     assert_eq!(serialize(&no_end), Err(refusal(3, no_end.len() as u64)));
     assert_eq!(count_seams(&no_end), Err(refusal(3, no_end.len() as u64)));
     assert_eq!(count_seams(&[]), Err(refusal(3, 0)));
+    assert_eq!(pick_poly(&no_end, 0, 0), Err(refusal(3, no_end.len() as u64)));
+
+    // bb_max is infinite, and the strip has no end: 3 comes first.
+    let mut infinite = cell();
+    infinite[9] = f32::INFINITY.to_bits();
+    assert_eq!(pick_poly(&infinite, 0, 0), Err(refusal(3, 14)));
+    infinite.push(5 << 28);
+    assert_eq!(pick_poly(&infinite, 0, 0), Err(refusal(10, 0)));
+    assert_eq!(spot_for_position(&infinite, 0.0, 0.0), Err(refusal(10, 0)));
 
     // The list of indices lies where there are no bytes.
     let mut lost = SAMPLE.to_vec();
     lost[0x80..0x84].copy_from_slice(&0x5FFF_FFFFu32.to_le_bytes());
     assert_eq!(parse(&lost, &[]), Err(refusal(35, 2)));
+}
+
+/// Two rectangles side by side, and one that covers both: a spot on the side that two share is in the right one alone,
+/// and the lowest number is answered.
+#[test]
+fn under_the_cursor() {
+    let mut words = cell();
+    for (left, right) in [(50.0, 100.0), (0.0, 50.0), (0.0, 150.0)] {
+        words.extend([2 << 28 | 4, 0, 0, 0]);
+        let corners = [(left, 0.0), (right, 0.0), (right, 150.0), (left, 150.0)];
+        words.extend(corners.into_iter().flat_map(|(x, y)| [x, y, 7.0].map(f32::to_bits)));
+    }
+    words.push(5 << 28);
+    let at = |x, y| spot_for_position(&words, x, y).and_then(|(x, y)| pick_poly(&words, x, y));
+    assert_eq!(at(50.0, 0.0), Ok(Some(0)));
+    assert_eq!(at(49.9, 75.0), Ok(Some(1)));
+    assert_eq!(at(100.0, 75.0), Ok(Some(2)));
+    assert_eq!(at(150.0, 75.0), Ok(None));
+    assert_eq!(at(75.0, 150.0), Ok(None));
+    // Outside the box, or no number: pushed to the border, where a polygon may be.
+    assert_eq!(at(-1.0, f32::NAN), Ok(Some(1)));
+    assert_eq!(at(151.0, 75.0), Ok(None));
+    assert_eq!(pick_poly(&strip(0, 3), 0, 0), Ok(None));
 }

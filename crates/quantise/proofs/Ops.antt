@@ -12,7 +12,8 @@ use lib.Ieee.Fits.{down-pos, up-pos}
 use lib.Ieee.Exact.{HasValue}
 use lib.Ieee.Scale.{round-same}
 
-ltb-same : (a b A B : ℕ) → (a < b → A < B) → (b ≤ a → B ≤ A) → ltb a b ≡ ltb A B
+-- two tests that go together
+pub ltb-same : (a b A B : ℕ) → (a < b → A < B) → (b ≤ a → B ≤ A) → ltb a b ≡ ltb A B
 ltb-same a b A B f g = go (ltb a b) refl
   where
     go : (t : Bool) → ltb a b ≡ t → ltb a b ≡ ltb A B

@@ -1,4 +1,4 @@
--- What the leaves make of a record's words in, by its tag, and when a record agrees with them. Definitions only.
+-- What the leaves, and `pick_poly`, make of a record's words in, by its tag, and when a record agrees with them. Definitions only.
 use Prim.Native.Nat.{ℕ, _+_, _*_, _%_, _≤_, _<_}
 use mathlib.Core.Path.{_≡_}
 use mathlib.Core.Bool.{Bool, true, false, cond}
@@ -16,6 +16,10 @@ use Rattle.blocks.specs.Layout.{placeOf}
 use Rattle.strip.specs.Outcome.{shown}
 use Rattle.strip.specs.Check.{stripOutcome}
 use Rattle.leaves.specs.Entries.{numberOf, answerOf}
+use Rattle.answers.specs.Words as Words
+use Rattle.picking.specs.declared.Spot.{Spot}
+use Rattle.picking.specs.Picking.{pickOutcome}
+use Rattle.picking.specs.Entries.{foundWords}
 use Rattle.vectors.specs.declared.Taken.{Taken}
 use Rattle.vectors.specs.declared.Record.{Record}
 
@@ -43,6 +47,16 @@ stripNumber i = numberOf (shown (stripOutcome i))
 
 abbrev pub stripWords : List ℕ → List ℕ
 stripWords i = over (answerOf (shown (stripOutcome i))) (zeros 8)
+
+-- the spot that stands before a strip, and what picking there answers for C
+abbrev pub spotIn : List ℕ → Spot
+spotIn i = record { x = getD i 0 0 % 65536; y = getD i 1 0 % 65536 }
+
+abbrev pub pickNumber : List ℕ → ℕ
+pickNumber i = Words.numberOf (shown (pickOutcome (drop 2 i) (spotIn i)))
+
+abbrev pub pickWords : List ℕ → List ℕ
+pickWords i = over (Words.answerWords foundWords (shown (pickOutcome (drop 2 i) (spotIn i)))) (zeros 8)
 
 abbrev pub isFull : AreaAnswer → Bool
 isFull (At i) = false
@@ -75,6 +89,7 @@ pub data Agrees : ℕ → List ℕ → List ℕ → Type 0 where
   as-areas : {i o : List ℕ} → AreasAgree i o → Agrees 4 i o
   as-place : {i o : List ℕ} → placeIn i ≡ getD o 0 0 + 0x1_0000_0000 * getD o 1 0 → Agrees 5 i o
   as-strip : {i o : List ℕ} → (stripNumber i ≡ getD o 0 0) × FirstThree (stripWords i) o → Agrees 6 i o
+  as-pick : {i o : List ℕ} → (pickNumber i ≡ getD o 0 0) × FirstThree (pickWords i) o → Agrees 7 i o
 
 -- a record at a place of n words, which it goes beyond and does not leave
 pub record Stands (at : ℕ) (r : Record) (n : ℕ) : Type 0 where

@@ -1,4 +1,5 @@
-// Replays the oracle's list of vectors, which stands on standard input, against the leaves, and prints how many records of each kind agree.
+// Replays the oracle's list of vectors, which stands on standard input, against the leaves and `pick_poly`, and prints how many records of each
+// kind agree.
 // The list is made of 32-bit little-endian words; a record is its tag, how many words go in and how many come out, and these words. The last
 // record has the tag 0, as what lies behind the list has.
 ghost use mathlib.Core.Path.{_≡_};
@@ -8,7 +9,7 @@ ghost use lib.ListN.{length, getD, drop};
 ghost use Rattle.fields.specs.Bytes.{le, zeros};
 ghost use Rattle.areas.specs.Areas.{seeded, stored};
 ghost use Rattle.replay.specs.Tallies.{Tallied};
-ghost use Rattle.vectors.specs.Agreement.{shortOf, backOf, floorOf, ceilOf, placeIn, stripNumber, stripWords, taking, AreasAgree, FirstThree, Agrees, Stands};
+ghost use Rattle.vectors.specs.Agreement.{shortOf, backOf, floorOf, ceilOf, placeIn, stripNumber, stripWords, pickNumber, pickWords, taking, AreasAgree, FirstThree, Agrees, Stands};
 use areas::AreaAnswer;
 use areas::Areas;
 use replay::Tally;
@@ -64,9 +65,29 @@ fn strip_agrees(input: &[u32], output: &[u32]) -> bool
 {
     let mut answer = [0u64; 8];
     let number = leaves::leaf_check_strip(input, &mut answer);
+    answer_agrees(number, &answer, output)
+}
+
+fn pick_agrees(input: &[u32], output: &[u32]) -> bool
+    ensures { λ r. ⌜ (r ≡ true → (pickNumber (now (input .entry)) ≡ getD (now (output .entry)) 0 0) × FirstThree (pickWords (now (input .entry))) (now (output .entry))) ⌝ }
+{
+    if input.len() < 2 {
+        return false;
+    }
+    let x = (input[0] % 65536) as u16;
+    let y = (input[1] % 65536) as u16;
+    let mut answer = [0u64; 8];
+    let number = picking::pick_entry(&input[2..], x, y, &mut answer);
+    answer_agrees(number, &answer, output)
+}
+
+// Whether a C entry's number and the first three words of its answer are the words out.
+fn answer_agrees(number: u32, answer: &[u64; 8], output: &[u32]) -> bool
+    ensures { λ r. ⌜ (r ≡ true → (number ≡ getD (now (output .entry)) 0 0) × FirstThree (now (answer .entry)) (now (output .entry))) ⌝ }
+{
     let first = word(output, 0);
     if number == first {
-        return counts_agree(&answer, output);
+        return counts_agree(answer, output);
     }
     false
 }
@@ -166,7 +187,8 @@ fn agrees(tag: u32, input: &[u32], output: &[u32]) -> bool
         4 => areas_agree(input, output),
         5 => place_agrees(input, output),
         6 => strip_agrees(input, output),
-        0 | 7..=4294967295 => false,
+        7 => pick_agrees(input, output),
+        0 | 8..=4294967295 => false,
     }
 }
 
@@ -257,11 +279,12 @@ fn report_all(words: &[u32]) {
     report(b"areas ", words, 4, 4);
     report(b"place ", words, 5, 5);
     report(b"strip ", words, 6, 6);
+    report(b"pick ", words, 7, 7);
     let first = report(b"all ", words, 1, 4294967295);
     print_first(first, words.len(), b"word");
 }
 
-// The list has at most 100,000 bytes; zeros lie behind it.
+// The list has at most 120,000 bytes; zeros lie behind it.
 fn main() {
     let mut bytes = [0u8; 131072];
     io::read_full(0, &mut bytes);

@@ -1,3 +1,1 @@
-pub mod Stores
-pub mod Answers
 pub mod Numbers

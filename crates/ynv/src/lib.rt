@@ -1,45 +1,22 @@
-// The exported library: C entries, each of which takes every argument. An entry returns 0, with its values and zeros in `answer`, or a
-// refusal's number, with its place in `answer[0]` and the rest of `answer` as it was.
+// The exported library: C entries, each of which takes every argument. How they answer stands in `answers`.
 ghost use mathlib.Core.Path.{_≡_};
-ghost use mathlib.Core.List.{[], _∷_};
 ghost use lib.ListN.{length};
 ghost use Rattle.fields.specs.Bytes.{over};
 ghost use Rattle.strip.specs.Outcome.{shown, left};
 ghost use Rattle.ynv_read.specs.Parse.{parseOutcome};
 ghost use Rattle.ynv_write.specs.Serialize.{serializeOutcome};
 ghost use Rattle.seams.specs.Seams.{seamOutcome};
+ghost use Rattle.picking.specs.Picking.{pickOutcome, spotOutcome};
+ghost use Rattle.picking.specs.Entries.{foundWords, spotWords};
 ghost use Rattle.cell_grid.specs.Grid.{cellAt, boundsOutcome};
-ghost use Rattle.ynv.specs.Entries.{numberOf, answerWords, filled, parsedWords, writtenWords, seamWords, cellWords, boundsWords};
+ghost use Rattle.answers.specs.Words.{numberOf, answerWords};
+ghost use Rattle.ynv.specs.Entries.{parsedWords, writtenWords, seamWords, cellWords, boundsWords};
+use answers::accept;
+use answers::refuse;
 use cell_grid::BoundsAnswer;
 use seams::SeamAnswer;
-use strip::Refusal;
 use ynv_read::ParseAnswer;
 use ynv_write::SerializeAnswer;
-
-// Stores five values and three zeros.
-fn accept(answer: &mut [u64; 8], a: u64, b: u64, c: u64, d: u64, e: u64) -> u32
-    ensures { λ r. ⌜ r ≡ 0 ⌝ }
-    ensures { λ _. ⌜ now (answer .exit) ≡ over (filled a b c d e) (now (answer .entry)) ⌝ }
-{
-    answer[0] = a;
-    answer[1] = b;
-    answer[2] = c;
-    answer[3] = d;
-    answer[4] = e;
-    answer[5] = 0;
-    answer[6] = 0;
-    answer[7] = 0;
-    0
-}
-
-// Stores a refusal's place, and returns its number.
-fn refuse(answer: &mut [u64; 8], refusal: Refusal) -> u32
-    ensures { λ r. ⌜ r ≡ refusal .number ⌝ }
-    ensures { λ _. ⌜ now (answer .exit) ≡ over (refusal .place ∷ []) (now (answer .entry)) ⌝ }
-{
-    answer[0] = refusal.place as u64;
-    refusal.number
-}
 
 // Reads a cell's pages into the lent strip: the words of the strip, polygons, portals, points and the sectors visited.
 #[no_mangle]
@@ -95,6 +72,24 @@ pub extern "C" fn ynv_count_seams(strip: &[u32], answer: &mut [u64; 8]) -> u32
         SeamAnswer::Count(n) => accept(answer, n, 0, 0, 0, 0),
         SeamAnswer::Refused(r) => refuse(answer, r),
     }
+}
+
+// The lowest-numbered polygon that contains a spot, in shorts of the cell's box: 1 and its number, or 0 where none does.
+#[no_mangle]
+pub extern "C" fn ynv_pick_poly(strip: &[u32], x: u16, y: u16, answer: &mut [u64; 8]) -> u32
+    ensures { λ r. ⌜ r ≡ numberOf (shown (pickOutcome (now (strip .entry)) (record { x = x; y = y }))) ⌝ }
+    ensures { λ _. ⌜ now (answer .exit) ≡ over (answerWords foundWords (shown (pickOutcome (now (strip .entry)) (record { x = x; y = y })))) (now (answer .entry)) ⌝ }
+{
+    picking::pick_entry(strip, x, y, answer)
+}
+
+// The spot of a position: its two shorts by the cell's box.
+#[no_mangle]
+pub extern "C" fn ynv_spot_for_position(strip: &[u32], x: f32, y: f32, answer: &mut [u64; 8]) -> u32
+    ensures { λ r. ⌜ r ≡ numberOf (shown (spotOutcome (now (strip .entry)) x y)) ⌝ }
+    ensures { λ _. ⌜ now (answer .exit) ≡ over (answerWords spotWords (shown (spotOutcome (now (strip .entry)) x y))) (now (answer .entry)) ⌝ }
+{
+    picking::spot_entry(strip, x, y, answer)
 }
 
 // The two coordinates of the cell that contains a position. It refuses nothing.

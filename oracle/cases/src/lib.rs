@@ -7,6 +7,7 @@ pub mod limits;
 pub mod pages;
 mod rng;
 pub mod sizes;
+pub mod spots;
 pub mod timed;
 pub mod writing;
 

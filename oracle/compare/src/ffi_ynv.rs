@@ -19,6 +19,12 @@ extern "C" {
     /// The count.
     fn ynv_count_seams(strip: *const u32, strip_len: usize, answer: *mut u64) -> u32;
 
+    /// 1 and the polygon's number, or 0 and 0.
+    fn ynv_pick_poly(strip: *const u32, strip_len: usize, x: u16, y: u16, answer: *mut u64) -> u32;
+
+    /// The two shorts.
+    fn ynv_spot_for_position(strip: *const u32, strip_len: usize, x: f32, y: f32, answer: *mut u64) -> u32;
+
     /// The two coordinates; it refuses nothing.
     fn ynv_cell_for_position(x: f32, y: f32, answer: *mut u64) -> u32;
 
@@ -54,6 +60,14 @@ pub fn parse(system: &[u8], graphics: &[u8], strip: &mut [u32], answer: &mut [u6
 
 pub fn count_seams(strip: &[u32], answer: &mut [u64; 8]) -> u32 {
     unsafe { ynv_count_seams(strip.as_ptr(), strip.len(), answer.as_mut_ptr()) }
+}
+
+pub fn pick_poly(strip: &[u32], x: u16, y: u16, answer: &mut [u64; 8]) -> u32 {
+    unsafe { ynv_pick_poly(strip.as_ptr(), strip.len(), x, y, answer.as_mut_ptr()) }
+}
+
+pub fn spot_for_position(strip: &[u32], x: f32, y: f32, answer: &mut [u64; 8]) -> u32 {
+    unsafe { ynv_spot_for_position(strip.as_ptr(), strip.len(), x, y, answer.as_mut_ptr()) }
 }
 
 pub fn cell_for_position(x: f32, y: f32, answer: &mut [u64; 8]) -> u32 {

@@ -8,6 +8,7 @@ pub mod ffi;
 pub mod ffi_ynv;
 pub mod guarded;
 pub mod heap;
+pub mod plain;
 pub mod plot;
 #[cfg(feature = "ynv")]
 pub mod races;

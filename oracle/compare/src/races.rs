@@ -11,12 +11,13 @@ use std::hint::black_box;
 use std::sync::atomic::Ordering;
 
 use cases::pages::Pages;
+use cases::spots::Spot;
 use rage::resource::{container, NO_COPY};
 use rage::ynv::{parse_ynv, serialize_ynv, Ynv};
-use strips::encode;
+use strips::{encode, pick};
 
-use crate::ffi_ynv;
 use crate::timing::{Race, MOST_CALLS};
+use crate::{ffi_ynv, plain};
 
 /// Cells with fewer strip words are dropped at the end of a run, others after each call:
 /// many small ones need no fresh memory, and the clock would count for much.
@@ -105,6 +106,47 @@ impl Race for Writing {
         NO_COPY.store(true, Ordering::Relaxed);
         black_box(serialize_ynv(black_box(&self.cell)).unwrap());
         NO_COPY.store(false, Ordering::Relaxed);
+    }
+
+    fn drop_kept(&mut self) {}
+
+    fn keeps_many(&self) -> bool {
+        true
+    }
+}
+
+/// The polygon under the cursor, against plain Rust on the same strip.
+pub struct Picking {
+    strip: Vec<u32>,
+    spot: Spot,
+}
+
+impl Picking {
+    /// Both sides' answers must be the judge's.
+    pub fn of(cell: &Ynv, (x, y): Spot) -> Picking {
+        let strip = encode(cell);
+        let judged = pick(&strip, x, y).expect("a strip that is accepted");
+        assert_eq!(plain::pick(&strip, x, y), Ok(judged), "plain Rust differs");
+        let mut answer = [0; 8];
+        assert_eq!(ffi_ynv::pick_poly(&strip, x, y, &mut answer), 0, "refused");
+        assert_eq!(answer[..2], judged.map_or([0, 0], |number| [1, number as u64]), "the library differs");
+        Picking { strip, spot: (x, y) }
+    }
+
+    pub fn bytes(&self) -> usize {
+        4 * self.strip.len()
+    }
+}
+
+impl Race for Picking {
+    fn our_call(&mut self) {
+        let (strip, (x, y)) = black_box((&self.strip, self.spot));
+        black_box(ffi_ynv::pick_poly(strip, x, y, &mut [0; 8]));
+    }
+
+    fn rust_call(&mut self) {
+        let (strip, (x, y)) = black_box((&self.strip, self.spot));
+        let _ = black_box(plain::pick(strip, x, y));
     }
 
     fn drop_kept(&mut self) {}

@@ -1,5 +1,5 @@
 //! The functions that are compared: the leaves of libleaves.a with the feature `lib`, the
-//! reader, writer and seam count of libynv.a with the feature `ynv`, else the judge's own. Floats,
+//! reader, writer, seam count and polygon under the cursor of libynv.a with the feature `ynv`, else the judge's own. Floats,
 //! numbers and answers as the C entries have them.
 
 #[cfg(feature = "lib")]
@@ -47,7 +47,7 @@ mod own {
 pub use own::*;
 
 #[cfg(feature = "ynv")]
-pub use crate::ffi_ynv::{count_seams, parse, serialize};
+pub use crate::ffi_ynv::{count_seams, parse, pick_poly, serialize};
 
 pub const READER: &str = if cfg!(feature = "ynv") {
     "the library (libynv.a)"
@@ -120,6 +120,22 @@ pub fn count_seams(strip: &[u32], answer: &mut [u64; 8]) -> u32 {
         }
         Ok(count) => {
             *answer = [count, 0, 0, 0, 0, 0, 0, 0];
+            0
+        }
+    }
+}
+
+/// The polygon under the cursor by the judge.
+#[cfg(not(feature = "ynv"))]
+pub fn pick_poly(strip: &[u32], x: u16, y: u16, answer: &mut [u64; 8]) -> u32 {
+    match strips::pick(strip, x, y) {
+        Err(refusal) => {
+            answer[0] = refusal.place as u64;
+            refusal.number
+        }
+        Ok(poly) => {
+            let [found, number] = poly.map_or([0, 0], |number| [1, number as u64]);
+            *answer = [found, number, 0, 0, 0, 0, 0, 0];
             0
         }
     }

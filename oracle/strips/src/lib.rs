@@ -6,6 +6,7 @@ mod guard;
 mod layout;
 mod leaf;
 mod messages;
+mod picking;
 mod read;
 mod reread;
 mod seams;
@@ -16,6 +17,7 @@ pub use guard::{caught, claimed_bytes, rust_read, rust_write, RustRead, RustWrit
 pub use layout::laid_out;
 pub use leaf::{areas, back, place, quarter_ceil, quarter_floor, short, AreaTable, PAGE_SIZE};
 pub use messages::{refuses_reading, refuses_writing};
+pub use picking::{outlines, pick, spot};
 pub use read::{derive, derived_words, expected_read, Derived, ReadAnswer};
 pub use reread::reread;
 pub use seams::seams;

@@ -1,6 +1,6 @@
 -- `vectors::agrees` meets its contract: each kind has its callee's promise.
 use mathlib.Core.Bool.{false≢true}
-use Rattle.vectors.specs.Agreement.{as-short, as-back, as-quarter, as-areas, as-place, as-strip}
+use Rattle.vectors.specs.Agreement.{as-short, as-back, as-quarter, as-areas, as-place, as-strip, as-pick}
 use borrow.Author.Needs.{needs}
 use Rattle.vectors.proofs.agrees.Statement.{statement}
 use Rattle.vectors.proofs.agrees.Tie as tie
@@ -23,6 +23,9 @@ place-agrees-requires c κs = search needs
 strip-agrees-requires : tie.Need-strip-agrees-requires
 strip-agrees-requires c κs = search needs
 
+pick-agrees-requires : tie.Need-pick-agrees-requires
+pick-agrees-requires c κs = search needs
+
 returns : tie.Need-returns
 returns c = λ h. rw (c .before .match .keys1) (as-short (c .short-agrees .ensures h))
 
@@ -42,10 +45,13 @@ returns-6 : tie.Need-returns-6
 returns-6 c = λ h. rw (c .before .match .keys6) (as-strip (c .strip-agrees .ensures h))
 
 returns-7 : tie.Need-returns-7
-returns-7 c = λ h. absurd (false≢true h)
+returns-7 c = λ h. rw (c .before .match .keys7) (as-pick (c .pick-agrees .ensures h))
 
 returns-8 : tie.Need-returns-8
 returns-8 c = λ h. absurd (false≢true h)
+
+returns-9 : tie.Need-returns-9
+returns-9 c = λ h. absurd (false≢true h)
 
 pub agrees-spec : {M : Type 1} → statement M
 agrees-spec =
@@ -57,6 +63,7 @@ agrees-spec =
     areas-agree-requires
     place-agrees-requires
     strip-agrees-requires
+    pick-agrees-requires
     returns
     returns-2
     returns-3
@@ -64,4 +71,5 @@ agrees-spec =
     returns-5
     returns-6
     returns-7
-    returns-8)
+    returns-8
+    returns-9)

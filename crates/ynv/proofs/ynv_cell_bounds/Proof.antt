@@ -3,7 +3,7 @@ use mathlib.Core.Path.{sym, ap, _∙_}
 use denote.Ref.{now}
 use Rattle.cell_grid.specs.Grid.{paper}
 use Rattle.ynv.specs.Entries.{boundsWords}
-use Rattle.ynv.proofs.Answers.{answers}
+use Rattle.answers.proofs.Answers.{answers}
 use borrow.Author.Needs.{needs}
 use Rattle.ynv.proofs.ynv_cell_bounds.Statement.{statement}
 use Rattle.ynv.proofs.ynv_cell_bounds.Tie as tie

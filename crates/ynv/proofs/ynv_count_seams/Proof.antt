@@ -3,7 +3,7 @@ use mathlib.Core.Path.{sym, ap, _∙_}
 use denote.Ref.{now}
 use Rattle.seams.specs.Seams.{paper}
 use Rattle.ynv.specs.Entries.{seamWords}
-use Rattle.ynv.proofs.Answers.{answers}
+use Rattle.answers.proofs.Answers.{answers}
 use borrow.Author.Needs.{needs}
 use Rattle.ynv.proofs.ynv_count_seams.Statement.{statement}
 use Rattle.ynv.proofs.ynv_count_seams.Tie as tie

@@ -3,7 +3,7 @@ use mathlib.Core.Path.{sym, ap, _∙_}
 use denote.Ref.{now}
 use Rattle.ynv_write.specs.Serialize.{paper}
 use Rattle.ynv.specs.Entries.{writtenWords}
-use Rattle.ynv.proofs.Answers.{answers}
+use Rattle.answers.proofs.Answers.{answers}
 use borrow.Author.Needs.{needs}
 use Rattle.ynv.proofs.ynv_serialize.Statement.{statement}
 use Rattle.ynv.proofs.ynv_serialize.Tie as tie

@@ -4,6 +4,7 @@
 //! reader's list and the writer's have forms of their own: `reading`, `writing`.
 
 mod areas;
+mod picking;
 mod places;
 mod quarters;
 pub mod reading;
@@ -12,7 +13,7 @@ mod strip;
 pub mod writing;
 
 /// No list is longer.
-pub const MOST_BYTES: usize = 100_000;
+pub const MOST_BYTES: usize = 120_000;
 
 #[derive(Default)]
 pub struct Vectors {
@@ -46,5 +47,6 @@ pub fn all() -> Vectors {
     areas::areas(&mut out);
     places::places(&mut out);
     strip::strips(&mut out);
+    picking::picks(&mut out);
     out
 }

@@ -1,11 +1,11 @@
--- `ynv::refuse` meets its contract.
+-- `answers::refuse` meets its contract.
 use mathlib.Core.Path.{refl}
 use mathlib.Core.List.{[], _∷_}
 use denote.Ref.{now}
-use Rattle.ynv.proofs.Stores.{stored-first}
+use Rattle.answers.proofs.Stores.{stored-first}
 use borrow.Author.Needs.{needs}
-use Rattle.ynv.proofs.refuse.Statement.{statement}
-use Rattle.ynv.proofs.refuse.Tie as tie
+use Rattle.answers.proofs.refuse.Statement.{statement}
+use Rattle.answers.proofs.refuse.Tie as tie
 
 element-write-answer : tie.Need-element-write-answer
 element-write-answer c = search needs

@@ -1,11 +1,11 @@
--- `ynv::accept` meets its contract: the words are stored one by one.
+-- `answers::accept` meets its contract: the words are stored one by one.
 use mathlib.Core.Path.{refl}
 use denote.Ref.{now}
-use Rattle.ynv.specs.Entries.{filled}
-use Rattle.ynv.proofs.Stores.{stored-first}
+use Rattle.answers.specs.Words.{filled}
+use Rattle.answers.proofs.Stores.{stored-first}
 use borrow.Author.Needs.{needs}
-use Rattle.ynv.proofs.accept.Statement.{statement}
-use Rattle.ynv.proofs.accept.Tie as tie
+use Rattle.answers.proofs.accept.Statement.{statement}
+use Rattle.answers.proofs.accept.Tie as tie
 
 element-write-answer : tie.Need-element-write-answer
 element-write-answer c = search needs

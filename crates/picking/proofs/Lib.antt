@@ -1,0 +1,7 @@
+pub mod Laws
+pub mod Checks
+pub mod Whole
+pub mod Sides
+pub mod Rectangles
+pub mod Theorems
+pub mod Examples

@@ -1,0 +1,33 @@
+-- `picking::left_of` meets its contract, from what three products ensure.
+use borrow.Author.Needs.{needs}
+use Prim.Native.Nat.{_+_, _-_, _*_}
+use native.Mathlib.Omega.{arith}
+use Rattle.picking.specs.Picking.{leftOf}
+use Rattle.picking.proofs.Laws.{same-test}
+use Rattle.picking.proofs.left_of.Statement.{statement}
+use Rattle.picking.proofs.left_of.Tie as tie
+
+returns : tie.Need-returns
+unfolding leftOf
+returns c =
+    let a = c .before .before .before .before .before .before .before .before .before .args in
+    let one = c .before .before .before .before .before .before .times in
+    let two = c .before .before .before .times2 in
+    let three = c .times3 in
+    let low = a .low in
+    let high = a .high in
+    same-test (one .result) (two .result + three .result) (a .s .x * (high .y - low .y)) (low .x * (high .y - a .s .y) + high .x * (a .s .y - low .y))
+    (omega (arith, one .ensures .0, two .ensures .0, three .ensures .0))
+
+pub left-of-spec : {M : Type 1} → statement M
+left-of-spec =
+    tie.close
+    (tie.spec
+    (λ c. search needs)
+    (λ c κs. search needs)
+    (λ c. search needs)
+    (λ c κs. search needs)
+    (λ c. search needs)
+    (λ c κs. search needs)
+    (λ c. search needs)
+    returns)
