@@ -54,7 +54,7 @@ uint32_t ynv_parse(const uint8_t *system, size_t system_len, const uint8_t *grap
  * links; 12 to 16 a polygon (place: its number); 17, 18 a leaf (place: its number); 2 the pages' room is too short.
  * Lend: ynv_work_words() words of work and ynv_pages_bytes() bytes of pages. With so much neither 1 nor 2 ever comes,
  * which is proved.
- * Time: milliseconds for the largest cells, seconds for vertices that were chosen to share a chain of the vertex table. */
+ * Time: milliseconds for the largest cells, whatever their vertices are. */
 uint32_t ynv_serialize(const uint32_t *strip, size_t strip_len, uint32_t *work, size_t work_len,
                        uint8_t *pages, size_t pages_len, uint64_t answer[8]);
 

@@ -112,6 +112,7 @@ module _ (w w' ids : List ℕ) (b m : ℕ) (t : Tables) (item x y z : ℕ) (read
       table = subst (λ (q : Numbered). Table w' b (countAfter q (t .vertices))) er (looked .table);
       few = omega (arith, ready .few);
       room = omega (arith, ready .room, looked .long);
+      trees = ready .trees;
       areas = ready .areas;
     };
     long = looked .long;
@@ -144,7 +145,7 @@ module _ (w w' ids : List ℕ) (b m : ℕ) (t : Tables) (item x y z : ℕ) (read
       unfolding first
       corner-no-area ne = record {
         fault = rw (le-ltb 65536 (length (withNew (met w b (t .vertices)) x)) few-vertices) (has .fault);
-        ready = record { table = table-more; few = few-more; room = omega (arith, ready .room, looked .long); areas = has .long };
+        ready = record { table = table-more; few = few-more; room = omega (arith, ready .room, looked .long); trees = ready .trees; areas = has .long };
         long = looked .long;
         back = ap (drop (item + 1)) behind-same;
         now-met = λ q. absurd (ne q);
@@ -163,6 +164,7 @@ module _ (w w' ids : List ℕ) (b m : ℕ) (t : Tables) (item x y z : ℕ) (read
               table = table-set w' b n (b + 2 * m + item) k table-more (omega (arith, few-more));
               few = few-more;
               room = omega (arith, ready .room, looked .long, length-set w' (b + 2 * m + item) k);
+              trees = ready .trees;
               areas = has .long;
             };
             long = length-set w' (b + 2 * m + item) k ∙ looked .long;

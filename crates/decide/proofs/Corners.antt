@@ -24,7 +24,7 @@ use Rattle.decide.specs.declared.polygons.Tables.{Tables}
 use Rattle.decide.specs.declared.polygons.Met.{Met}
 
 pub later : (w ids : List ℕ) (b m n i j : ℕ) → i ≤ j → Ready w ids b m n i → Ready w ids b m n j
-later w ids b m n i j h r = record { table = r .table; few = omega (arith, r .few); room = r .room; areas = r .areas }
+later w ids b m n i j h r = record { table = r .table; few = omega (arith, r .few); room = r .room; trees = r .trees; areas = r .areas }
 
 module _ (w ids : List ℕ) (b m : ℕ) (t : Tables) (item : ℕ) where
   pub nothing-added : Added w w ids ids b m t t item []

@@ -23,38 +23,39 @@ use Rattle.distinct.proofs.Final.{numbers-at-the-end}
 use Rattle.areas.specs.Areas.{seeded}
 use Rattle.vertices.specs.Table.{met, cleared}
 use Rattle.vertices.proofs.Numbering.{table-cleared, length-cleared, drop-cleared}
-use Rattle.vertices.proofs.Enough.{chains-fit}
+use Rattle.vertices.proofs.Enough.{trees-fit}
 use Rattle.pages.specs.Items.{floats, Corner, corners, triples}
 use Rattle.pages.specs.Checks.{Verdict, when, first, at}
 use Rattle.pages.proofs.Firsts.{passed, at-none, at-some}
 use Rattle.decide.specs.Steps.{Ready, PolygonsDone}
-use Rattle.decide.specs.Decide.{onPolygons, beforeLeaves, onScan, chains, most, indicesAt, tablesEnd, Tabled, WellDone, DecideDone}
+use Rattle.decide.specs.Decide.{onPolygons, beforeLeaves, onScan, trees, most, indicesAt, tablesEnd, Tabled, WellDone, DecideDone}
 use Rattle.decide.specs.declared.polygons.Tables.{Tables}
 use Rattle.decide.specs.declared.polygons.Decided.{Decided}
 use Rattle.decide.specs.declared.Decision.{Decision}
 
--- the chains of a strip of so many words
-pub chains-in : (words : ℕ) → 14 ≤ words → (0 < chains words) × (chains words ≤ 65536) × (chains words ≤ words / 4)
-chains-in words h = chains-fit (words / 4) (chains words) (omega arith) refl
+-- the trees of a strip of so many words
+pub trees-in : (words : ℕ) → 14 ≤ words → (0 < trees words) × (trees words ≤ 65536) × (trees words ≤ words / 3)
+trees-in words h = trees-fit (words / 3) (trees words) (omega arith) refl
 
-module _ (s w wc : List ℕ) (l14 : 14 ≤ length s) (l4 : 4 * length s ≤ length w) (ec : wc ≡ cleared w (chains (length s))) where
-  within : chains (length s) ≤ length w
-  within = omega (arith, chains-in (length s) l14 .2)
+module _ (s w wc : List ℕ) (l14 : 14 ≤ length s) (l4 : 4 * length s ≤ length w) (ec : wc ≡ cleared w (trees (length s))) where
+  within : trees (length s) ≤ length w
+  within = omega (arith, trees-in (length s) l14 .2)
 
   cleared-long : length wc ≡ length w
-  cleared-long = rw ec (length-cleared w (chains (length s)) within)
+  cleared-long = rw ec (length-cleared w (trees (length s)) within)
 
-  pub ready : (ids : List ℕ) → length ids ≡ 32 → Ready wc ids (chains (length s)) (most (length s)) 0 0
+  pub ready : (ids : List ℕ) → length ids ≡ 32 → Ready wc ids (trees (length s)) (most (length s)) 0 0
   ready ids li = record {
-    table = rw ec (table-cleared w (chains (length s)) within (chains-in (length s) l14 .0) (omega (arith, chains-in (length s) l14 .1)));
+    table = rw ec (table-cleared w (trees (length s)) within (trees-in (length s) l14 .0) (omega (arith, trees-in (length s) l14 .1)));
     few = omega arith;
-    room = omega (arith, cleared-long, chains-in (length s) l14 .2);
+    room = omega (arith, cleared-long, trees-in (length s) l14 .2);
+    trees = omega arith;
     areas = li;
   }
 
   same-behind : drop (tablesEnd (length s)) wc ≡ drop (tablesEnd (length s)) w
   same-behind =
-      drop-more (indicesAt (length s)) (tablesEnd (length s)) (omega arith) wc w (rw ec (drop-cleared w (chains (length s)) within (most (length s))))
+      drop-more (indicesAt (length s)) (tablesEnd (length s)) (omega arith) wc w (rw ec (drop-cleared w (trees (length s)) within (most (length s))))
 
 -- ---- the tables at the end
 
@@ -63,8 +64,8 @@ map-vertex f [] = refl
 map-vertex f (k ∷ ks) = ap (λ (l : List ℕ). f (k .vertex) ∷ l) (map-vertex f ks)
 
 module _ (s : List ℕ) (n : Counts) (h : Head) (w wc w' ids ids' : List ℕ) (t : Tables) (d : Decided)
-    (l14 : 14 ≤ length s) (l4 : 4 * length s ≤ length w) (ec : wc ≡ cleared w (chains (length s))) (ev : t .vertices ≡ 0) (ea : take (t .areas) ids ≡ seeded (h .area))
-    (p : PolygonsDone (floats (h .bb-min)) (floats (h .bb-size)) wc w' ids ids' (chains (length s)) (most (length s)) t 0 0 0 (polygonsAt s 14 (n .polys)) d) where
+    (l14 : 14 ≤ length s) (l4 : 4 * length s ≤ length w) (ec : wc ≡ cleared w (trees (length s))) (ev : t .vertices ≡ 0) (ea : take (t .areas) ids ≡ seeded (h .area))
+    (p : PolygonsDone (floats (h .bb-min)) (floats (h .bb-size)) wc w' ids ids' (trees (length s)) (most (length s)) t 0 0 0 (polygonsAt s 14 (n .polys)) d) where
   abbrev answer : Decision
   answer = record {
     counts = n;
@@ -76,7 +77,7 @@ module _ (s : List ℕ) (n : Counts) (h : Head) (w wc w' ids ids' : List ℕ) (t
     place = d .place;
   }
 
-  empty : met wc (chains (length s)) (t .vertices) ≡ []
+  empty : met wc (trees (length s)) (t .vertices) ≡ []
   unfolding met
   empty = rw ev
 
@@ -94,11 +95,12 @@ module _ (s : List ℕ) (n : Counts) (h : Head) (w wc w' ids ids' : List ℕ) (t
         link-count = p .link-count z ∙ zero-add _;
         few-vertices = p .ready z .few;
         few-corners = p .few z;
+        few-polys = omega (arith, p .many z);
       }
 
   pub polygons-done : WellDone s h n w w' answer
   polygons-done =
-      let b = chains (length s) in
+      let b = trees (length s) in
       let m = most (length s) in
       let same : drop (b + 2 * m + m) w' ≡ drop (b + 2 * m + m) wc = sym (drop-drop m (b + 2 * m) w') ∙ p .back ∙ drop-drop m (b + 2 * m) wc in
       record {
@@ -151,7 +153,7 @@ module _ (s w : List ℕ) (n : Counts) (W : Well s (n .polys) (n .portals) (n .p
   good-front none w' r d = record {
     verdict = λ rest. d .verdict rest ∙ sym (front rest ∙ at-none 0 f _ none);
     long = d .long;
-    beyond = drop-more (tablesEnd (length s)) (2 * length s) (omega (arith, chains-in (length s) (W .long) .2)) w' w (d .beyond);
+    beyond = drop-more (tablesEnd (length s)) (2 * length s) (omega (arith, trees-in (length s) (W .long) .2)) w' w (d .beyond);
     tabled = λ z c e.
         let same : c ≡ W .cell = cc (e, W .is) in
         rw (same, W .head, W .polys) (d .tabled z);

@@ -2,11 +2,12 @@
 use Prim.Native.Nat.{ℕ, _+_, _*_, _-_, _≤_, _<_}
 use native.Mathlib.Omega.{arith}
 use native.Mathlib.Nat.{add-zero, sub-zero}
+use mathlib.Core.Bool.{_||_}
 use mathlib.Core.Path.{_≡_, refl, sym, _∙_}
 use mathlib.Core.List.{List, [], _∷_, _++_, append-assoc}
 use lib.ListN.{length, take, drop, length-append}
 use lib.Dec.{ltb}
-use borrow.Author.Tests.{lt-ltb, le-ltb}
+use borrow.Author.Tests.{lt-ltb, le-ltb, ltb-false}
 use Rattle.math.specs.declared.vec3.Vec3.{Vec3 as Floats}
 use Rattle.strip.specs.Cell.{Polygon}
 use Rattle.strip.specs.Reading.{word, vecAt, polyAt, polygonOf, polygonAt, polygonsAt, afterPolygons}
@@ -19,8 +20,8 @@ use Rattle.pages.specs.Items.{Corner, gather, cornersIn, corners, triples, name
 use Rattle.pages.specs.Checks.{first, when, at, cornersFault, polygonFault, polygonsVerdict}
 use Rattle.distinct.proofs.Final.{distinct-append}
 use Rattle.pages.proofs.Placed.{length-corners}
-use Rattle.pages.proofs.Accepted.{triples-append, named-append}
-use Rattle.pages.proofs.Firsts.{not-none, first-none, first-some, first-last, first-two, at-none, at-some}
+use Rattle.pages.proofs.Accepted.{or-false, triples-append, named-append}
+use Rattle.pages.proofs.Firsts.{passed, not-none, first-none, first-some, first-last, first-two, at-none, at-some}
 use Rattle.decide.specs.Steps.{runFault, Ready, Added, CornersDone, PolygonDone, PolygonsDone, behind}
 use Rattle.decide.specs.declared.polygons.Tables.{Tables}
 use Rattle.decide.specs.declared.polygons.Met.{Met}
@@ -56,6 +57,7 @@ module _ (lo size : Floats) (w ids : List ℕ) (b m : ℕ) (t : Tables) (start :
       long = refl;
       back = refl;
       ready = λ z. absurd (ne z);
+      least = λ z. absurd (ne z);
       added = λ z. absurd (ne z);
     }
 
@@ -75,6 +77,7 @@ module _ (lo size : Floats) (w ids : List ℕ) (b m : ℕ) (t : Tables) (start :
         long = d .long;
         back = rest-same;
         ready = λ z. absurd (ne z);
+        least = λ z. absurd (ne z);
         added = λ z. absurd (ne z);
       }
 
@@ -85,6 +88,7 @@ module _ (lo size : Floats) (w ids : List ℕ) (b m : ℕ) (t : Tables) (start :
           long = d .long;
           back = rest-same;
           ready = λ z. not-none 15 z;
+          least = λ z. not-none 15 z;
           added = λ z. not-none 15 z;
         }
 
@@ -94,6 +98,7 @@ module _ (lo size : Floats) (w ids : List ℕ) (b m : ℕ) (t : Tables) (start :
           long = d .long;
           back = rest-same;
           ready = λ z. rw long-enough at (d .ready);
+          least = λ z. ltb-false (length (q .vertices)) 3 (or-false _ _ (passed (ltb (length (q .vertices)) 3 || ltb 2047 (length (q .vertices))) 11 _ (sym ef ∙ good)) .0);
           added = λ z. d .added z;
         }
 
@@ -119,6 +124,7 @@ module _ (lo size : Floats) (w ids : List ℕ) (b m : ℕ) (t : Tables) (start k
     back = refl;
     ready = λ z. r;
     few = λ z. h;
+    many = λ z. omega arith;
     corner-count = λ z. sym (add-zero start);
     link-count = λ z. sym (add-zero l);
     added = λ z. nothing-added w ids b m t start;
@@ -134,6 +140,7 @@ module _ (lo size : Floats) (w ids : List ℕ) (b m : ℕ) (t : Tables) (start k
       back = d .back;
       ready = λ z. absurd (ne z);
       few = λ z. absurd (ne z);
+      many = λ z. absurd (ne z);
       corner-count = λ z. absurd (ne z);
       link-count = λ z. absurd (ne z);
       added = λ z. absurd (ne z);
@@ -152,6 +159,7 @@ module _ (lo size : Floats) (w ids : List ℕ) (b m : ℕ) (t : Tables) (start k
           back = g .back ∙ d .back;
           ready = g .ready;
           few = g .few;
+          many = λ z. omega (arith, g .many z, d .least none);
           corner-count = λ z. omega (arith, g .corner-count z, count, length-append (cornersIn lo size p) (corners lo size ps));
           link-count = λ z. omega (arith, g .link-count z, length-append (p .links) (linksOf ps));
           added = λ z.

@@ -38,16 +38,16 @@ onScan f (fault number place) = refused number place
 abbrev pub told : Decision → Verdict → Verdict
 told r rest = at (r .place) (r .fault) rest
 
--- ---- the work, for a strip of W words: W / 4 heads of chains, 65,536 at most; two words to each of W / 3 vertices; W / 3 indices
-
-abbrev pub chains : ℕ → ℕ
-chains words = min (words / 4) 65536
+-- ---- the work, for a strip of W words: W / 3 roots of trees, 65,536 at most; two words to each of W / 3 vertices; W / 3 indices
 
 abbrev pub most : ℕ → ℕ
 most words = words / 3
 
+abbrev pub trees : ℕ → ℕ
+trees words = min (most words) 65536
+
 abbrev pub indicesAt : ℕ → ℕ
-indicesAt words = chains words + 2 * most words
+indicesAt words = trees words + 2 * most words
 
 abbrev pub tablesEnd : ℕ → ℕ
 tablesEnd words = indicesAt words + most words
@@ -55,7 +55,7 @@ tablesEnd words = indicesAt words + most words
 -- work w and the answer d hold the tables of a cell with this head and these polygons, whose strip has so many words.
 -- An index is the vertex's place in the whole table
 pub record Tabled (words : ℕ) (h : Head) (ps : List Polygon) (w : List ℕ) (d : Decision) : Type 0 where
-  pub vertices : met w (chains words) (d .vertices) ≡ vertexTable (corners (floats (h .bb-min)) (floats (h .bb-size)) ps)
+  pub vertices : met w (trees words) (d .vertices) ≡ vertexTable (corners (floats (h .bb-min)) (floats (h .bb-size)) ps)
   pub indices : take (d .corners) (drop (indicesAt words) w)
       ≡ map (λ k. indexOf (vertexTable (corners (floats (h .bb-min)) (floats (h .bb-size)) ps)) (k .vertex)) (corners (floats (h .bb-min)) (floats (h .bb-size)) ps)
   pub areas : idsOf (d .areas) ≡ areaTable (h .area) (corners (floats (h .bb-min)) (floats (h .bb-size)) ps)
@@ -63,6 +63,7 @@ pub record Tabled (words : ℕ) (h : Head) (ps : List Polygon) (w : List ℕ) (d
   pub link-count : d .links ≡ length (linksOf ps)
   pub few-vertices : d .vertices ≤ d .corners
   pub few-corners : d .corners ≤ most words
+  pub few-polys : 3 * length ps ≤ d .corners
 
 -- ---- promises
 

@@ -1,6 +1,6 @@
--- What each step over the polygons leaves in lent memory: work holds the vertex table (b heads of chains, then two words to each of m vertices) and
+-- What each step over the polygons leaves in lent memory: work holds the vertex table (b roots of trees, then two words to each of m vertices) and
 -- behind it the corners' numbers; ids holds the areas. Definitions only.
-use Prim.Native.Nat.{ℕ, _+_, _*_, _≤_}
+use Prim.Native.Nat.{ℕ, _+_, _*_, _≤_, min}
 use mathlib.Core.Path.{_≡_}
 use mathlib.Core.Bool.{_||_}
 use mathlib.Core.List.{List, [], _∷_, _++_}
@@ -50,6 +50,7 @@ pub record Ready (w ids : List ℕ) (b m n item : ℕ) : Type 0 where
   pub table : Table w b n
   pub few : n ≤ item
   pub room : b + 3 * m ≤ length w
+  pub trees : min m 65536 ≤ b
   pub areas : length ids ≡ 32
 
 -- what the corners ks, the first of them number `item`, add: from w and ids with the counts t to w' and ids' with the counts t'
@@ -84,6 +85,7 @@ pub record PolygonDone (lo size : Floats) (w w' ids ids' : List ℕ) (b m : ℕ)
   pub long : length w' ≡ length w
   pub back : drop m (behind w' b m) ≡ drop m (behind w b m)
   pub ready : r .fault ≡ 0 → Ready w' ids' b m (r .tables .vertices) (start + length (p .vertices))
+  pub least : r .fault ≡ 0 → 3 ≤ length (p .vertices)
   pub added : r .fault ≡ 0 → Added w w' ids ids' b m t (r .tables) start (cornersIn lo size p)
 
 -- what an answer says, before the rest
@@ -97,6 +99,7 @@ pub record PolygonsDone (lo size : Floats) (w w' ids ids' : List ℕ) (b m : ℕ
   pub back : drop m (behind w' b m) ≡ drop m (behind w b m)
   pub ready : r .fault ≡ 0 → Ready w' ids' b m (r .tables .vertices) (r .corners)
   pub few : r .fault ≡ 0 → r .corners ≤ m
+  pub many : r .fault ≡ 0 → start + 3 * length ps ≤ r .corners
   pub corner-count : r .fault ≡ 0 → r .corners ≡ start + length (corners lo size ps)
   pub link-count : r .fault ≡ 0 → r .links ≡ l + length (linksOf ps)
   pub added : r .fault ≡ 0 → Added w w' ids ids' b m t (r .tables) start (corners lo size ps)

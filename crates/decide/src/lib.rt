@@ -8,7 +8,7 @@ ghost use lib.Dec.{ltb};
 ghost use Rattle.strip.specs.Reading.{headAt, afterPolygons};
 ghost use Rattle.strip.specs.Box.{finiteBox};
 ghost use Rattle.pages.specs.Checks.{when, first};
-ghost use Rattle.decide.specs.Decide.{chains, tablesEnd, WellDone, DecideDone};
+ghost use Rattle.decide.specs.Decide.{trees, tablesEnd, WellDone, DecideDone};
 use areas::Areas;
 use math::vec3::floats_at;
 use polygons::Frame;
@@ -48,15 +48,11 @@ fn front_fault(strip: &[u32], work: usize, polys: usize) -> u32
     0
 }
 
-// How many chains the vertex table has, for a strip of so many words.
-pub fn chain_count(words: usize) -> usize
-    ensures { λ r. ⌜ r ≡ chains words ⌝ }
+// How many trees the vertex table has, for a strip of so many words.
+pub fn tree_count(words: usize) -> usize
+    ensures { λ r. ⌜ r ≡ trees words ⌝ }
 {
-    let heads = words / 4;
-    if heads < 65536 {
-        return heads;
-    }
-    65536
+    vertices::tree_count(words / 3)
 }
 
 // Where the tables end in work.
@@ -64,10 +60,10 @@ pub fn tables_end(strip: &[u32]) -> usize
     ensures { λ r. ⌜ r ≡ tablesEnd (length (now (strip .entry))) ⌝ }
 {
     let words = strip.len();
-    chain_count(words) + 2 * (words / 3) + words / 3
+    tree_count(words) + 2 * (words / 3) + words / 3
 }
 
-// The polygons of a well-formed strip, with W words, in work that is long enough: at most W / 4 chains and W / 3 vertices.
+// The polygons of a well-formed strip, with W words, in work that is long enough: at most W / 3 trees and W / 3 vertices.
 fn decide_well(strip: &[u32], counts: Counts, work: &mut [u32]) -> Decision
     requires { ⌜ (14 ≤ length (now strip)) × (afterPolygons (now strip) 14 (counts .polys) ≤ length (now strip)) × (4 * length (now strip) ≤ length (now work)) ⌝ }
     ensures { λ r. ⌜ WellDone (now (strip .entry)) (headAt (now (strip .entry)) 0) counts (now (work .entry)) (now (work .exit)) r ⌝ }
@@ -75,7 +71,7 @@ fn decide_well(strip: &[u32], counts: Counts, work: &mut [u32]) -> Decision
     let lo = floats_at(strip, 5);
     let size = floats_at(strip, 11);
     let frame = Frame { lo, size };
-    let buckets = chain_count(strip.len());
+    let buckets = tree_count(strip.len());
     let room = strip.len() / 3;
     let seeded = areas::seed_areas(strip[2]);
     let mut ids = seeded.ids;

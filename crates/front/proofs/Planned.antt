@@ -14,7 +14,7 @@ use Rattle.pages.specs.Sectors as Sectors
 use Rattle.pages.specs.Sectors.{byteCount, depthBy, rootBox}
 use Rattle.pages.specs.Pages.{vertices, links, sectors, pages}
 use Rattle.pages.proofs.Placed.{few-corners, pages-short}
-use Rattle.decide.specs.Decide.{chains, tablesEnd}
+use Rattle.decide.specs.Decide.{trees, tablesEnd}
 use Rattle.decide.specs.declared.Decision.{Decision}
 use Rattle.plan.specs.Plan.{pointsIn}
 use Rattle.plan.specs.Ready.{cellAt, Ready}
@@ -36,7 +36,7 @@ module _ (s w : List ℕ) (d : Decision) (R : Ready s w d) where
 
   pub vertex-count : d .vertices ≡ length (vertices cell)
   unfolding vertices
-  vertex-count = sym (length-met w (chains (length s)) (d .vertices)) ∙ ap length (R .tabled .vertices)
+  vertex-count = sym (length-met w (trees (length s)) (d .vertices)) ∙ ap length (R .tabled .vertices)
 
   pub link-count : d .links ≡ length (links cell)
   unfolding links

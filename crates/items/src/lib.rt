@@ -120,7 +120,7 @@ pub fn lay_list(
     blocks::lay_offsets(out, offsets, w, n)
 }
 
-// The list of the n vertices of the table in work, behind its `buckets` heads of chains.
+// The list of the n vertices of the table in work, behind its `buckets` roots of trees.
 pub fn lay_vertices(out: &mut [u8], l: Layout, work: &[u32], buckets: usize, n: usize) -> Layout
     requires { ⌜ (buckets + 2 * n ≤ length (now work)) × Room (l .at) 6 n (listSizes 6 n) ⌝ }
     ensures { λ r. ⌜ Laid l (listBlocks (l .at) 1080158456 6 (vertexItems (met (now (work .entry)) buckets n))) r (now (out .entry)) (now (out .exit)) ⌝ }

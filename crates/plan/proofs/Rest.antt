@@ -21,7 +21,7 @@ use Rattle.pages.specs.Checks.{Verdict, at, leavesVerdict}
 use Rattle.quadtree.specs.Work.{treeBy, Tells, BoxesHeld, LeavesHeld}
 use Rattle.quadtree.proofs.Held.{tree-held}
 use Rattle.decide.specs.Decide.{tablesEnd}
-use Rattle.decide.proofs.Fronts.{chains-in}
+use Rattle.decide.proofs.Fronts.{trees-in}
 use Rattle.plan.specs.Plan.{boxWords, boxes, leafWords, portalsEnd, pointsIn, restWords, WorkHeld}
 
 -- ---- room: a polygon has four words or more, and a point four
@@ -32,8 +32,8 @@ polygons-long zero s at = omega arith
 polygons-long (suc n) s at = omega (arith, poly-next s at, polygons-long n s (polyAt s at .next))
 
 pub rest-fits : (s : List ℕ) (n : Counts) → 14 ≤ length s → length s ≡ portalsEnd s n + 4 * n .points + 1
-    → tablesEnd (length s) + 3 * n .polys + n .points ≤ 2 * length s
-rest-fits s n l e = omega (arith, chains-in (length s) l .2, polygons-long (n .polys) s 14)
+    → tablesEnd (length s) + 3 * n .polys + n .points ≤ 3 * length s
+rest-fits s n l e = omega (arith, trees-in (length s) l .2, polygons-long (n .polys) s 14)
 
 pub length-boxes : (ps : List Polygon) → length (boxes ps) ≡ 3 * length ps
 unfolding gather boxWords

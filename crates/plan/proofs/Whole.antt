@@ -23,11 +23,12 @@ use Rattle.pages.specs.Sectors.{leaves, depthOf, rootBox, leafCounts, treeOf}
 use Rattle.pages.specs.Pages.{links, sectors}
 use Rattle.pages.specs.Checks.{Verdict, fine, when, first, at, leavesVerdict}
 use Rattle.pages.proofs.Firsts.{at-none, at-some, passed}
-use Rattle.decide.specs.Decide.{beforeLeaves, onScan, told, chains, indicesAt, tablesEnd, Tabled, DecideDone}
+use Rattle.decide.specs.Decide.{beforeLeaves, onScan, told, trees, indicesAt, tablesEnd, Tabled, DecideDone}
 use Rattle.decide.specs.declared.Decision.{Decision}
+use Rattle.decide.proofs.Fronts.{trees-in}
 use Rattle.plan.specs.Plan.{boxes, leafWords, portalsEnd, pointsIn, restWords, WorkHeld, afterPolygonChecks, faulted, Planned}
 use Rattle.plan.proofs.Verdicts.{scanned-cell, cell-at}
-use Rattle.plan.proofs.Rest.{rest-fits, length-boxes, length-leaves, poly-count, point-count}
+use Rattle.plan.proofs.Rest.{length-boxes, length-leaves, poly-count, point-count}
 
 -- ---- a store behind what is read
 
@@ -53,13 +54,14 @@ module _ (p : ℕ) (bs xs : List ℕ) where
 
 tabled-kept : (words : ℕ) (h : Head) (ps : List Polygon) (w bs : List ℕ) (d : Decision) (f k : ℕ) → Tabled words h ps w d → Tabled words h ps (put (tablesEnd words) bs w) (faulted d f k)
 tabled-kept words h ps w bs d f k t = record {
-  vertices = met-before (tablesEnd words) bs w (chains words) (d .vertices) (omega (arith, t .few-vertices, t .few-corners)) ∙ t .vertices;
+  vertices = met-before (tablesEnd words) bs w (trees words) (d .vertices) (omega (arith, t .few-vertices, t .few-corners)) ∙ t .vertices;
   indices = part-before (tablesEnd words) bs w (indicesAt words) (d .corners) (omega (arith, t .few-corners)) ∙ t .indices;
   areas = t .areas;
   corner-count = t .corner-count;
   link-count = t .link-count;
   few-vertices = t .few-vertices;
   few-corners = t .few-corners;
+  few-polys = t .few-polys;
 }
 
 -- ---- what a decision without a refusal tells
@@ -119,7 +121,10 @@ module _ (s w w' : List ℕ) (d : Decision) (D : DecideDone s w w' d) where
         ∙ omega (arith, length-boxes (polygonsAt s 14 (n .polys)), poly-count s (n .polys), length-leaves (leaves (depthOf (headAt s 0)) (rootBox (headAt s 0))) (pointsIn s n), point-count s n)
 
     fits : tablesEnd (length s) + length (restWords s (d .counts)) ≤ 2 * length s
-    fits = omega (arith, size, rest-fits s (d .counts) long whole)
+    fits =
+        let t = D .tabled z cell is in
+        let n : d .counts .polys ≡ length (cell .polys) = ap (λ (k : Counts). k .polys) (D .counts z cell is) in
+        omega (arith, size, whole, trees-in (length s) long .2, t .few-polys, t .few-corners)
 
     module _ (w2 : List ℕ) (e2 : w2 ≡ put (tablesEnd (length s)) (restWords s (d .counts)) w') where
       pub held : WorkHeld s (d .counts) w2

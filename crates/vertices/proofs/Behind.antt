@@ -1,33 +1,28 @@
 -- A store behind the vertex table leaves the table as it is.
-use Prim.Native.Nat.{ℕ, _+_, _*_, _≤_, _<_}
+use Prim.Native.Nat.{ℕ, _+_, _*_, _/_, _≤_, _<_}
 use native.Mathlib.Omega.{arith}
-use mathlib.Core.Path.{_≡_, ap, sym, _∙_}
+use mathlib.Core.Path.{_≡_, sym, _∙_}
 use mathlib.Core.List.{List}
 use lib.ListN.{getD, set, length-set}
 use lib.Seq.{getD-set-other}
-use Rattle.vertices.specs.Table.{triple, tripleAt, nextAt, met, hashOf, LastOn, Table}
+use Rattle.vertices.specs.Table.{triple, tripleAt, met, halfAt, childOf, Link, child, Table}
 use Rattle.vertices.proofs.Triples.{met-ext}
+use Rattle.vertices.proofs.Links.{apart}
+use Rattle.vertices.proofs.Ways.{ahead-kept}
 
 module _ (t : List ℕ) (b n p v : ℕ) (T : Table t b n) (h : b + 2 * n ≤ p) where
   same-word : (k : ℕ) → k < b + 2 * n → getD (set t p v) k 0 ≡ getD t k 0
   same-word k l = getD-set-other t p k v 0 (λ e. omega arith)
 
+  same-half : (s : ℕ) → s / 2 < b + 2 * n → halfAt (set t p v) s ≡ halfAt t s
+  same-half s l = rw (same-word (s / 2) l)
+
+  same-link : (s : ℕ) → Link b n s → halfAt (set t p v) s ≡ halfAt t s
+  same-link s l = same-half s (apart (T .wide) l .within)
+
   same-triple : (i : ℕ) → i < n → triple (set t p v) b i ≡ triple t b i
   unfolding tripleAt
   same-triple i l = rw (same-word (b + 2 * i) (omega arith), same-word (b + 2 * i + 1) (omega arith))
-
-  same-next : (i : ℕ) → i < n → nextAt (set t p v) (b + 2 * i) ≡ nextAt t (b + 2 * i)
-  unfolding nextAt
-  same-next i l = rw (same-word (b + 2 * i + 1) (omega arith))
-
-  same-last : (k m q : ℕ) → m ≤ n → LastOn t b k m q → LastOn (set t p v) b k m q
-  same-last k m q l o =
-      let w = o .within in
-      record {
-        within = w;
-        on = λ i e. ap (hashOf b) (same-triple i (omega arith)) ∙ o .on i e;
-        none = λ j a z e. o .none j a z (sym (ap (hashOf b) (same-triple j (omega arith))) ∙ e);
-      }
 
   pub met-set : met (set t p v) b n ≡ met t b n
   met-set = met-ext t (set t p v) b n same-triple
@@ -37,8 +32,13 @@ module _ (t : List ℕ) (b n p v : ℕ) (T : Table t b n) (h : b + 2 * n ≤ p) 
     some = T .some;
     narrow = T .narrow;
     few = T .few;
+    wide = T .wide;
     room = omega (arith, T .room, length-set t p v);
-    heads = λ k l. rw (same-word k (omega arith)) (same-last k n _ (omega arith) (T .heads k l));
-    nexts = λ i l. rw (same-triple i l, same-next i l) (same-last _ i _ (omega arith) (T .nexts i l));
+    links = λ s l. rw (same-link s l) (T .links s l);
+    rising = λ q key l. rw (same-link (childOf b q key) (child q key l)) (T .rising q key l);
+    alone = λ s s' l k. rw (same-link s l, same-link s' k) (T .alone s s' l k);
+    later = λ i l k. same-half (2 * i + 1) (omega arith) ∙ T .later i l k;
+    short = λ i l. rw (same-triple i l) (T .short i l);
+    stands = λ i l h. rw (same-triple i l) (ahead-kept t b n T (set t p v) (λ s q _. same-link s q) (triple t b i) i (T .stands i l h));
     once = λ i j l k e. T .once i j l k (sym (same-triple i (omega arith)) ∙ e ∙ same-triple j k);
   }

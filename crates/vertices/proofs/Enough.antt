@@ -37,11 +37,15 @@ not-short : (e : Excess) (n : ℕ) → allOf e n ≡ Short → ⊥
 not-short nowhere n q = let z : _≡_ {A = ℕ} 0 1 = cc in omega arith
 not-short (from i) n q = let z : _≡_ {A = ℕ} 0 1 = cc in omega arith
 
--- some chains, and no more than triples
-pub chains-fit : (m b : ℕ) → 0 < m → b ≡ min m 65536 → (0 < b) × (b ≤ 65536) × (b ≤ m)
-chains-fit m b h e =
+-- some trees, and no more than triples
+pub trees-fit : (m b : ℕ) → 0 < m → b ≡ min m 65536 → (0 < b) × (b ≤ 65536) × (b ≤ m)
+trees-fit m b h e =
     let some : 1 ≤ min m 65536 = le-min h (omega arith) in
     (omega arith, omega (arith, min-le-right m 65536), omega (arith, min-le-left m 65536))
+
+-- there is a tree for each vertex
+pub tree-left : (m b n : ℕ) → min m 65536 ≤ b → n < m → n < 65536 → n < b
+tree-left m b n h l few = let le : n + 1 ≤ min m 65536 = le-min (omega arith) (omega arith) in omega arith
 
 pub enough : (xs w w' : List ℕ) (m b : ℕ) (r : All) → length xs ≡ m → m ≤ length w / 4 → b ≡ min m 65536 → InWork xs m b w w' r → NumberedAll xs w w' r
 enough xs w w' m b r lx h eb a =

@@ -1,7 +1,9 @@
 pub mod Triples
-pub mod Buckets
+pub mod Hashing
+pub mod Links
+pub mod Ways
 pub mod Behind
-pub mod Chain
+pub mod Walking
 pub mod Adding
 pub mod Lookup
 pub mod Clearing

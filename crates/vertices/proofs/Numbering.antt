@@ -1,5 +1,5 @@
 -- A turn of the numbering of a list of triples: what is left to number after it. The table t and the numbers o are apart here.
-use Prim.Native.Nat.{ℕ, zero, _+_, _*_, _≤_, _<_, _^_}
+use Prim.Native.Nat.{ℕ, zero, _+_, _*_, _/_, _≤_, _<_, _^_}
 use native.Mathlib.Omega.{arith}
 use mathlib.Core.Path.{_≡_, refl, ap, sym, subst, _∙_}
 use mathlib.Core.Bool.{Bool, true, false, cond}
@@ -9,7 +9,7 @@ use lib.Seq.{drop-at}
 use lib.Dec.{leb}
 use Rattle.distinct.specs.Distinct.{indexOf, withNew, distinctFrom, numbersFrom}
 use Rattle.vertices.specs.Vertices.{numberOf, countAfter, answerAll}
-use Rattle.vertices.specs.Table.{tripleAt, met, cleared, Table, Looked}
+use Rattle.vertices.specs.Table.{tripleAt, met, halfAt, Link, root, child, cleared, Table, Looked}
 use Rattle.fields.specs.Bytes.{put, zeros}
 use Rattle.fields.proofs.Puts.{length-put, put-whole}
 use Rattle.vertices.specs.declared.Numbered.{Numbered}
@@ -18,6 +18,7 @@ use Rattle.vertices.specs.declared.All.{All}
 use Rattle.vertices.specs.declared.All.the-variants.{Count, Over}
 use Rattle.distinct.proofs.Laws.{index-most, length-with}
 use Rattle.vertices.proofs.Triples.{length-met, met-at}
+use Rattle.vertices.proofs.Links.{half-zero}
 use Rattle.distinct.proofs.Left.{Left, drop-more, left-start, left-turn, left-over, done-excess, done-distinct, done-numbers}
 
 -- what an answer says of the test that it goes by
@@ -49,15 +50,29 @@ module _ (t : List ℕ) (b : ℕ) (l : b ≤ length t) where
   unfolding cleared put
   length-cleared = length-put zero (zeros b) t
 
+  no-link : (s : ℕ) → s / 2 < b → halfAt (cleared t b) s ≡ 0
+  no-link s q =
+      let z : getD (cleared t b) (s / 2) 0 ≡ 0 =
+      rw (cleared-is, List·getD-append (zeros b) (drop b t) 0 (s / 2) (rw (length-replicate {A = ℕ} b 0) q), getD-replicate {A = ℕ} b (s / 2) 0 0 q) in
+      rw z (half-zero s)
+
+  unlinked : {s : ℕ} → Link b 0 s → halfAt (cleared t b) s ≡ 0
+  unlinked (root k h) = no-link (2 * k) (omega arith)
+  unlinked (child p key h) = absurd (omega arith)
+
   pub table-cleared : 0 < b → b ≤ 2 ^ 32 → Table (cleared t b) b 0
   table-cleared h narrow = record {
     some = h;
     narrow = narrow;
     few = omega arith;
+    wide = omega arith;
     room = omega (arith, length-cleared);
-    heads = λ k q. rw (cleared-is, List·getD-append (zeros b) (drop b t) 0 k (rw (length-replicate {A = ℕ} b 0) q), getD-replicate {A = ℕ} b k 0 0 q)
-        (record { within = omega arith; on = λ i e. absurd (omega arith); none = λ j a z e. omega arith });
-    nexts = λ i q. absurd (omega arith);
+    links = λ s l. let z = unlinked l in (omega arith, omega arith);
+    rising = λ p key q d. absurd (omega arith);
+    alone = λ s s' l k d e. let z = unlinked l in absurd (omega arith);
+    later = λ i q l. no-link (2 * i + 1) (omega arith);
+    short = λ i q. absurd (omega arith);
+    stands = λ i q l. absurd (omega arith);
     once = λ i j a q e. omega arith;
   }
 

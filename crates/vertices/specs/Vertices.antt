@@ -5,17 +5,11 @@ use mathlib.Core.Bool.{cond}
 use mathlib.Core.List.{List, []}
 use lib.ListN.{length}
 use lib.Dec.{leb}
-use Rattle.distinct.specs.Distinct.{indexOf, isIn, withNew, distinctFrom, Excess, nowhere, from, excessFrom}
-use Rattle.vertices.specs.declared.Found.{Found}
-use Rattle.vertices.specs.declared.Found.the-variants.{At, Nothing}
+use Rattle.distinct.specs.Distinct.{indexOf, withNew, distinctFrom, Excess, nowhere, from, excessFrom}
 use Rattle.vertices.specs.declared.Numbered.{Numbered}
 use Rattle.vertices.specs.declared.Numbered.the-variants.{Vertex, Full}
 use Rattle.vertices.specs.declared.All.{All}
 use Rattle.vertices.specs.declared.All.the-variants.{Count, Over, Short}
-
--- where x stands among the triples ts
-abbrev pub foundIn : List ℕ → ℕ → Found
-foundIn ts x = cond (isIn ts x) (At (indexOf ts x)) Nothing
 
 -- the number of the first equal triple, which is the next number where there is none, with the count of triples after it;
 -- or Full, where x would be a 65,537th

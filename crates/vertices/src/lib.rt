@@ -1,15 +1,15 @@
 // Equal short triples share a vertex, numbered as first met. A triple is the one number
-// x + 2^16 y + 2^32 z. The table lies in lent words: `buckets` heads of chains, then two words to a vertex.
+// x + 2^16 y + 2^32 z. The table lies in lent words: `buckets` roots of trees, then two words to a vertex. No walk has more than 48 steps.
 ghost use mathlib.Core.Path.{_≡_};
 ghost use Prim.Native.Nat.{_+_, _*_, _/_, _≤_, _<_, _^_, min};
 ghost use lib.ListN.{length, getD};
-ghost use Rattle.vertices.specs.Vertices.{foundIn};
-ghost use Rattle.vertices.specs.Table.{tripleAt, nextAt, hashOf, met, cleared, added, Table, Room, Looked, InWork, triplesOf, NumberedAll};
+ghost use Rattle.vertices.specs.Table.{tripleAt, hashOf, met, half, halfAt, childOf, Walked, cleared, linkedWith, added, Table, Room, Looked, InWork, triplesOf, NumberedAll};
 
 enum Found {
     // The vertex with the triple.
     At(usize),
-    Nothing,
+    // There is none: the half that would lead to it.
+    End(usize),
 }
 
 pub enum Numbered {
@@ -28,7 +28,7 @@ pub enum All {
     Short,
 }
 
-// The chain on which a triple lies: a product's low half, spread over the chains. A `%` would cost a division.
+// The tree in which a triple stands: a product's low half, spread over the trees. A `%` would cost a division.
 fn hash(triple: u64, buckets: usize) -> usize
     requires { ⌜ (0 < buckets) × (buckets ≤ 2 ^ 32) ⌝ }
     ensures { λ r. ⌜ (r ≡ hashOf buckets triple) × (r < buckets) ⌝ }
@@ -39,49 +39,74 @@ fn hash(triple: u64, buckets: usize) -> usize
     (mixed * (buckets as u64) / 4294967296) as usize
 }
 
-// A word past the end counts as 0.
-fn word_at(table: &[u32], at: usize) -> u32
-    ensures { λ r. ⌜ r ≡ getD (now (table .entry)) at 0 ⌝ }
+// The triple whose first word is at `at`, where both its words are there.
+fn whole_triple_at(table: &[u32], at: usize) -> u64
+    requires { ⌜ at + 1 < length (now table) ⌝ }
+    ensures { λ r. ⌜ (r ≡ tripleAt (now (table .entry)) at) × (r < 2 ^ 48) ⌝ }
 {
-    if at < table.len() {
-        return table[at];
-    }
-    0
+    let z = table[at + 1] % 65536;
+    (table[at] as u64) + (z as u64) * 4294967296
 }
 
-// The triple whose first word is at `at`.
+// The same anywhere: a word past the end counts as 0.
 pub fn triple_at(table: &[u32], at: usize) -> u64
     ensures { λ r. ⌜ (r ≡ tripleAt (now (table .entry)) at) × (r < 2 ^ 48) ⌝ }
 {
     if table.len() <= at {
         return 0;
     }
-    let z = word_at(table, at + 1) % 65536;
-    (table[at] as u64) + (z as u64) * 4294967296
-}
-
-// 1 + the vertex before it on its chain, 0 where there is none.
-fn next_at(table: &[u32], at: usize) -> usize
-    requires { ⌜ at + 1 < length (now table) ⌝ }
-    ensures { λ r. ⌜ r ≡ nextAt (now (table .entry)) at ⌝ }
-{
-    (table[at + 1] / 65536) as usize
-}
-
-// The vertex with this triple: down its chain from the last one.
-fn find(table: &[u32], buckets: usize, count: usize, triple: u64) -> Found
-    requires { ⌜ Table (now table) buckets count ⌝ }
-    ensures { λ r. ⌜ r ≡ foundIn (met (now (table .entry)) buckets count) triple ⌝ }
-{
-    let mut p = table[hash(triple, buckets)] as usize;
-    while p != 0 {
-        let at = buckets + 2 * (p - 1);
-        if triple_at(table, at) == triple {
-            return Found::At(p - 1);
-        }
-        p = next_at(table, at);
+    if table.len() - at < 2 {
+        return table[at] as u64;
     }
-    Found::Nothing
+    whole_triple_at(table, at)
+}
+
+// Half s of all words: the low half of a word where s is even, else its high half.
+fn half_at(table: &[u32], s: usize) -> usize
+    requires { ⌜ s / 2 < length (now table) ⌝ }
+    ensures { λ r. ⌜ r ≡ halfAt (now (table .entry)) s ⌝ }
+{
+    let word = table[s / 2];
+    if s % 2 < 1 {
+        return (word % 65536) as usize;
+    }
+    (word / 65536) as usize
+}
+
+// The half for the child of vertex p to which a walk goes that has `key` left.
+fn child_of(buckets: usize, p: usize, key: u64) -> usize
+    requires { ⌜ (buckets ≤ 2 ^ 32) × (p ≤ 65536) ⌝ }
+    ensures { λ r. ⌜ r ≡ childOf buckets p key ⌝ }
+{
+    if key % 2 < 1 {
+        return 2 * (buckets + 2 * p + 1) + 1;
+    }
+    2 * p + 1
+}
+
+// The vertex with this triple, or the half that would lead to it: down its tree, a bit of the triple a step. Vertex 65,535 stands in none.
+fn find(table: &[u32], buckets: usize, count: usize, triple: u64) -> Found
+    requires { ⌜ Table (now table) buckets count × (triple < 2 ^ 48) ⌝ }
+    ensures { λ r. ⌜ Walked (now (table .entry)) buckets count triple r ⌝ }
+{
+    let mut place = 2 * hash(triple, buckets);
+    let mut p = half_at(table, place);
+    let mut key = triple;
+    while p != 0 {
+        let i = p - 1;
+        if whole_triple_at(table, buckets + 2 * i) == triple {
+            return Found::At(i);
+        }
+        place = child_of(buckets, i, key);
+        p = half_at(table, place);
+        key = key / 2;
+    }
+    if 65535 < count {
+        if triple_at(table, buckets + 131070) == triple {
+            return Found::At(65535);
+        }
+    }
+    Found::End(place)
 }
 
 // Makes `table` one of no vertex: its first `buckets` words are 0, as far as it has them.
@@ -98,17 +123,28 @@ pub fn clear(table: &mut [u32], buckets: usize)
     }
 }
 
-// Adds a vertex at the front of its chain.
-fn add(table: &mut [u32], buckets: usize, count: usize, triple: u64)
-    requires { ⌜ Room (now table) buckets count triple × (count < 65536) ⌝ }
-    ensures { λ _. ⌜ now (table .exit) ≡ added (now (table .entry)) buckets count triple ⌝ }
+// The word with a link in a half that was 0.
+fn linked(word: u32, place: usize, link: usize) -> u32
+    requires { ⌜ (half word place ≡ 0) × (link < 65536) ⌝ }
+    ensures { λ r. ⌜ r ≡ linkedWith word place link ⌝ }
 {
-    let h = hash(triple, buckets);
+    if place % 2 < 1 {
+        return word + link as u32;
+    }
+    word + link as u32 * 65536
+}
+
+// Adds a vertex, to which the half `place` then leads.
+fn add(table: &mut [u32], buckets: usize, count: usize, triple: u64, place: usize)
+    requires { ⌜ (buckets + 2 * count + 2 ≤ length (now table)) × (count < 65536) × (triple < 2 ^ 48) × (place / 2 < buckets + 2 * count)
+        × (halfAt (now table) place ≡ 0) ⌝ }
+    ensures { λ _. ⌜ now (table .exit) ≡ added (now (table .entry)) buckets count triple place ⌝ }
+{
+    let word = linked(table[place / 2], place, (count + 1) % 65536);
     let at = buckets + 2 * count;
-    let next = table[h];
     table[at] = (triple % 4294967296) as u32;
-    table[at + 1] = (triple / 4294967296) as u32 + next * 65536;
-    table[h] = (count + 1) as u32;
+    table[at + 1] = (triple / 4294967296) as u32;
+    table[place / 2] = word;
 }
 
 // The number of a triple: that of the first equal one, or the next number, which the triple then has.
@@ -120,9 +156,9 @@ pub fn find_or_add(table: &mut [u32], buckets: usize, count: usize, triple: u64)
     let known = find(table, buckets, count, triple);
     match known {
         Found::At(i) => Numbered::Vertex(i, count),
-        Found::Nothing => {
+        Found::End(place) => {
             if count < 65536 {
-                add(table, buckets, count, triple);
+                add(table, buckets, count, triple, place);
                 Numbered::Vertex(count, count + 1)
             } else {
                 Numbered::Full
@@ -133,14 +169,15 @@ pub fn find_or_add(table: &mut [u32], buckets: usize, count: usize, triple: u64)
 
 // The numbers of m triples, first in `work`; the table lies from m on.
 fn number_in(triples: &[u32], m: usize, work: &mut [u32], buckets: usize) -> All
-    requires { ⌜ (0 < buckets) × (buckets ≤ 2 ^ 32) × (2 * m ≤ length (now triples)) × (m + (buckets + 2 * m) ≤ length (now work)) ⌝ }
+    requires { ⌜ (0 < buckets) × (buckets ≤ 2 ^ 32) × (2 * m ≤ length (now triples)) × (m + (buckets + 2 * m) ≤ length (now work))
+        × (min m 65536 ≤ buckets) ⌝ }
     ensures { λ r. ⌜ InWork (met (now (triples .entry)) 0 m) m buckets (now (work .entry)) (now (work .exit)) r ⌝ }
 {
     clear(&mut work[m..], buckets);
     let mut n = 0;
     let mut i = 0;
     while i < m {
-        let triple = triple_at(triples, 2 * i);
+        let triple = whole_triple_at(triples, 2 * i);
         let known = find_or_add(&mut work[m..], buckets, n, triple);
         match known {
             Numbered::Vertex(number, count) => {
@@ -156,8 +193,8 @@ fn number_in(triples: &[u32], m: usize, work: &mut [u32], buckets: usize) -> All
     All::Count(n)
 }
 
-// A chain for each triple, as far as there can be vertices.
-fn chains(m: usize) -> usize
+// How many trees a table for m triples has: one for each, as far as there can be vertices.
+pub fn tree_count(m: usize) -> usize
     ensures { λ r. ⌜ r ≡ min m 65536 ⌝ }
 {
     if m < 65536 {
@@ -178,6 +215,6 @@ pub fn number_all(triples: &[u32], work: &mut [u32]) -> All
     if m == 0 {
         return All::Count(0);
     }
-    let buckets = chains(m);
+    let buckets = tree_count(m);
     number_in(triples, m, work, buckets)
 }

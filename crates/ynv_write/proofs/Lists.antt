@@ -17,7 +17,7 @@ use Rattle.blocks.proofs.Layouts.{laid-then}
 use Rattle.pages.specs.Items.{vertexItems, indexItems, edgeItems, polygonItems}
 use Rattle.pages.specs.Pages.{allCorners, vertices, areas, sectors, counts, endHeader, endVertices, endIndices, endEdges, endPolygons}
 use Rattle.pages.proofs.Sizes.{list-size, wide-vertices, wide-indices, wide-edges, wide-polygons, length-vertices, length-indices, length-edges, length-polygons}
-use Rattle.decide.specs.Decide.{chains, indicesAt, tablesEnd}
+use Rattle.decide.specs.Decide.{trees, indicesAt, tablesEnd}
 use Rattle.decide.specs.declared.Decision.{Decision}
 use Rattle.plan.specs.Plan.{boxes}
 use Rattle.plan.specs.Ready.{cellAt, Ready}
@@ -57,7 +57,7 @@ header-end c e = e
 module _ (s w : List ℕ) (d : Decision) (R : Ready s w d) where
   many-vertices : d .vertices ≡ length (vertices (cellAt s (d .counts)))
   unfolding vertices
-  many-vertices = sym (length-met w (chains (length s)) (d .vertices)) ∙ ap length (R .tabled .vertices)
+  many-vertices = sym (length-met w (trees (length s)) (d .vertices)) ∙ ap length (R .tabled .vertices)
 
   many-polys : length (polygonsAt s 14 (d .counts .polys)) ≡ d .counts .polys
   many-polys = poly-count s (d .counts .polys)
@@ -66,18 +66,18 @@ module _ (s w : List ℕ) (d : Decision) (R : Ready s w d) where
   polys-inside = omega (arith, R .whole)
 
   pub vertices-ask : (q : ℕ) → q ≡ endHeader (counts (cellAt s (d .counts))) (sectors (cellAt s (d .counts)))
-      → (at : ℕ) → at ≡ chains (length s) → (at + 2 * d .vertices ≤ length w) × Room q 6 (d .vertices) (listSizes 6 (d .vertices))
+      → (at : ℕ) → at ≡ trees (length s) → (at + 2 * d .vertices ≤ length w) × Room q 6 (d .vertices) (listSizes 6 (d .vertices))
   unfolding endHeader
   vertices-ask q e at here =
       (omega (arith, here, R .tabled .few-vertices, R .tabled .few-corners, R .room), rw many-vertices (rooms (cellAt s (d .counts)) (R .accepted) .vertices q e))
 
   pub indices-ask : (q : ℕ) → q ≡ endVertices (counts (cellAt s (d .counts))) (sectors (cellAt s (d .counts)))
-      → (at : ℕ) → at ≡ chains (length s) → (at + 2 * (length s / 3) + d .corners ≤ length w) × Room q 2 (d .corners) (listSizes 2 (d .corners))
+      → (at : ℕ) → at ≡ trees (length s) → (at + 2 * (length s / 3) + d .corners ≤ length w) × Room q 2 (d .corners) (listSizes 2 (d .corners))
   unfolding endVertices endHeader counts
   indices-ask q e at here =
       (omega (arith, here, R .tabled .few-corners, R .room), rw (R .tabled .corner-count) (rooms (cellAt s (d .counts)) (R .accepted) .indices q e))
 
-  pub edges-ask : (q : ℕ) → q ≡ endIndices (counts (cellAt s (d .counts))) (sectors (cellAt s (d .counts))) → (at : ℕ) → at ≡ chains (length s)
+  pub edges-ask : (q : ℕ) → q ≡ endIndices (counts (cellAt s (d .counts))) (sectors (cellAt s (d .counts))) → (at : ℕ) → at ≡ trees (length s)
       → (afterPolygons s 14 (d .counts .polys) ≤ length s) × (d .corners ≡ length (cornersAt s (d .counts .polys))) × (at + 2 * d .corners ≤ length w)
       × Room q 8 (d .corners) (listSizes 8 (d .corners))
   unfolding endIndices endVertices endHeader counts
@@ -90,7 +90,7 @@ module _ (s w : List ℕ) (d : Decision) (R : Ready s w d) where
 
   -- ---- the items that they lay out are the cell's
 
-  pub vertices-step : {l r : Layout} {xs ys : List ℕ} → l .at ≡ endHeader (counts (cellAt s (d .counts))) (sectors (cellAt s (d .counts))) → (at : ℕ) → at ≡ chains (length s)
+  pub vertices-step : {l r : Layout} {xs ys : List ℕ} → l .at ≡ endHeader (counts (cellAt s (d .counts))) (sectors (cellAt s (d .counts))) → (at : ℕ) → at ≡ trees (length s)
       → Laid l (listBlocks (l .at) 1080158456 6 (vertexItems (met w at (d .vertices)))) r xs ys
       → (r .at ≡ endVertices (counts (cellAt s (d .counts))) (sectors (cellAt s (d .counts)))) × Laid l (listBlocks (endHeader (counts (cellAt s (d .counts))) (sectors (cellAt s (d .counts)))) 1080158456 6 (vertexItems (vertices (cellAt s (d .counts))))) r xs ys
   unfolding endVertices counts vertices
@@ -100,7 +100,7 @@ module _ (s w : List ℕ) (d : Decision) (R : Ready s w d) where
       list-step (endHeader (counts (cellAt s (d .counts))) (sectors (cellAt s (d .counts)))) 1080158456 6 (length vs) (vertexItems vs) (wide-vertices vs) (length-vertices vs) e
       (subst (λ (ts : List ℕ). Laid l (listBlocks (l .at) 1080158456 6 (vertexItems ts)) r xs ys) same f)
 
-  pub indices-step : {l r : Layout} {xs ys : List ℕ} → l .at ≡ endVertices (counts (cellAt s (d .counts))) (sectors (cellAt s (d .counts))) → (at : ℕ) → at ≡ chains (length s)
+  pub indices-step : {l r : Layout} {xs ys : List ℕ} → l .at ≡ endVertices (counts (cellAt s (d .counts))) (sectors (cellAt s (d .counts))) → (at : ℕ) → at ≡ trees (length s)
       → Laid l (listBlocks (l .at) 1080158424 2 (numberItems 2 (take (d .corners) (drop (at + 2 * (length s / 3)) w)))) r xs ys
       → (r .at ≡ endIndices (counts (cellAt s (d .counts))) (sectors (cellAt s (d .counts)))) × Laid l (listBlocks (endVertices (counts (cellAt s (d .counts))) (sectors (cellAt s (d .counts)))) 1080158424 2 (indexItems (vertices (cellAt s (d .counts))) (allCorners (cellAt s (d .counts))))) r xs ys
   unfolding endIndices counts vertices
@@ -131,7 +131,7 @@ module _ (s w : List ℕ) (d : Decision) (R : Ready s w d) where
 
   -- ---- work, where the edges were made
 
-  module _ (ids : List ℕ) (at : ℕ) (here : at ≡ chains (length s)) (w' : List ℕ) (e : w' ≡ put at (edgeWords ids (cornersAt s (d .counts .polys))) w) where
+  module _ (ids : List ℕ) (at : ℕ) (here : at ≡ trees (length s)) (w' : List ℕ) (e : w' ≡ put at (edgeWords ids (cornersAt s (d .counts .polys))) w) where
     edges-end : at + length (edgeWords ids (cornersAt s (d .counts .polys))) ≤ indicesAt (length s)
     edges-end = omega (arith, here, length-words ids (cornersAt s (d .counts .polys)), R .tabled .corner-count, R .tabled .few-corners)
 

@@ -87,7 +87,7 @@ fn fill_lists(pages: &mut [u8], strip: &[u32], d: Decision, work: &mut [u32]) ->
     ensures { λ _. ⌜ Left (now (strip .entry)) (d .counts) (now (work .entry)) (now (work .exit)) ⌝ }
 {
     let words = strip.len();
-    let at = decide::chain_count(words);
+    let at = decide::tree_count(words);
     let counts = d.counts;
     let n = counts.polys;
     let corners = d.corners;

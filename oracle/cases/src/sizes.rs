@@ -154,18 +154,24 @@ pub fn with_points(count: usize, position: impl Fn(usize) -> (f32, f32)) -> Ynv 
     Ynv { points: (0..count).map(point).collect(), ..empty_grid() }
 }
 
-/// A vehicle cell of 65,536 vertices that all lie on one chain of the writer's table: its hash is a
-/// fixed product, so that whoever knows it can choose them.
-pub fn one_chain() -> Ynv {
-    const FACTOR: u32 = 1_640_531_527;
-    let inverse = (0..5).fold(1u32, |i, _| i.wrapping_mul(2u32.wrapping_sub(FACTOR.wrapping_mul(i))));
-    let vertex = |n: u32| {
-        let low = n.wrapping_mul(inverse);
-        vec3((low % 65536) as f32, (low / 65536) as f32, 0.0)
+/// 65,536 vertices that lie deep in one tree of the writer's table. Its hash is a fixed sum of
+/// products, so that whoever knows it can choose them: with one x there is one y for every z. A walk
+/// goes by the bits of x, then of y, then of z: the first sixteen are alike, so no walk branches there.
+pub fn deep_in_one_tree() -> Vec<[u16; 3]> {
+    const LOW: u32 = 1_640_531_527;
+    const HIGH: u32 = 1_181_783_497;
+    let inverse = (0..4).fold(1u16, |i, _| i.wrapping_mul(2u16.wrapping_sub((LOW as u16).wrapping_mul(i))));
+    let vertex = |z: u32| {
+        let rest = z.wrapping_mul(HIGH) >> 16;
+        [0, (rest as u16).wrapping_neg().wrapping_mul(inverse), z as u16]
     };
-    let corners: Vec<u32> = (0..65536).collect();
-    let poly = |run: &[u32]| NavPoly {
-        vertices: run.iter().map(|&n| vertex(n)).collect(),
+    (0..65536).map(vertex).collect()
+}
+
+/// A vehicle cell with those vertices.
+pub fn one_tree() -> Ynv {
+    let poly = |run: &[[u16; 3]]| NavPoly {
+        vertices: run.iter().map(|v| vec3(v[0] as f32, v[1] as f32, v[2] as f32)).collect(),
         edges: Vec::new(),
         flags0: 0,
         flags1: 0,
@@ -173,7 +179,7 @@ pub fn one_chain() -> Ynv {
         portal_links: Vec::new(),
     };
     let size = vec3(65535.0, 65535.0, 65535.0);
-    let polys = corners.chunks(2047).map(poly).collect();
+    let polys = deep_in_one_tree().chunks(2047).map(poly).collect();
     Ynv { polys, bb_min: vec3(0.0, 0.0, 0.0), bb_max: size, bb_size: size, ..empty_vehicle() }
 }
 

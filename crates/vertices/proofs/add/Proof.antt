@@ -1,25 +1,28 @@
--- `vertices::add` meets its contract. A head is at most the count, so that it fits the high half of a word.
+-- `vertices::add` meets its contract.
 use native.Mathlib.Omega.{arith}
 use lib.ListN.{length-set}
-use borrow.Author.Needs.{needs}
 use Rattle.vertices.specs.Table.{added}
+use borrow.Author.Needs.{needs}
 use Rattle.vertices.proofs.add.Statement.{statement}
 use Rattle.vertices.proofs.add.Tie as tie
 
-hash-requires : tie.Need-hash-requires
-hash-requires c κs = search needs
+mul-linked : tie.Need-mul-linked
+mul-linked c = search needs
+
+slice-read-linked : tie.Need-slice-read-linked
+slice-read-linked c = search needs
+
+add-linked : tie.Need-add-linked
+add-linked c = search needs
+
+linked-requires : tie.Need-linked-requires
+linked-requires c κs = (c .before .before .pre .4, omega arith)
 
 mul-at : tie.Need-mul-at
 mul-at c = search needs
 
 add-at : tie.Need-add-at
 add-at c = search needs
-
-mul-next : tie.Need-mul-next
-mul-next c = search needs
-
-slice-read-next : tie.Need-slice-read-next
-slice-read-next c = search needs
 
 cast-table : tie.Need-cast-table
 cast-table c = search needs
@@ -33,29 +36,17 @@ slice-write-table c = search needs
 cast-table-2 : tie.Need-cast-table-2
 cast-table-2 c = search needs
 
-mul-table-2 : tie.Need-mul-table-2
-mul-table-2 c = let k = c .before .hash in omega (arith, c .before .before .before .pre .0 .table .heads (k .result) (k .ensures .1) .within)
-
 add-table : tie.Need-add-table
-add-table c = let k = c .before .hash in omega (arith, c .before .before .before .pre .0 .table .heads (k .result) (k .ensures .1) .within)
+add-table c = search needs
 
-add-table-2 : tie.Need-add-table-2
-add-table-2 c = search needs
-
-mul-table-3 : tie.Need-mul-table-3
-mul-table-3 c = search needs
+mul-table-2 : tie.Need-mul-table-2
+mul-table-2 c = search needs
 
 slice-write-table-2 : tie.Need-slice-write-table-2
 slice-write-table-2 c = simp length-set (omega arith)
 
-add-table-3 : tie.Need-add-table-3
-add-table-3 c = search needs
-
-cast-table-3 : tie.Need-cast-table-3
-cast-table-3 c = search needs
-
-mul-table-4 : tie.Need-mul-table-4
-mul-table-4 c = search needs
+mul-table-3 : tie.Need-mul-table-3
+mul-table-3 c = search needs
 
 slice-write-table-3 : tie.Need-slice-write-table-3
 slice-write-table-3 c = simp length-set (omega arith)
@@ -65,29 +56,26 @@ same-length c = search needs
 
 returns : tie.Need-returns
 unfolding added
-returns c = rw (c .before .hash .ensures .0)
+returns c = rw (c .linked .ensures)
 
 pub add-spec : {M : Type 1} → statement M
 add-spec =
     tie.close
     (tie.spec
-    hash-requires
+    mul-linked
+    slice-read-linked
+    add-linked
+    linked-requires
     mul-at
     add-at
-    mul-next
-    slice-read-next
     cast-table
     mul-table
     slice-write-table
     cast-table-2
-    mul-table-2
     add-table
-    add-table-2
-    mul-table-3
+    mul-table-2
     slice-write-table-2
-    add-table-3
-    cast-table-3
-    mul-table-4
+    mul-table-3
     slice-write-table-3
     same-length
     returns)

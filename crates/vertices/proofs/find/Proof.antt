@@ -1,63 +1,80 @@
--- `vertices::find` meets its contract. The invariant, `Down`: no vertex from p on is the triple, and the one below p lies on its chain.
--- The measure is p, which falls since the next of a vertex is at most its number.
-use Prim.Native.Nat.{_-_}
+-- `vertices::find` meets its contract. The invariant, `Walking`: a vertex with the triple is still ahead.
+-- The measure falls since a child has a greater number than its vertex.
+use Prim.Native.Nat.{ℕ, _+_, _*_, _-_, _<_}
 use native.Mathlib.Omega.{arith}
-use mathlib.Core.Path.{sym, _∙_}
+use mathlib.Core.Path.{sym, ap, _∙_}
 use borrow.Author.Needs.{needs}
-use Rattle.vertices.proofs.Chain.{Down, down-start, down-next, found, missing}
+use Rattle.vertices.specs.Table.{halfAt, child}
+use Rattle.vertices.proofs.Links.{apart}
+use Rattle.vertices.proofs.Walking.{Walking, beyond, begin, below, onward, later, stands-here, stands-last, ended}
 use Rattle.vertices.proofs.find.Statement.{statement}
 use Rattle.vertices.proofs.find.Tie as tie
 
 abbrev Inv-loop : tie.InvT-loop
-Inv-loop table buckets count x p₀ p = Down table buckets count x p
+Inv-loop table buckets count x place₀ p₀ key₀ place p key = Walking table buckets count x place p key
 
 abbrev μ-loop : tie.MeasureT-loop
-μ-loop table buckets count x p₀ p = p
+μ-loop table buckets count x place₀ p₀ key₀ place p key = beyond count p
+
+-- in the loop there is a vertex, below the count
+under : (c : tie.In-loop Inv-loop μ-loop) → c .before .loop .p - 1 < c .before .before .before .before .before .args .count
+under c = omega (arith, below _ _ _ _ (c .before .before .before .before .before .pre .0) _ _ _ (c .before .loop .inv))
 
 hash-requires : tie.Need-hash-requires Inv-loop μ-loop
 hash-requires c κs = search needs
 
-mul-p : tie.Need-mul-p Inv-loop μ-loop
-mul-p c = search needs
+mul-place : tie.Need-mul-place Inv-loop μ-loop
+mul-place c = search needs
 
-shared-slice-read-p : tie.Need-shared-slice-read-p Inv-loop μ-loop
-shared-slice-read-p c = search needs
-
-cast-p : tie.Need-cast-p Inv-loop μ-loop
-cast-p c = omega (arith, c .shared-slice-known2 .given (c .before .hash .result))
+half-at-requires : tie.Need-half-at-requires Inv-loop μ-loop
+half-at-requires c κs = omega (arith, c .before .before .pre .0 .room, c .hash .ensures .1)
 
 loop-holds : tie.Need-loop-holds Inv-loop μ-loop
-loop-holds c = down-start _ _ _ _ (c .before .before .before .pre) _ (c .before .hash .ensures .0) (c .before .hash .ensures .1)
+loop-holds c = begin _ _ _ _ (c .before .before .before .pre .0) _ _ (ap (λ (h : ℕ). 2 * h) (c .before .hash .ensures .0)) (c .half-at .ensures)
 
-sub-at : tie.Need-sub-at Inv-loop μ-loop
-sub-at c = search needs
+sub-i : tie.Need-sub-i Inv-loop μ-loop
+sub-i c = search needs
 
-mul-at : tie.Need-mul-at Inv-loop μ-loop
-mul-at c = search needs
+mul-whole-triple-at : tie.Need-mul-whole-triple-at Inv-loop μ-loop
+mul-whole-triple-at c = omega (arith, under c, c .before .before .before .before .before .pre .0 .few)
 
-add-at : tie.Need-add-at Inv-loop μ-loop
-add-at c = search needs
+add-whole-triple-at : tie.Need-add-whole-triple-at Inv-loop μ-loop
+add-whole-triple-at c = omega (arith, under c, c .before .before .before .before .before .pre .0 .few, c .before .before .before .before .before .pre .0 .narrow)
+
+whole-triple-at-requires : tie.Need-whole-triple-at-requires Inv-loop μ-loop
+whole-triple-at-requires c κs = omega (arith, under c, c .before .before .before .before .before .pre .0 .room)
+
+returns : tie.Need-returns Inv-loop μ-loop
+returns c = stands-here _ _ _ _ (c .before .before .before .before .before .before .before .pre .0) _ _ _ (c .before .before .before .loop .inv) (omega arith) (sym (c .before .whole-triple-at .ensures .0) ∙ c .if1 .taken)
+
+child-of-requires : tie.Need-child-of-requires Inv-loop μ-loop
+child-of-requires c κs = (c .before .before .before .before .before .before .before .pre .0 .narrow, omega (arith, under (c .before .before), c .before .before .before .before .before .before .before .pre .0 .few))
+
+half-at-requires-2 : tie.Need-half-at-requires-2 Inv-loop μ-loop
+half-at-requires-2 c κs =
+    let w = apart (c .before .before .before .before .before .before .before .before .pre .0 .wide) (child (c .before .before .before .before .loop .p - 1) (c .before .before .before .before .loop .key) (under (c .before .before .before))) .within in
+    rw (c .child-of .ensures) (omega (arith, w, c .before .before .before .before .before .before .before .before .pre .0 .room))
+
+loop-less : tie.Need-loop-less Inv-loop μ-loop
+loop-less c = later _ _ _ _ (c .before .before .before .before .before .before .before .before .before .pre .0) _ _ _ (c .before .before .before .before .before .loop .inv) (omega arith) _ (c .half-at2 .ensures ∙ ap (halfAt (c .before .before .before .before .before .before .before .before .before .args .table .now)) (c .before .child-of .ensures))
+
+loop-again : tie.Need-loop-again Inv-loop μ-loop
+loop-again c = onward _ _ _ _ (c .before .before .before .before .before .before .before .before .before .pre .0) _ _ _ (c .before .before .before .before .before .loop .inv) (omega arith) (c .before .before .before .before .before .before .before .before .before .pre .1) (λ e. c .before .before .if1 .left (c .before .before .before .whole-triple-at .ensures .0 ∙ e)) _ _ (c .before .child-of .ensures) (c .half-at2 .ensures)
+
+add-triple-at : tie.Need-add-triple-at Inv-loop μ-loop
+add-triple-at c = omega (arith, c .before .before .before .before .before .before .pre .0 .narrow)
 
 triple-at-requires : tie.Need-triple-at-requires Inv-loop μ-loop
 triple-at-requires c κs = search needs
 
-sub-t15 : tie.Need-sub-t15 Inv-loop μ-loop
-sub-t15 c = search needs
-
-returns : tie.Need-returns Inv-loop μ-loop
-returns c = sym (found _ _ _ _ (c .before .before .before .before .before .before .before .pre) _ (omega (arith, c .before .before .before .loop .inv .within)) (sym (c .before .triple-at .ensures .0) ∙ c .if1 .taken))
-
-next-at-requires : tie.Need-next-at-requires Inv-loop μ-loop
-next-at-requires c κs = search needs
-
-loop-less : tie.Need-loop-less Inv-loop μ-loop
-loop-less c = let p = c .before .before .before .before .loop .p in omega (arith, c .next-at .ensures, c .before .before .before .before .before .before .before .before .pre .nexts (p - 1) (omega (arith, c .before .before .before .before .loop .inv .within)) .within)
-
-loop-again : tie.Need-loop-again Inv-loop μ-loop
-loop-again c = rw (c .next-at .ensures) (down-next _ _ _ _ (c .before .before .before .before .before .before .before .before .pre) _ (c .before .before .before .before .loop .p - 1) (omega arith) (c .before .before .before .before .loop .inv) (λ e. c .before .if1 .left (c .before .before .triple-at .ensures .0 ∙ e)))
-
 returns-2 : tie.Need-returns-2 Inv-loop μ-loop
-returns-2 c = sym (missing _ _ _ _ (λ j h e. c .before .loop .inv .none j (omega arith) h e))
+returns-2 c = stands-last _ _ _ _ (c .before .before .before .before .before .before .before .before .pre .0) _ _ _ (c .before .before .before .before .loop .inv) (omega arith) (c .before .before .if2 .taken) (sym (c .before .triple-at .ensures .0) ∙ c .if3 .taken)
+
+returns-3 : tie.Need-returns-3 Inv-loop μ-loop
+returns-3 c = ended _ _ _ _ (c .before .before .before .before .before .before .before .before .pre .0) _ _ _ (c .before .before .before .before .loop .inv) (omega arith) (λ _ e. c .if3 .left (c .before .triple-at .ensures .0 ∙ e))
+
+returns-4 : tie.Need-returns-4 Inv-loop μ-loop
+returns-4 c = ended _ _ _ _ (c .before .before .before .before .before .before .pre .0) _ _ _ (c .before .before .loop .inv) (omega arith) (λ h _. omega (arith, c .if2 .left))
 
 pub find-spec : {M : Type 1} → statement M
 find-spec =
@@ -66,17 +83,20 @@ find-spec =
     Inv-loop
     μ-loop
     hash-requires
-    mul-p
-    shared-slice-read-p
-    cast-p
+    mul-place
+    half-at-requires
     loop-holds
-    sub-at
-    mul-at
-    add-at
-    triple-at-requires
-    sub-t15
+    sub-i
+    mul-whole-triple-at
+    add-whole-triple-at
+    whole-triple-at-requires
     returns
-    next-at-requires
+    child-of-requires
+    half-at-requires-2
     loop-less
     loop-again
-    returns-2)
+    add-triple-at
+    triple-at-requires
+    returns-2
+    returns-3
+    returns-4)

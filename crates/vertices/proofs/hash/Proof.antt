@@ -1,9 +1,9 @@
--- `vertices::hash` meets its contract: a share of the chains is below their number.
+-- `vertices::hash` meets its contract: a share of the trees is below their number.
 use native.Mathlib.Nat.{mod-lt}
 use mathlib.Core.Path.{refl}
 use native.Mathlib.Omega.{arith}
 use Rattle.vertices.specs.Table.{hashOf}
-use Rattle.vertices.proofs.Buckets.{product-lt, hash-lt}
+use Rattle.vertices.proofs.Hashing.{product-lt, hash-lt}
 use borrow.Author.Needs.{needs}
 use Rattle.vertices.proofs.hash.Statement.{statement}
 use Rattle.vertices.proofs.hash.Tie as tie

@@ -5,7 +5,7 @@ use lib.ListN.{length}
 use borrow.Author.Needs.{needs}
 use Rattle.vertices.specs.Table.{met}
 use Rattle.vertices.proofs.Triples.{length-met}
-use Rattle.vertices.proofs.Enough.{too-short, no-triple, chains-fit, enough}
+use Rattle.vertices.proofs.Enough.{too-short, no-triple, trees-fit, enough}
 use Rattle.vertices.proofs.number_all.Statement.{statement}
 use Rattle.vertices.proofs.number_all.Tie as tie
 
@@ -16,21 +16,21 @@ returns-2 : tie.Need-returns-2
 unfolding met
 returns-2 c = rw (c .if2 .taken) (no-triple _)
 
-chains-requires : tie.Need-chains-requires
-chains-requires c κs = search needs
+tree-count-requires : tie.Need-tree-count-requires
+tree-count-requires c κs = search needs
 
 number-in-requires : tie.Need-number-in-requires
 number-in-requires c κs = let m = length (c .before .before .before .before .before .before .args .triples .now) / 2 in
     let some : 0 < m = omega (arith, c .before .before .if2 .left) in
-    let fit = chains-fit m _ some (c .before .chains .ensures) in
-    (fit .0, omega (arith, fit .1), omega arith, omega (arith, fit .2, c .before .before .before .if1 .left))
+    let fit = trees-fit m _ some (c .before .tree-count .ensures) in
+    (fit .0, omega (arith, fit .1), omega arith, omega (arith, fit .2, c .before .before .before .if1 .left), omega (arith, c .before .tree-count .ensures))
 
 same-length : tie.Need-same-length
 same-length c = search needs
 
 returns-3 : tie.Need-returns-3
-returns-3 c = enough _ _ _ _ _ _ (length-met _ _ _) (c .before .before .before .before .before .before .if1 .left) (c .before .before .before .before .chains .ensures) (c .before .before .number-in .ensures)
+returns-3 c = enough _ _ _ _ _ _ (length-met _ _ _) (c .before .before .before .before .before .before .if1 .left) (c .before .before .before .before .tree-count .ensures) (c .before .before .number-in .ensures)
 
 pub number-all-spec : {M : Type 1} → statement M
 number-all-spec =
-    tie.close (tie.spec returns returns-2 chains-requires number-in-requires same-length returns-3)
+    tie.close (tie.spec returns returns-2 tree-count-requires number-in-requires same-length returns-3)

@@ -11,6 +11,7 @@ use Rattle.vertices.specs.Table.{met}
 use Rattle.vertices.proofs.Triples.{length-met}
 use Rattle.vertices.proofs.Numbering.{Going, Step, start, given-at, turn, over, number-le, done}
 use Rattle.vertices.proofs.Parts.{lent, back-take, back-length, back-drop, store-length, store-drop, store-take}
+use Rattle.vertices.proofs.Enough.{tree-left}
 use Rattle.vertices.proofs.OneSlice.{tail-cleared, finish}
 use Rattle.vertices.proofs.number_in.Statement.{statement}
 use Rattle.vertices.proofs.number_in.Tie as tie
@@ -40,12 +41,12 @@ step : (c : tie.After-find-or-add Inv-loop μ-loop) →
     let a = c .before .before .before .before .before .before .before .before .before .before .before .args in
     let at = c .before .before .before .before .loop in
     Step (met (a .triples .now) 0 (a .m)) (a .m) (a .buckets) (drop (a .m) (begun (c .before .before .before .before))) (take (a .m) (begun (c .before .before .before .before)))
-    (drop (a .m) (at .work)) (take (a .m) (at .work)) (at .n) (at .i) (c .before .before .triple-at .result) (c .find-or-add .last .0) (c .find-or-add .result)
+    (drop (a .m) (at .work)) (take (a .m) (at .work)) (at .n) (at .i) (c .before .before .whole-triple-at .result) (c .find-or-add .last .0) (c .find-or-add .result)
 step c = record {
   going = c .before .before .before .before .loop .inv .1;
   size = length-met _ _ _;
   more = c .before .before .before .loop-test .taken;
-  key = given-at _ _ _ _ (c .before .before .before .loop-test .taken) (c .before .before .triple-at .ensures .0);
+  key = given-at _ _ _ _ (c .before .before .before .loop-test .taken) (c .before .before .whole-triple-at .ensures .0);
   looked = rw (lent _ _ (within (c .before .before .before .before))) at (c .find-or-add .ensures);
 }
 
@@ -70,11 +71,11 @@ loop-holds c = let a = c .before .before .before .before .before .before .args i
     let h : a .m ≤ length w = omega (arith, c .before .before .before .before .before .before .pre) in
     (refl, start _ _ _ (drop (a .m) w) _ _ (c .before .before .before .before .before .before .pre .0) (c .before .before .before .before .before .before .pre .1) (omega (arith, c .before .before .before .before .before .before .pre, length-drop (a .m) w)) (tail-cleared (a .m) _ w h _ (c .before .before .clear .kept .0) (c .before .before .clear .ensures)))
 
-mul-triple-at : tie.Need-mul-triple-at Inv-loop μ-loop
-mul-triple-at c = search needs
+mul-whole-triple-at : tie.Need-mul-whole-triple-at Inv-loop μ-loop
+mul-whole-triple-at c = search needs
 
-triple-at-requires : tie.Need-triple-at-requires Inv-loop μ-loop
-triple-at-requires c κs = search needs
+whole-triple-at-requires : tie.Need-whole-triple-at-requires Inv-loop μ-loop
+whole-triple-at-requires c κs = omega (arith, c .loop-test .taken, c .before .before .before .before .before .before .before .before .pre .2)
 
 mul-find-or-add : tie.Need-mul-find-or-add Inv-loop μ-loop
 mul-find-or-add c = search needs
@@ -92,7 +93,7 @@ find-or-add-requires : tie.Need-find-or-add-requires Inv-loop μ-loop
 find-or-add-requires c κs = let g = c .before .before .before .loop .inv .1 in
     let a = c .before .before .before .before .before .before .before .before .before .before .args in
     rw (lent (a .m) (c .before .before .before .loop .work) (within (c .before .before .before)))
-    (record { table = g .table; more = omega (arith, g .few, length-drop (a .m) (c .before .before .before .loop .work), long (c .before .before .before), c .before .before .loop-test .taken, c .before .before .before .before .before .before .before .before .before .before .pre); short = c .before .triple-at .ensures .1 })
+    (record { table = g .table; trees = tree-left (a .m) _ _ (c .before .before .before .before .before .before .before .before .before .before .pre .4) (omega (arith, g .few, c .before .before .loop-test .taken)); more = omega (arith, g .few, length-drop (a .m) (c .before .before .before .loop .work), long (c .before .before .before), c .before .before .loop-test .taken, c .before .before .before .before .before .before .before .before .before .before .pre); short = c .before .whole-triple-at .ensures .1 })
 
 enum-known-known : tie.Need-enum-known-known Inv-loop μ-loop
 enum-known-known c = search needs
@@ -164,8 +165,8 @@ number-in-spec =
     part-clear-end
     clear-requires
     loop-holds
-    mul-triple-at
-    triple-at-requires
+    mul-whole-triple-at
+    whole-triple-at-requires
     mul-find-or-add
     sub-find-or-add
     part-find-or-add-start

@@ -10,8 +10,8 @@ use borrow.Author.Needs.{needs}
 use Rattle.ynv_write.proofs.fill_lists.Statement.{statement}
 use Rattle.ynv_write.proofs.fill_lists.Tie as tie
 
-chain-count-requires : tie.Need-chain-count-requires
-chain-count-requires c κs = search needs
+tree-count-requires : tie.Need-tree-count-requires
+tree-count-requires c κs = search needs
 
 new-requires : tie.Need-new-requires
 new-requires c κs = search needs
@@ -26,7 +26,7 @@ lay-vertices-requires c κs =
     let d = c .before .before .before .before .before .before .before .before .before .args .d in
     let R = c .before .before .before .before .before .before .before .before .before .pre in
     let e0 : c .before .before .alloc .result .at ≡ endHeader (counts (cellAt s (d .counts))) (sectors (cellAt s (d .counts))) = header-end _ (c .before .before .alloc .ensures ∙ rw (c .before .before .before .new .ensures)) in
-    vertices-ask s w d R _ e0 _ (c .before .before .before .before .before .chain-count .ensures)
+    vertices-ask s w d R _ e0 _ (c .before .before .before .before .before .tree-count .ensures)
 
 mul-lay-indices : tie.Need-mul-lay-indices
 mul-lay-indices c = search needs
@@ -41,8 +41,8 @@ lay-indices-requires c κs =
     let d = c .before .before .before .before .before .before .before .before .before .before .before .before .before .before .args .d in
     let R = c .before .before .before .before .before .before .before .before .before .before .before .before .before .before .pre in
     let e0 : c .before .before .before .before .before .before .before .alloc .result .at ≡ endHeader (counts (cellAt s (d .counts))) (sectors (cellAt s (d .counts))) = header-end _ (c .before .before .before .before .before .before .before .alloc .ensures ∙ rw (c .before .before .before .before .before .before .before .before .new .ensures)) in
-    let v = vertices-step s w d R e0 (c .before .before .before .before .before .before .before .before .before .before .chain-count .result) (c .before .before .before .before .before .before .before .before .before .before .chain-count .ensures) (c .before .before .before .before .lay-vertices .ensures) in
-    indices-ask s w d R _ (v .0) _ (c .before .before .before .before .before .before .before .before .before .before .chain-count .ensures)
+    let v = vertices-step s w d R e0 (c .before .before .before .before .before .before .before .before .before .before .tree-count .result) (c .before .before .before .before .before .before .before .before .before .before .tree-count .ensures) (c .before .before .before .before .lay-vertices .ensures) in
+    indices-ask s w d R _ (v .0) _ (c .before .before .before .before .before .before .before .before .before .before .tree-count .ensures)
 
 fill-edges-requires : tie.Need-fill-edges-requires
 fill-edges-requires c κs =
@@ -51,9 +51,9 @@ fill-edges-requires c κs =
     let d = c .before .before .before .before .before .before .before .before .before .before .before .before .before .before .before .before .before .before .before .args .d in
     let R = c .before .before .before .before .before .before .before .before .before .before .before .before .before .before .before .before .before .before .before .pre in
     let e0 : c .before .before .before .before .before .before .before .before .before .before .before .before .alloc .result .at ≡ endHeader (counts (cellAt s (d .counts))) (sectors (cellAt s (d .counts))) = header-end _ (c .before .before .before .before .before .before .before .before .before .before .before .before .alloc .ensures ∙ rw (c .before .before .before .before .before .before .before .before .before .before .before .before .before .new .ensures)) in
-    let v = vertices-step s w d R e0 (c .before .before .before .before .before .before .before .before .before .before .before .before .before .before .before .chain-count .result) (c .before .before .before .before .before .before .before .before .before .before .before .before .before .before .before .chain-count .ensures) (c .before .before .before .before .before .before .before .before .before .lay-vertices .ensures) in
-    let i = indices-step s w d R (v .0) (c .before .before .before .before .before .before .before .before .before .before .before .before .before .before .before .chain-count .result) (c .before .before .before .before .before .before .before .before .before .before .before .before .before .before .before .chain-count .ensures) (c .before .before .before .before .lay-indices .ensures) in
-    edges-ask s w d R _ (i .0) _ (c .before .before .before .before .before .before .before .before .before .before .before .before .before .before .before .chain-count .ensures)
+    let v = vertices-step s w d R e0 (c .before .before .before .before .before .before .before .before .before .before .before .before .before .before .before .tree-count .result) (c .before .before .before .before .before .before .before .before .before .before .before .before .before .before .before .tree-count .ensures) (c .before .before .before .before .before .before .before .before .before .lay-vertices .ensures) in
+    let i = indices-step s w d R (v .0) (c .before .before .before .before .before .before .before .before .before .before .before .before .before .before .before .tree-count .result) (c .before .before .before .before .before .before .before .before .before .before .before .before .before .before .before .tree-count .ensures) (c .before .before .before .before .lay-indices .ensures) in
+    edges-ask s w d R _ (i .0) _ (c .before .before .before .before .before .before .before .before .before .before .before .before .before .before .before .tree-count .ensures)
 
 tables-end-requires : tie.Need-tables-end-requires
 tables-end-requires c κs = search needs
@@ -79,7 +79,7 @@ part-lay-polygons-end c =
     let w = c .before .before .before .before .before .before .before .before .before .before .before .before .before .before .before .before .before .before .before .before .before .before .before .before .before .before .before .args .work .now in
     let d = c .before .before .before .before .before .before .before .before .before .before .before .before .before .before .before .before .before .before .before .before .before .before .before .before .before .before .before .args .d in
     let R = c .before .before .before .before .before .before .before .before .before .before .before .before .before .before .before .before .before .before .before .before .before .before .before .before .before .before .before .pre in
-    let k = work-left s w d R (idsOf (d .areas)) (c .before .before .before .before .before .before .before .before .before .before .before .before .before .before .before .before .before .before .before .before .before .before .before .chain-count .result) (c .before .before .before .before .before .before .before .before .before .before .before .before .before .before .before .before .before .before .before .before .before .before .before .chain-count .ensures) _ (c .before .before .before .before .before .before .before .fill-edges .ensures .1) in
+    let k = work-left s w d R (idsOf (d .areas)) (c .before .before .before .before .before .before .before .before .before .before .before .before .before .before .before .before .before .before .before .before .before .before .before .tree-count .result) (c .before .before .before .before .before .before .before .before .before .before .before .before .before .before .before .before .before .before .before .before .before .before .before .tree-count .ensures) _ (c .before .before .before .before .before .before .before .fill-edges .ensures .1) in
     omega (arith, k .kept .held .room, c .before .before .tables-end .ensures)
 
 lay-polygons-requires : tie.Need-lay-polygons-requires
@@ -89,10 +89,10 @@ lay-polygons-requires c κs =
     let d = c .before .before .before .before .before .before .before .before .before .before .before .before .before .before .before .before .before .before .before .before .before .before .before .before .before .before .before .before .args .d in
     let R = c .before .before .before .before .before .before .before .before .before .before .before .before .before .before .before .before .before .before .before .before .before .before .before .before .before .before .before .before .pre in
     let e0 : c .before .before .before .before .before .before .before .before .before .before .before .before .before .before .before .before .before .before .before .before .before .alloc .result .at ≡ endHeader (counts (cellAt s (d .counts))) (sectors (cellAt s (d .counts))) = header-end _ (c .before .before .before .before .before .before .before .before .before .before .before .before .before .before .before .before .before .before .before .before .before .alloc .ensures ∙ rw (c .before .before .before .before .before .before .before .before .before .before .before .before .before .before .before .before .before .before .before .before .before .before .new .ensures)) in
-    let v = vertices-step s w d R e0 (c .before .before .before .before .before .before .before .before .before .before .before .before .before .before .before .before .before .before .before .before .before .before .before .before .chain-count .result) (c .before .before .before .before .before .before .before .before .before .before .before .before .before .before .before .before .before .before .before .before .before .before .before .before .chain-count .ensures) (c .before .before .before .before .before .before .before .before .before .before .before .before .before .before .before .before .before .before .lay-vertices .ensures) in
-    let i = indices-step s w d R (v .0) (c .before .before .before .before .before .before .before .before .before .before .before .before .before .before .before .before .before .before .before .before .before .before .before .before .chain-count .result) (c .before .before .before .before .before .before .before .before .before .before .before .before .before .before .before .before .before .before .before .before .before .before .before .before .chain-count .ensures) (c .before .before .before .before .before .before .before .before .before .before .before .before .before .lay-indices .ensures) in
+    let v = vertices-step s w d R e0 (c .before .before .before .before .before .before .before .before .before .before .before .before .before .before .before .before .before .before .before .before .before .before .before .before .tree-count .result) (c .before .before .before .before .before .before .before .before .before .before .before .before .before .before .before .before .before .before .before .before .before .before .before .before .tree-count .ensures) (c .before .before .before .before .before .before .before .before .before .before .before .before .before .before .before .before .before .before .lay-vertices .ensures) in
+    let i = indices-step s w d R (v .0) (c .before .before .before .before .before .before .before .before .before .before .before .before .before .before .before .before .before .before .before .before .before .before .before .before .tree-count .result) (c .before .before .before .before .before .before .before .before .before .before .before .before .before .before .before .before .before .before .before .before .before .before .before .before .tree-count .ensures) (c .before .before .before .before .before .before .before .before .before .before .before .before .before .lay-indices .ensures) in
     let e = edges-step s w d R (i .0) (c .before .before .before .before .before .before .before .before .fill-edges .ensures .0) in
-    polygons-ask s w d R (idsOf (d .areas)) (c .before .before .before .before .before .before .before .before .before .before .before .before .before .before .before .before .before .before .before .before .before .before .before .before .chain-count .result) (c .before .before .before .before .before .before .before .before .before .before .before .before .before .before .before .before .before .before .before .before .before .before .before .before .chain-count .ensures) _ (c .before .before .before .before .before .before .before .before .fill-edges .ensures .1) _ (e .0) _ (c .before .before .before .tables-end .ensures)
+    polygons-ask s w d R (idsOf (d .areas)) (c .before .before .before .before .before .before .before .before .before .before .before .before .before .before .before .before .before .before .before .before .before .before .before .before .tree-count .result) (c .before .before .before .before .before .before .before .before .before .before .before .before .before .before .before .before .before .before .before .before .before .before .before .before .tree-count .ensures) _ (c .before .before .before .before .before .before .before .before .fill-edges .ensures .1) _ (e .0) _ (c .before .before .before .tables-end .ensures)
 
 same-length : tie.Need-same-length
 same-length c = search needs
@@ -107,11 +107,11 @@ returns c =
     let d = c .before .before .before .before .before .before .before .before .before .before .before .before .before .before .before .before .before .before .before .before .before .before .before .before .before .before .before .before .before .before .before .args .d in
     let R = c .before .before .before .before .before .before .before .before .before .before .before .before .before .before .before .before .before .before .before .before .before .before .before .before .before .before .before .before .before .before .before .pre in
     let e0 : c .before .before .before .before .before .before .before .before .before .before .before .before .before .before .before .before .before .before .before .before .before .before .before .before .alloc .result .at ≡ endHeader (counts (cellAt s (d .counts))) (sectors (cellAt s (d .counts))) = header-end _ (c .before .before .before .before .before .before .before .before .before .before .before .before .before .before .before .before .before .before .before .before .before .before .before .before .alloc .ensures ∙ rw (c .before .before .before .before .before .before .before .before .before .before .before .before .before .before .before .before .before .before .before .before .before .before .before .before .before .new .ensures)) in
-    let v = vertices-step s w d R e0 (c .before .before .before .before .before .before .before .before .before .before .before .before .before .before .before .before .before .before .before .before .before .before .before .before .before .before .before .chain-count .result) (c .before .before .before .before .before .before .before .before .before .before .before .before .before .before .before .before .before .before .before .before .before .before .before .before .before .before .before .chain-count .ensures) (c .before .before .before .before .before .before .before .before .before .before .before .before .before .before .before .before .before .before .before .before .before .lay-vertices .ensures) in
-    let i = indices-step s w d R (v .0) (c .before .before .before .before .before .before .before .before .before .before .before .before .before .before .before .before .before .before .before .before .before .before .before .before .before .before .before .chain-count .result) (c .before .before .before .before .before .before .before .before .before .before .before .before .before .before .before .before .before .before .before .before .before .before .before .before .before .before .before .chain-count .ensures) (c .before .before .before .before .before .before .before .before .before .before .before .before .before .before .before .before .lay-indices .ensures) in
+    let v = vertices-step s w d R e0 (c .before .before .before .before .before .before .before .before .before .before .before .before .before .before .before .before .before .before .before .before .before .before .before .before .before .before .before .tree-count .result) (c .before .before .before .before .before .before .before .before .before .before .before .before .before .before .before .before .before .before .before .before .before .before .before .before .before .before .before .tree-count .ensures) (c .before .before .before .before .before .before .before .before .before .before .before .before .before .before .before .before .before .before .before .before .before .lay-vertices .ensures) in
+    let i = indices-step s w d R (v .0) (c .before .before .before .before .before .before .before .before .before .before .before .before .before .before .before .before .before .before .before .before .before .before .before .before .before .before .before .tree-count .result) (c .before .before .before .before .before .before .before .before .before .before .before .before .before .before .before .before .before .before .before .before .before .before .before .before .before .before .before .tree-count .ensures) (c .before .before .before .before .before .before .before .before .before .before .before .before .before .before .before .before .lay-indices .ensures) in
     let e = edges-step s w d R (i .0) (c .before .before .before .before .before .before .before .before .before .before .before .fill-edges .ensures .0) in
     let p = polygons-step s w d R (e .0) (c .before .before .lay-polygons .ensures) in
-    let k = work-left s w d R (idsOf (d .areas)) (c .before .before .before .before .before .before .before .before .before .before .before .before .before .before .before .before .before .before .before .before .before .before .before .before .before .before .before .chain-count .result) (c .before .before .before .before .before .before .before .before .before .before .before .before .before .before .before .before .before .before .before .before .before .before .before .before .before .before .before .chain-count .ensures) _ (c .before .before .before .before .before .before .before .before .before .before .before .fill-edges .ensures .1) in (
+    let k = work-left s w d R (idsOf (d .areas)) (c .before .before .before .before .before .before .before .before .before .before .before .before .before .before .before .before .before .before .before .before .before .before .before .before .before .before .before .tree-count .result) (c .before .before .before .before .before .before .before .before .before .before .before .before .before .before .before .before .before .before .before .before .before .before .before .before .before .before .before .tree-count .ensures) _ (c .before .before .before .before .before .before .before .before .before .before .before .fill-edges .ensures .1) in (
       record {
         header = e0;
         vertices = v .0;
@@ -127,7 +127,7 @@ pub fill-lists-spec : {M : Type 1} → statement M
 fill-lists-spec =
     tie.close
     (tie.spec
-    chain-count-requires
+    tree-count-requires
     new-requires
     alloc-requires
     lay-vertices-requires

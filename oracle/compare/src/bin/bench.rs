@@ -8,6 +8,7 @@ use std::collections::HashMap;
 use std::hint::black_box;
 use std::time::Instant;
 
+use cases::sizes::deep_in_one_tree;
 use cases::Rng;
 use compare::ffi;
 use rage::math::Vec3;
@@ -140,7 +141,13 @@ fn number() {
     }
     let grid: Vec<[u16; 3]> = (0..DISTINCT).map(|n| [256 * (n % 256) as u16, 256 * (n / 256) as u16, 1000]).collect();
     let line: Vec<[u16; 3]> = (0..DISTINCT).map(|n| [n as u16, 7, 7]).collect();
-    for (name, triples) in [("number, random", random), ("number, 256 × 256 grid", grid), ("number, a line", line)] {
+    let orders = [
+        ("number, random", random),
+        ("number, 256 × 256 grid", grid),
+        ("number, a line", line),
+        ("number, deep in one tree", deep_in_one_tree()),
+    ];
+    for (name, triples) in orders {
         let words: Vec<u32> = triples.iter().flat_map(|t| [t[0] as u32 | (t[1] as u32) << 16, t[2] as u32]).collect();
         let lengths = (DISTINCT, ffi::number_work(DISTINCT));
         let times = race(DISTINCT, lengths, |out| rust_number(&words, out), |work| ffi::number_all(&words, work));

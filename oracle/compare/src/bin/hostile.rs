@@ -1,7 +1,7 @@
 //! What a cell and pages that were made to cost much do cost: processor seconds of one call, a
 //! markdown table. The Rust would need gigabytes for such pages, so they are read by ours alone.
 
-use cases::sizes::{one_chain, shared_run};
+use cases::sizes::{one_tree, shared_run};
 use compare::ffi_ynv;
 use compare::races::Writing;
 use compare::timing::{seconds, Race};
@@ -11,9 +11,9 @@ const STRIP: usize = 16_384;
 
 fn main() {
     println!("| what | bytes | ours | Rust |\n|---|---|---|---|");
-    let mut race = Writing::of(one_chain());
+    let mut race = Writing::of(one_tree());
     let (ours, rust) = (seconds(|| race.our_call()), seconds(|| race.rust_call()));
-    println!("| writing 65,536 vertices on one chain of the table | {} | {ours:.2} | {rust:.4} |", race.bytes());
+    println!("| writing 65,536 vertices deep in one tree of the table | {} | {ours:.4} | {rust:.4} |", race.bytes());
     for (polys, times, most) in [(500, 1000, 2047), (500, 1000, 64), (100, 100, 1)] {
         let pages = shared_run(polys, times, most);
         let mut strip = vec![0; STRIP];

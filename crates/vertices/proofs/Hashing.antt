@@ -1,4 +1,4 @@
--- A chain is below the number of chains, and its product fits.
+-- The tree of a triple is one of the trees, and the product that picks it fits.
 use Prim.Native.Nat.{ℕ, _*_, _/_, _≤_, _<_, _^_}
 use native.Mathlib.Omega.{arith}
 use native.Mathlib.Nat.{mod-lt, mul-comm, mul-le-mul, mul-lt-mul-of-pos-right, div-lt-iff-lt-mul}
