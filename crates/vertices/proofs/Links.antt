@@ -5,9 +5,9 @@ use native.Mathlib.Decide.{decLt}
 use mathlib.Core.Path.{_≡_, sym, _∙_}
 use mathlib.Core.List.{List}
 use mathlib.Core.Logic.{_⊎_, inl, inr, ⊎-elim}
-use lib.ListN.{getD}
+use lib.ListN.{getD, set}
 use borrow.Author.Tests.{lt-ltb, le-ltb}
-use Rattle.vertices.specs.Table.{half, halfAt, childOf, linkedWith, Link, root, child}
+use Rattle.vertices.specs.Table.{half, halfAt, childOf, linkedWith, added, Link, root, child}
 
 pub half-low : (w s : ℕ) → s % 2 < 1 → half w s ≡ w % 65536
 unfolding half
@@ -50,15 +50,28 @@ module _ (w s n : ℕ) (free : half w s ≡ 0) (few : n < 65536) where
         rw (le-ltb (s % 2) 1 h) (half-low (w + n * 65536) s' h' ∙ omega arith ∙ sym (half-low w s' h'))
   ]
 
+-- the three stores that add a vertex, with a link that is the vertex's
+pub link-stored : (t : List ℕ) (b n x s l : ℕ) → l ≡ (n + 1) % 65536
+    → set (set (set t (b + 2 * n) (x % 4294967296)) (b + 2 * n + 1) (x / 4294967296)) (s / 2) (linkedWith (getD t (s / 2) 0) s l) ≡ added t b n x s
+unfolding added
+link-stored t b n x s l e = rw e
+
 -- ---- where links stand
 
 -- the left child's half by an even key, the right one's by an odd key
+pub left-child : (b p key : ℕ) → key % 2 < 1 → childOf b p key ≡ 2 * (b + 2 * p + 1) + 1
+unfolding childOf
+left-child b p key l = rw (lt-ltb (key % 2) 1 l)
+
+pub right-child : (b p key : ℕ) → 1 ≤ key % 2 → childOf b p key ≡ 2 * p + 1
+unfolding childOf
+right-child b p key l = rw (le-ltb (key % 2) 1 l)
+
 pub child-is : (b p key : ℕ)
     → ((key % 2 ≡ 0) × (childOf b p key ≡ 2 * (b + 2 * p + 1) + 1)) ⊎ ((key % 2 ≡ 1) × (childOf b p key ≡ 2 * p + 1))
-unfolding childOf
 child-is b p key = elim (decLt (key % 2) 1) [
-  | yes l ↦ inl (omega arith, rw (lt-ltb (key % 2) 1 l))
-  | no l ↦ let h : 1 ≤ key % 2 = omega arith in inr (omega arith, rw (le-ltb (key % 2) 1 h))
+  | yes l ↦ inl (omega arith, left-child b p key l)
+  | no l ↦ inr (omega arith, right-child b p key (omega arith))
 ]
 
 -- s is no half with a short of a vertex, and for no child of a vertex from n on

@@ -56,16 +56,16 @@ module _ (t : List ℕ) (b n x : ℕ) (T : Table t b n) where
       some : 0 < halfAt t s
       some = rw (W .here) at h
 
-      pub onward : x < 2 ^ 48 → (triple t b (p - 1) ≡ x → ⊥) → (s' q : ℕ) → s' ≡ childOf b (p - 1) key → q ≡ halfAt t s' → Walking t b n x s' q (key / 2)
-      onward short ne s' q es eq = record {
+      pub onward : x < 2 ^ 48 → (triple t b (p - 1) ≡ x → ⊥) → (s' q k : ℕ) → s' ≡ childOf b (p - 1) key → q ≡ halfAt t s' → k ≡ key / 2 → Walking t b n x s' q k
+      onward short ne s' q k es eq ek = record {
         here = eq;
         steps = suc (W .steps);
-        way = rw (es, W .here) (down (W .way) some);
+        way = rw (es, ek, W .here) (down (W .way) some);
         quick = elim (decLt (W .steps) 48) [
           | yes l ↦ l
           | no l ↦ absurd (ne (rw (W .here) (deepest T (W .way) short (omega arith) some)))
         ];
-        ahead = λ j d l e. rw es (split (W .ahead j d l e) (λ z. let i : p - 1 ≡ j = omega arith in absurd (ne (ap (triple t b) i ∙ e))) (λ _ a. a));
+        ahead = λ j d l e. rw (es, ek) (split (W .ahead j d l e) (λ z. let i : p - 1 ≡ j = omega arith in absurd (ne (ap (triple t b) i ∙ e))) (λ _ a. a));
       }
 
       pub later : (q : ℕ) → q ≡ halfAt t (childOf b (p - 1) key) → beyond n q < beyond n p

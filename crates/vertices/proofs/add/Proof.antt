@@ -1,7 +1,7 @@
 -- `vertices::add` meets its contract.
 use native.Mathlib.Omega.{arith}
 use lib.ListN.{length-set}
-use Rattle.vertices.specs.Table.{added}
+use Rattle.vertices.proofs.Links.{link-stored}
 use borrow.Author.Needs.{needs}
 use Rattle.vertices.proofs.add.Statement.{statement}
 use Rattle.vertices.proofs.add.Tie as tie
@@ -55,8 +55,7 @@ same-length : tie.Need-same-length
 same-length c = search needs
 
 returns : tie.Need-returns
-unfolding added
-returns c = rw (c .linked .ensures)
+returns c = rw (c .linked .ensures) (link-stored _ _ _ _ _ _ (omega arith))
 
 pub add-spec : {M : Type 1} → statement M
 add-spec =

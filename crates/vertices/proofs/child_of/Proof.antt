@@ -1,7 +1,6 @@
 -- `vertices::child_of` meets its contract.
-use borrow.Author.Tests.{lt-ltb, le-ltb}
-use Prim.Native.Nat.{_%_}
-use Rattle.vertices.specs.Table.{childOf}
+use native.Mathlib.Omega.{arith}
+use Rattle.vertices.proofs.Links.{left-child, right-child}
 use borrow.Author.Needs.{needs}
 use Rattle.vertices.proofs.child_of.Statement.{statement}
 use Rattle.vertices.proofs.child_of.Tie as tie
@@ -22,8 +21,7 @@ add-result-3 : tie.Need-add-result-3
 add-result-3 c = search needs
 
 returns : tie.Need-returns
-unfolding childOf
-returns c = rw (lt-ltb _ _ (c .if1 .taken))
+returns c = let a = c .before .args in omega (arith, left-child (a .buckets) (a .p) (a .key) (omega (arith, c .if1 .taken)))
 
 mul-result-3 : tie.Need-mul-result-3
 mul-result-3 c = search needs
@@ -32,8 +30,7 @@ add-result-4 : tie.Need-add-result-4
 add-result-4 c = search needs
 
 returns-2 : tie.Need-returns-2
-unfolding childOf
-returns-2 c = rw (le-ltb _ _ (c .if1 .left))
+returns-2 c = let a = c .before .args in omega (arith, right-child (a .buckets) (a .p) (a .key) (omega (arith, c .if1 .left)))
 
 pub child-of-spec : {M : Type 1} → statement M
 child-of-spec =

@@ -59,7 +59,7 @@ loop-less : tie.Need-loop-less Inv-loop μ-loop
 loop-less c = later _ _ _ _ (c .before .before .before .before .before .before .before .before .before .pre .0) _ _ _ (c .before .before .before .before .before .loop .inv) (omega arith) _ (c .half-at2 .ensures ∙ ap (halfAt (c .before .before .before .before .before .before .before .before .before .args .table .now)) (c .before .child-of .ensures))
 
 loop-again : tie.Need-loop-again Inv-loop μ-loop
-loop-again c = onward _ _ _ _ (c .before .before .before .before .before .before .before .before .before .pre .0) _ _ _ (c .before .before .before .before .before .loop .inv) (omega arith) (c .before .before .before .before .before .before .before .before .before .pre .1) (λ e. c .before .before .if1 .left (c .before .before .before .whole-triple-at .ensures .0 ∙ e)) _ _ (c .before .child-of .ensures) (c .half-at2 .ensures)
+loop-again c = onward _ _ _ _ (c .before .before .before .before .before .before .before .before .before .pre .0) _ _ _ (c .before .before .before .before .before .loop .inv) (omega arith) (c .before .before .before .before .before .before .before .before .before .pre .1) (λ e. c .before .before .if1 .left (c .before .before .before .whole-triple-at .ensures .0 ∙ e)) _ _ _ (c .before .child-of .ensures) (c .half-at2 .ensures) (omega arith)
 
 add-triple-at : tie.Need-add-triple-at Inv-loop μ-loop
 add-triple-at c = omega (arith, c .before .before .before .before .before .before .pre .0 .narrow)
@@ -68,7 +68,7 @@ triple-at-requires : tie.Need-triple-at-requires Inv-loop μ-loop
 triple-at-requires c κs = search needs
 
 returns-2 : tie.Need-returns-2 Inv-loop μ-loop
-returns-2 c = stands-last _ _ _ _ (c .before .before .before .before .before .before .before .before .pre .0) _ _ _ (c .before .before .before .before .loop .inv) (omega arith) (c .before .before .if2 .taken) (sym (c .before .triple-at .ensures .0) ∙ c .if3 .taken)
+returns-2 c = stands-last _ _ _ _ (c .before .before .before .before .before .before .before .before .pre .0) _ _ _ (c .before .before .before .before .loop .inv) (omega arith) (omega (arith, c .before .before .if2 .taken)) (sym (c .before .triple-at .ensures .0) ∙ c .if3 .taken)
 
 returns-3 : tie.Need-returns-3 Inv-loop μ-loop
 returns-3 c = ended _ _ _ _ (c .before .before .before .before .before .before .before .before .pre .0) _ _ _ (c .before .before .before .before .loop .inv) (omega arith) (λ _ e. c .if3 .left (c .before .triple-at .ensures .0 ∙ e))

@@ -1,4 +1,5 @@
 -- `vertices::find_or_add` meets its contract: each answer is a law of `Lookup`.
+use native.Mathlib.Omega.{arith}
 use borrow.Author.Needs.{needs}
 use Rattle.vertices.proofs.Links.{apart}
 use Rattle.vertices.proofs.Ways.{way-link}
@@ -19,7 +20,7 @@ add-requires : tie.Need-add-requires
 add-requires c κs =
     let R = c .before .before .before .before .before .before .before .before .pre in
     let e = rw (c .before .before .before .known2 .given .1) at (c .before .before .before .before .before .find .ensures) in
-    (R .more, c .before .if1 .taken, R .short, apart (R .table .wide) (way-link _ _ _ (R .table) (e .walk .way)) .within, e .free)
+    (R .more, omega (arith, c .before .if1 .taken), R .short, apart (R .table .wide) (way-link _ _ _ (R .table) (e .walk .way)) .within, e .free)
 
 add-t16 : tie.Need-add-t16
 add-t16 c = search needs
@@ -34,13 +35,13 @@ same-length-2 : tie.Need-same-length-2
 same-length-2 c = search needs
 
 returns-2 : tie.Need-returns-2
-returns-2 c = rw (c .before .before .add .ensures) (looked-new _ _ _ _ _ (c .before .before .before .before .before .before .before .before .before .before .before .pre) (c .before .before .before .before .if1 .taken) (rw (c .before .before .before .before .before .before .known2 .given .1) at (c .before .before .before .before .before .before .before .before .find .ensures)))
+returns-2 c = rw (c .before .before .add .ensures) (looked-new _ _ _ _ _ (c .before .before .before .before .before .before .before .before .before .before .before .pre) (omega (arith, c .before .before .before .before .if1 .taken)) (rw (c .before .before .before .before .before .before .known2 .given .1) at (c .before .before .before .before .before .before .before .before .find .ensures)))
 
 same-length-3 : tie.Need-same-length-3
 same-length-3 c = search needs
 
 returns-3 : tie.Need-returns-3
-returns-3 c = looked-full _ _ _ _ _ (c .before .before .before .before .before .before .before .pre .table) (c .if1 .left) (rw (c .before .before .known2 .given .1) at (c .before .before .before .before .find .ensures))
+returns-3 c = looked-full _ _ _ _ _ (c .before .before .before .before .before .before .before .pre .table) (omega (arith, c .if1 .left)) (rw (c .before .before .known2 .given .1) at (c .before .before .before .before .find .ensures))
 
 pub find-or-add-spec : {M : Type 1} → statement M
 find-or-add-spec =
