@@ -8,7 +8,7 @@ use borrow.Author.Tests.{lt-ltb}
 use Rattle.fields.proofs.Rows.{pack-lt, bits-back}
 use Rattle.distinct.specs.Distinct.{indexOf}
 use Rattle.distinct.proofs.Final.{In, found}
-use Rattle.areas.specs.EdgeHalf.{halfRow, halfWord, endOf, areaOf}
+use Rattle.areas.specs.EdgeHalf.{halfRow, halfWord, decodedEnd, areaOf}
 use Rattle.areas.specs.declared.edge.RawEnd.{RawEnd}
 
 module _ (index poly unk2 unk3 : ℕ) where
@@ -16,7 +16,7 @@ module _ (index poly unk2 unk3 : ℕ) where
   unfolding halfWord
   half-lt = pack-lt (halfRow index poly unk2 unk3)
 
-  pub end-back : endOf (halfWord index poly unk2 unk3) ≡ record { index = index % 2 ^ 5; poly = poly % 2 ^ 14; unk2 = unk2 % 2 ^ 2; unk3 = unk3 % 2 ^ 11 }
+  pub end-back : decodedEnd (halfWord index poly unk2 unk3) ≡ record { index = index % 2 ^ 5; poly = poly % 2 ^ 14; unk2 = unk2 % 2 ^ 2; unk3 = unk3 % 2 ^ 11 }
   unfolding halfWord
   end-back =
       let row = halfRow index poly unk2 unk3 in
@@ -24,7 +24,7 @@ module _ (index poly unk2 unk3 : ℕ) where
 
 -- of at most 32 areas, each that was met
 pub area-back : (ids : List ℕ) (id poly unk2 unk3 : ℕ) → length ids ≤ 32 → In ids id
-    → areaOf (λ i. getD ids i 0) (length ids) (endOf (halfWord (indexOf ids id) poly unk2 unk3) .index) ≡ id
+    → areaOf (λ i. getD ids i 0) (length ids) (decodedEnd (halfWord (indexOf ids id) poly unk2 unk3) .index) ≡ id
 area-back ids id poly unk2 unk3 few met =
-    let here : endOf (halfWord (indexOf ids id) poly unk2 unk3) .index ≡ indexOf ids id = ap (λ (r : RawEnd). r .index) (end-back (indexOf ids id) poly unk2 unk3) ∙ omega arith in
+    let here : decodedEnd (halfWord (indexOf ids id) poly unk2 unk3) .index ≡ indexOf ids id = ap (λ (r : RawEnd). r .index) (end-back (indexOf ids id) poly unk2 unk3) ∙ omega arith in
     ap (areaOf (λ i. getD ids i 0) (length ids)) here ∙ rw (lt-ltb (indexOf ids id) (length ids) met) (found ids id met)

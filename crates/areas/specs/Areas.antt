@@ -33,8 +33,8 @@ abbrev pub entryOf : List ℕ → ℕ → Entry
 entryOf ids id = record { at = areaAt ids id; len = length (upTo 32 ids id) }
 
 -- the ids of a table: 32 at most, since the array has no more
-abbrev pub idsOf : Areas → List ℕ
-idsOf t = take (t .len) (t .ids)
+abbrev pub areaIds : Areas → List ℕ
+areaIds t = take (t .len) (t .ids)
 
 -- the table of the ids, stored over the words: those behind them stay
 abbrev pub stored : List ℕ → List ℕ → Areas
@@ -42,4 +42,4 @@ stored ids words = record { ids = over ids words; len = length ids }
 
 -- the answer for an id, and the table after it
 abbrev pub ensured : Areas → ℕ → Ensured
-ensured t id = record { areas = stored (upTo 32 (idsOf t) id) (t .ids); at = areaAt (idsOf t) id }
+ensured t id = record { areas = stored (upTo 32 (areaIds t) id) (t .ids); at = areaAt (areaIds t) id }

@@ -22,8 +22,8 @@ abbrev pub noneWord : ℕ → ℕ
 noneWord index = halfWord index none 0 0
 
 -- the fields of a word
-abbrev pub endOf : ℕ → RawEnd
-endOf raw = record { index = field 0 5 raw; poly = field 5 14 raw; unk2 = field 19 2 raw; unk3 = field 21 11 raw }
+abbrev pub decodedEnd : ℕ → RawEnd
+decodedEnd raw = record { index = field 0 5 raw; poly = field 5 14 raw; unk2 = field 19 2 raw; unk3 = field 21 11 raw }
 
 -- the area of a read index, when the area at i is `area i`: one not below the area count gives `none`
 abbrev pub areaOf : (ℕ → ℕ) → ℕ → ℕ → ℕ

@@ -1,6 +1,6 @@
 // The half of an edge as it stands in the pages: a word of four fields.
 ghost use mathlib.Core.Path.{_≡_};
-ghost use Rattle.areas.specs.EdgeHalf.{halfWord, endOf};
+ghost use Rattle.areas.specs.EdgeHalf.{halfWord, decodedEnd};
 
 // The fields of a half as they are read, the area still an index.
 pub struct RawEnd {
@@ -19,7 +19,7 @@ pub fn half_word(index: u32, poly: u32, unk2: u32, unk3: u32) -> u32
 
 // The fields of a word.
 pub fn decode_end(raw: u32) -> RawEnd
-    ensures { λ r. ⌜ r ≡ endOf raw ⌝ }
+    ensures { λ r. ⌜ r ≡ decodedEnd raw ⌝ }
 {
     RawEnd {
         index: raw % 32,

@@ -12,7 +12,7 @@ use Rattle.fields.proofs.Bytes.{length-les}
 use Rattle.fields.proofs.Puts.{put-next, put-number}
 use Rattle.fields.proofs.Rows.{length-rows}
 use Rattle.blocks.specs.Layout.{address, placeOf, behind, endOf, lengths, Laid}
-use Rattle.blocks.specs.Lists.{perPart, partCount, counts, chunks, firsts, sizes, partSizes, offsetSizes, listSizes, tableAt, partsFrom, itemsEnd, offsetsAddress, listRow, partRow, tableBytes, frontBlocks, partBlocks, offsetBlocks, listBlocks, Wide, Room}
+use Rattle.blocks.specs.Lists.{perPart, partCount, partCounts, chunks, firsts, sizes, partSizes, offsetSizes, listSizes, tableAt, partsFrom, itemsEnd, offsetsAddress, listRow, partRow, tableBytes, frontBlocks, partBlocks, offsetBlocks, listBlocks, Wide, ListRoom}
 use Rattle.blocks.specs.Placed.{Small}
 use Rattle.blocks.specs.declared.Layout.{Layout}
 use Rattle.blocks.proofs.Layouts.{place-ge, end-ge, end-append, small-append, lengths-append, laid-then, one-end}
@@ -46,13 +46,13 @@ module _ (w : ℕ) (some : 1 ≤ w) (page : w ≤ 16384) where
       let l = div-lt-iff-lt-mul {k = perPart w} {x = n + (perPart w - 1)} {y = 1025} per-some .0 k in
       omega (arith, per-page, per-some)
 
-pub room-items : {end w n : ℕ} {ns : List ℕ} → Room end w n ns → n ≤ 2 ^ 24
+pub room-items : {end w n : ℕ} {ns : List ℕ} → ListRoom end w n ns → n ≤ 2 ^ 24
 room-items {end} {w} {n} r = few-items w (r .some) (r .page) n (r .table)
 
 -- ---- part i of k, which has m items, with `left` items left
 
 module _ (per k i left m : ℕ) (h : i < k) (is : m ≡ min per left) where
-  pub counts-turn : counts (k - i) per left ≡ m ∷ counts (k - (i + 1)) per (left - m)
+  pub counts-turn : partCounts (k - i) per left ≡ m ∷ partCounts (k - (i + 1)) per (left - m)
   counts-turn = let e : k - i ≡ suc (k - (i + 1)) = omega arith in rw (e, ← is)
 
   -- it takes at most a page
@@ -60,23 +60,23 @@ module _ (per k i left m : ℕ) (h : i < k) (is : m ≡ min per left) where
   size-turn w room = let q : m ≤ per = omega arith in omega (arith, mul-le-mul-left w q)
 
   -- the end behind it and the rest
-  pub end-turn : (w p : ℕ) → endOf p (sizes w (counts (k - i) per left)) ≡ endOf (behind p (w * m)) (sizes w (counts (k - (i + 1)) per (left - m)))
+  pub end-turn : (w p : ℕ) → endOf p (sizes w (partCounts (k - i) per left)) ≡ endOf (behind p (w * m)) (sizes w (partCounts (k - (i + 1)) per (left - m)))
   end-turn w p = rw counts-turn
 
-  pub room-turn : (w p : ℕ) → behind p (w * m) ≤ endOf p (sizes w (counts (k - i) per left))
-  room-turn w p = omega (arith, end-turn w p, end-ge (behind p (w * m)) (sizes w (counts (k - (i + 1)) per (left - m))))
+  pub room-turn : (w p : ℕ) → behind p (w * m) ≤ endOf p (sizes w (partCounts (k - i) per left))
+  room-turn w p = omega (arith, end-turn w p, end-ge (behind p (w * m)) (sizes w (partCounts (k - (i + 1)) per (left - m))))
 
   -- its entry in the table, and the rest
   pub table-turn : (w a p : ℕ) (out : List ℕ)
-      → put (a + 16) (tableBytes w (behind p (w * m)) (counts (k - (i + 1)) per (left - m))) (put a (rowBytes (partRow (placeOf p (w * m)) m)) out)
-      ≡ put a (tableBytes w p (counts (k - i) per left)) out
+      → put (a + 16) (tableBytes w (behind p (w * m)) (partCounts (k - (i + 1)) per (left - m))) (put a (rowBytes (partRow (placeOf p (w * m)) m)) out)
+      ≡ put a (tableBytes w p (partCounts (k - i) per left)) out
   unfolding tableBytes
   table-turn w a p out = rw counts-turn (put-next 16 a (rowBytes (partRow (placeOf p (w * m)) m)) _ out (length-rows (partRow (placeOf p (w * m)) m)))
 
   -- its first item number, and the rest
   pub offsets-turn : (a first : ℕ) (out : List ℕ)
-      → put (a + 4) (les 4 (firsts (first + m) (counts (k - (i + 1)) per (left - m)))) (put a (leBytes 4 first) out)
-      ≡ put a (les 4 (firsts first (counts (k - i) per left))) out
+      → put (a + 4) (les 4 (firsts (first + m) (partCounts (k - (i + 1)) per (left - m)))) (put a (leBytes 4 first) out)
+      ≡ put a (les 4 (firsts first (partCounts (k - i) per left))) out
   unfolding les
   offsets-turn a first out = rw counts-turn (put-number a 4 first _ out)
 
@@ -105,7 +105,7 @@ cut-back w (b ∷ items) h = rw (take-at b (cat items) w (h .0), drop-at b (cat 
 
 -- ---- lengths
 
-pub length-counts : (k per n : ℕ) → length (counts k per n) ≡ k
+pub length-counts : (k per n : ℕ) → length (partCounts k per n) ≡ k
 length-counts zero per n = refl
 length-counts (suc k) per n = ap suc (length-counts k per (n - min per n))
 
@@ -115,14 +115,14 @@ length-table w end [] = rw mul-zero
 length-table w end (m ∷ ms) =
     rw (length-append, length-rows (partRow (placeOf end (w * m)) m), length-table w (behind end (w * m)) ms) (omega arith)
 
-pub table-length : (w end k per n : ℕ) → length (tableBytes w end (counts k per n)) ≡ 16 * k
-table-length w end k per n = length-table w end (counts k per n) ∙ ap (λ (j : ℕ). 16 * j) (length-counts k per n)
+pub table-length : (w end k per n : ℕ) → length (tableBytes w end (partCounts k per n)) ≡ 16 * k
+table-length w end k per n = length-table w end (partCounts k per n) ∙ ap (λ (j : ℕ). 16 * j) (length-counts k per n)
 
 length-firsts : (f : ℕ) (ms : List ℕ) → length (firsts f ms) ≡ length ms
 length-firsts f [] = refl
 length-firsts f (m ∷ ms) = ap suc (length-firsts (f + m) ms)
 
-pub offsets-length : (k per n : ℕ) → length (les 4 (firsts 0 (counts k per n))) ≡ 4 * k
+pub offsets-length : (k per n : ℕ) → length (les 4 (firsts 0 (partCounts k per n))) ≡ 4 * k
 offsets-length k per n = rw (length-les, length-firsts, length-counts)
 
 -- ---- the offsets, where there is a part
@@ -131,7 +131,7 @@ pub sizes-some : (k : ℕ) → (k ≡ 0 → ⊥) → offsetSizes k ≡ 4 * k ∷
 sizes-some zero h = absurd (h refl)
 sizes-some (suc k) h = refl
 
-pub blocks-some : (k per n : ℕ) → (k ≡ 0 → ⊥) → offsetBlocks (counts k per n) ≡ les 4 (firsts 0 (counts k per n)) ∷ []
+pub blocks-some : (k per n : ℕ) → (k ≡ 0 → ⊥) → offsetBlocks (partCounts k per n) ≡ les 4 (firsts 0 (partCounts k per n)) ∷ []
 blocks-some zero per n h = absurd (h refl)
 blocks-some (suc k) per n h = refl
 
@@ -147,13 +147,13 @@ front-lengths end vft w n =
     let k : ℕ = partCount w n in
     rw (length-rows (listRow vft n (address (tableAt end k)) (offsetsAddress (itemsEnd end w n) k) k), table-length w (partsFrom end k) k (perPart w) n)
 
-pub part-lengths : (w k per : ℕ) (items : List (List ℕ)) → Wide w items → lengths (map cat (chunks k per items)) ≡ sizes w (counts k per (length items))
+pub part-lengths : (w k per : ℕ) (items : List (List ℕ)) → Wide w items → lengths (map cat (chunks k per items)) ≡ sizes w (partCounts k per (length items))
 part-lengths w zero per items h = refl
 part-lengths w (suc k) per items h =
     let m = min per (length items) in
     rw (length-cat w (take m items) (wide-take w m items h), length-take-le m items (omega arith), part-lengths w k per (drop m items) (wide-drop w m items h), length-drop m items)
 
-pub offset-lengths : (k per n : ℕ) → lengths (offsetBlocks (counts k per n)) ≡ offsetSizes k
+pub offset-lengths : (k per n : ℕ) → lengths (offsetBlocks (partCounts k per n)) ≡ offsetSizes k
 offset-lengths zero per n = refl
 offset-lengths (suc k) per n = ap (λ (m : ℕ). m ∷ []) (offsets-length (suc k) per n)
 
@@ -162,7 +162,7 @@ unfolding listBlocks
 list-lengths end vft w items h =
     let n : ℕ = length items in
     let k : ℕ = partCount w n in
-    lengths-append (frontBlocks end vft w n) (partBlocks w items ++ offsetBlocks (counts k (perPart w) n))
+    lengths-append (frontBlocks end vft w n) (partBlocks w items ++ offsetBlocks (partCounts k (perPart w) n))
     ∙ rw (front-lengths end vft w n, lengths-append (partBlocks w items), part-lengths w k (perPart w) items h, offset-lengths k (perPart w) n)
 
 -- ---- where they stand, one behind the other
@@ -187,14 +187,14 @@ list-ends end w n =
     }
 
 -- what a list's writers are asked for behind its front, and behind its items
-pub room-parts : {end w n : ℕ} → Room end w n (listSizes w n) → Room (partsFrom end (partCount w n)) w n (partSizes w n)
+pub room-parts : {end w n : ℕ} → ListRoom end w n (listSizes w n) → ListRoom (partsFrom end (partCount w n)) w n (partSizes w n)
 room-parts {end} {w} {n} r = record { some = r .some; page = r .page; table = r .table; below = omega (arith, list-ends end w n, r .below) }
 
-pub room-offsets : {end w n : ℕ} → Room end w n (listSizes w n) → Room (itemsEnd end w n) w n (offsetSizes (partCount w n))
+pub room-offsets : {end w n : ℕ} → ListRoom end w n (listSizes w n) → ListRoom (itemsEnd end w n) w n (offsetSizes (partCount w n))
 room-offsets {end} {w} {n} r = record { some = r .some; page = r .page; table = r .table; below = rw (list-ends end w n .whole) at (r .below) }
 
 -- the offsets' block, where there is a part
-pub offsets-below : {end w n : ℕ} (k : ℕ) → Room end w n (offsetSizes (partCount w n)) → k ≡ partCount w n → (k ≡ 0 → ⊥) → behind end (4 * k) < 2 ^ 28
+pub offsets-below : {end w n : ℕ} (k : ℕ) → ListRoom end w n (offsetSizes (partCount w n)) → k ≡ partCount w n → (k ≡ 0 → ⊥) → behind end (4 * k) < 2 ^ 28
 offsets-below {end} k r e some = let b : endOf end (offsetSizes k) < 2 ^ 28 = rw e (r .below) in rw (sizes-some k some) at b
 
 -- the layout behind its front, and behind its items
@@ -202,18 +202,18 @@ pub front-end : {l m : Layout} (vft w n : ℕ) {xs ys : List ℕ} → Laid l (fr
 front-end {l} vft w n f = f .ends ∙ ap (endOf (l .at)) (front-lengths (l .at) vft w n)
 
 pub items-end : {l m : Layout} (w k per n : ℕ) (items : List (List ℕ)) {xs ys : List ℕ} → Wide w items → length items ≡ n
-    → Laid l (map cat (chunks k per items)) m xs ys → m .at ≡ endOf (l .at) (sizes w (counts k per n))
+    → Laid l (map cat (chunks k per items)) m xs ys → m .at ≡ endOf (l .at) (sizes w (partCounts k per n))
 items-end {l} w k per n items h e f =
-    f .ends ∙ ap (endOf (l .at)) (part-lengths w k per items h) ∙ ap (λ (j : ℕ). endOf (l .at) (sizes w (counts k per j))) e
+    f .ends ∙ ap (endOf (l .at)) (part-lengths w k per items h) ∙ ap (λ (j : ℕ). endOf (l .at) (sizes w (partCounts k per j))) e
 
 -- so the layout behind its front has room for its items, and the one behind those for its offsets
-pub front-room : {l m : Layout} (vft w n : ℕ) {xs ys : List ℕ} → Room (l .at) w n (listSizes w n) → Laid l (frontBlocks (l .at) vft w n) m xs ys
-    → Room (m .at) w n (partSizes w n)
+pub front-room : {l m : Layout} (vft w n : ℕ) {xs ys : List ℕ} → ListRoom (l .at) w n (listSizes w n) → Laid l (frontBlocks (l .at) vft w n) m xs ys
+    → ListRoom (m .at) w n (partSizes w n)
 front-room vft w n r f = rw (front-end vft w n f) (room-parts r)
 
-pub items-room : {l m q : Layout} (vft w n : ℕ) (items : List (List ℕ)) {xs ys zs : List ℕ} → Room (l .at) w n (listSizes w n) → Wide w items → length items ≡ n
+pub items-room : {l m q : Layout} (vft w n : ℕ) (items : List (List ℕ)) {xs ys zs : List ℕ} → ListRoom (l .at) w n (listSizes w n) → Wide w items → length items ≡ n
     → Laid l (frontBlocks (l .at) vft w n) m xs ys → Laid m (map cat (chunks (partCount w n) (perPart w) items)) q ys zs
-    → Room (q .at) w n (offsetSizes (partCount w n))
+    → ListRoom (q .at) w n (offsetSizes (partCount w n))
 items-room vft w n items r wide e f g = rw (items-end w (partCount w n) (perPart w) n items wide e g, front-end vft w n f) (room-offsets r)
 
 -- behind its header
@@ -224,32 +224,32 @@ header-end vft n table offsets k f = one-end 48 (length-rows (listRow vft n tabl
 pub front-laid : {l m r : Layout} (vft w n table offsets k : ℕ) {xs ys zs : List ℕ}
     → k ≡ partCount w n → table ≡ tableAt (l .at) (partCount w n) → offsets ≡ offsetsAddress (itemsEnd (l .at) w n) (partCount w n)
     → Laid l (rowBytes (listRow vft n (address table) offsets k) ∷ []) m xs ys
-    → Laid m (tableBytes w (behind (m .at) (16 * k)) (counts k (perPart w) n) ∷ []) r ys zs
+    → Laid m (tableBytes w (behind (m .at) (16 * k)) (partCounts k (perPart w) n) ∷ []) r ys zs
     → Laid l (frontBlocks (l .at) vft w n) r xs zs
 unfolding frontBlocks
 front-laid {l} {m} {r} vft w n table offsets k {xs} {ys} {zs} parts t o header f =
     let at : m .at ≡ behind (l .at) 48 = header-end vft n (address table) offsets k header in
-    let f₁ : Laid m (tableBytes w (behind (behind (l .at) 48) (16 * k)) (counts k (perPart w) n) ∷ []) r ys zs =
-    subst (λ (j : ℕ). Laid m (tableBytes w (behind j (16 * k)) (counts k (perPart w) n) ∷ []) r ys zs) at f in
+    let f₁ : Laid m (tableBytes w (behind (behind (l .at) 48) (16 * k)) (partCounts k (perPart w) n) ∷ []) r ys zs =
+    subst (λ (j : ℕ). Laid m (tableBytes w (behind j (16 * k)) (partCounts k (perPart w) n) ∷ []) r ys zs) at f in
     laid-then (rw (t, o, parts) at header) (rw parts at f₁)
 
 -- front, items and offsets make the list
 pub list-laid : {l p q r : Layout} (vft w n : ℕ) (items : List (List ℕ)) {xs ys zs us : List ℕ} → length items ≡ n
     → Laid l (frontBlocks (l .at) vft w n) p xs ys
     → Laid p (map cat (chunks (partCount w n) (perPart w) items)) q ys zs
-    → Laid q (offsetBlocks (counts (partCount w n) (perPart w) n)) r zs us
+    → Laid q (offsetBlocks (partCounts (partCount w n) (perPart w) n)) r zs us
     → Laid l (listBlocks (l .at) vft w items) r xs us
 unfolding listBlocks
 list-laid {l} {p} {q} {r} vft w n items {xs} {ys} {zs} {us} e =
     subst (λ (j : ℕ). Laid l (frontBlocks (l .at) vft w j) p xs ys
     → Laid p (map cat (chunks (partCount w j) (perPart w) items)) q ys zs
-    → Laid q (offsetBlocks (counts (partCount w j) (perPart w) j)) r zs us
+    → Laid q (offsetBlocks (partCounts (partCount w j) (perPart w) j)) r zs us
     → Laid l (listBlocks (l .at) vft w items) r xs us) e
     (λ f g h. laid-then f (laid-then g h))
 
 -- ---- each of a list's blocks takes at most a page
 
-small-parts : (w per k n : ℕ) → w * per ≤ 16384 → Small (sizes w (counts k per n))
+small-parts : (w per k n : ℕ) → w * per ≤ 16384 → Small (sizes w (partCounts k per n))
 small-parts w per zero n h = tt
 small-parts w per (suc k) n h =
     let m : min per n ≤ per = omega arith in

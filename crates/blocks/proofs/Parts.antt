@@ -9,7 +9,7 @@ use lib.Seq.{length-take-le}
 use Rattle.fields.specs.Bytes.{cat, put}
 use Rattle.fields.proofs.Puts.{length-put, put-nil, put-next}
 use Rattle.blocks.specs.Layout.{behind, endOf, Laid}
-use Rattle.blocks.specs.Lists.{counts, chunks, sizes, Wide}
+use Rattle.blocks.specs.Lists.{partCounts, chunks, sizes, Wide}
 use Rattle.blocks.specs.declared.Layout.{Layout}
 use Rattle.blocks.proofs.Layouts.{laid-none, laid-then, one-end}
 use Rattle.blocks.proofs.Lists.{length-cat, wide-take, wide-drop, room-turn, end-turn}
@@ -52,7 +52,7 @@ pub record Parting (w per k n₀ : ℕ) (items : List (List ℕ)) (l : Layout) (
   pub within : i ≤ k
   pub count : length left ≡ n
   pub wide : Wide w left
-  pub ends : endOf (next .at) (sizes w (counts (k - i) per n)) ≡ endOf (l .at) (sizes w (counts k per n₀))
+  pub ends : endOf (next .at) (sizes w (partCounts (k - i) per n)) ≡ endOf (l .at) (sizes w (partCounts k per n₀))
   pub long : length out ≡ length out₀
   pub rest : (r : Layout) (ys : List ℕ) → Laid next (map cat (chunks (k - i) per left)) r out ys → Laid l (map cat (chunks k per items)) r out₀ ys
 
@@ -64,7 +64,7 @@ module _ (w per k n₀ : ℕ) (items : List (List ℕ)) (l : Layout) (out₀ : L
     -- part i, which has m items
     module _ (h : i < k) (m : ℕ) (is : m ≡ min per n) where
       -- it ends below 2^28
-      pub parting-room : endOf (l .at) (sizes w (counts k per n₀)) < 2 ^ 28 → behind (next .at) (w * m) < 2 ^ 28
+      pub parting-room : endOf (l .at) (sizes w (partCounts k per n₀)) < 2 ^ 28 → behind (next .at) (w * m) < 2 ^ 28
       parting-room below = omega (arith, g .ends, room-turn per k i n m h is w (next .at))
 
       module _ (part more : List (List ℕ)) (these : take m left ≡ part) (those : drop m left ≡ more) where

@@ -7,6 +7,7 @@ use lib.ListN.{length, take, drop}
 use Rattle.fields.specs.Bytes.{les, cat}
 use Rattle.fields.specs.Rows.{rowBytes}
 use Rattle.blocks.specs.Layout.{placeOf, behind, endOf, address}
+use Rattle.fields.specs.Sizes.{LIST-PART-SIZE, LIST-SIZE}
 
 -- how many items of w bytes a part takes
 abbrev pub perPart : ℕ → ℕ
@@ -17,9 +18,9 @@ abbrev pub partCount : ℕ → ℕ → ℕ
 partCount w n = (n + (perPart w - 1)) / perPart w
 
 -- how many items each of k parts has, of n in all: `per`, and the last what is left
-abbrev pub counts : ℕ → ℕ → ℕ → List ℕ
-counts zero per n = []
-counts (suc k) per n = min per n ∷ counts k per (n - min per n)
+abbrev pub partCounts : ℕ → ℕ → ℕ → List ℕ
+partCounts zero per n = []
+partCounts (suc k) per n = min per n ∷ partCounts k per (n - min per n)
 
 -- xs in k parts of as many
 abbrev pub chunks : {A : Type 0} → ℕ → ℕ → List A → List (List A)
@@ -43,22 +44,22 @@ sizes w [] = []
 sizes w (m ∷ ms) = w * m ∷ sizes w ms
 
 abbrev pub partSizes : ℕ → ℕ → List ℕ
-partSizes w n = sizes w (counts (partCount w n) (perPart w) n)
+partSizes w n = sizes w (partCounts (partCount w n) (perPart w) n)
 
 abbrev pub offsetSizes : ℕ → List ℕ
 offsetSizes zero = []
 offsetSizes (suc j) = 4 * suc j ∷ []
 
 abbrev pub listSizes : (w n : ℕ) → List ℕ
-listSizes w n = 48 ∷ 16 * partCount w n ∷ (partSizes w n ++ offsetSizes (partCount w n))
+listSizes w n = LIST-SIZE ∷ LIST-PART-SIZE * partCount w n ∷ (partSizes w n ++ offsetSizes (partCount w n))
 
 -- ---- positions in a list that is laid out behind `end`: of the part table of k parts, behind it, and behind the items
 
 abbrev pub tableAt : (end k : ℕ) → ℕ
-tableAt end k = placeOf (behind end 48) (16 * k)
+tableAt end k = placeOf (behind end LIST-SIZE) (LIST-PART-SIZE * k)
 
 abbrev pub partsFrom : (end k : ℕ) → ℕ
-partsFrom end k = behind (behind end 48) (16 * k)
+partsFrom end k = behind (behind end LIST-SIZE) (LIST-PART-SIZE * k)
 
 abbrev pub itemsEnd : (end w n : ℕ) → ℕ
 itemsEnd end w n = endOf (partsFrom end (partCount w n)) (partSizes w n)
@@ -88,7 +89,7 @@ tableBytes w end (m ∷ ms) = rowBytes (partRow (placeOf end (w * m)) m) ++ tabl
 unfoldable pub frontBlocks : (end vft w n : ℕ) → List (List ℕ)
 frontBlocks end vft w n =
     rowBytes (listRow vft n (address (tableAt end (partCount w n))) (offsetsAddress (itemsEnd end w n) (partCount w n)) (partCount w n))
-    ∷ tableBytes w (partsFrom end (partCount w n)) (counts (partCount w n) (perPart w) n)
+    ∷ tableBytes w (partsFrom end (partCount w n)) (partCounts (partCount w n) (perPart w) n)
     ∷ []
 
 -- the blocks of the items, one for each part
@@ -104,11 +105,11 @@ offsetBlocks (m ∷ ms) = les 4 (firsts 0 (m ∷ ms)) ∷ []
 unfoldable pub listBlocks : (end vft w : ℕ) → List (List ℕ) → List (List ℕ)
 listBlocks end vft w items =
     frontBlocks end vft w (length items)
-    ++ (partBlocks w items ++ offsetBlocks (counts (partCount w (length items)) (perPart w) (length items)))
+    ++ (partBlocks w items ++ offsetBlocks (partCounts (partCount w (length items)) (perPart w) (length items)))
 
 -- ---- what a list's writers are asked for: an item takes at most a page, and so does the part table, and blocks of these sizes, laid out from `end`
 -- on, stay below 2^28, where an address is the system section's
-pub record Room (end w n : ℕ) (ns : List ℕ) : Type 0 where
+pub record ListRoom (end w n : ℕ) (ns : List ℕ) : Type 0 where
   pub some : 1 ≤ w
   pub page : w ≤ 16384
   pub table : partCount w n ≤ 1024

@@ -7,8 +7,10 @@ ghost use Prim.Native.Nat.{_+_, _-_, _*_, _/_, _^_, _≤_, _<_, min};
 ghost use Rattle.fields.specs.Bytes.{les, zeros, put};
 ghost use Rattle.fields.specs.Rows.{rowBytes};
 ghost use Rattle.blocks.specs.Layout.{placeOf, behind, endOf, address, Laid};
-ghost use Rattle.blocks.specs.Lists.{perPart, partCount, counts, firsts, sizes, offsetSizes, listSizes, tableAt, itemsEnd, offsetsAddress, listRow, partRow, tableBytes, frontBlocks, offsetBlocks, Room};
+ghost use Rattle.blocks.specs.Lists.{perPart, partCount, partCounts, firsts, sizes, offsetSizes, listSizes, tableAt, itemsEnd, offsetsAddress, listRow, partRow, tableBytes, frontBlocks, offsetBlocks, ListRoom};
 use fields::least;
+use fields::sizes::LIST_PART_SIZE;
+use fields::sizes::LIST_SIZE;
 
 const SYSTEM_BASE: usize = 0x5000_0000;
 
@@ -16,10 +18,6 @@ const PAGE_SIZE: u64 = 16384;
 
 // A part's items take at most a page.
 const PART_SIZE: usize = 16384;
-
-const LIST_SIZE: usize = 48;
-
-const LIST_PART_SIZE: usize = 16;
 
 // Where a block of `size` bytes starts, the end so far being `end`.
 pub fn place(end: u32, size: u32) -> u64
@@ -90,8 +88,8 @@ pub fn part_count(w: usize, n: usize) -> usize
 
 // The layout behind the items of k parts, `per` to a part, of n items of w bytes.
 fn parts_end(l: Layout, w: usize, per: usize, k: usize, n: usize) -> Layout
-    requires { ⌜ (w * per ≤ 16384) × (endOf (l .at) (sizes w (counts k per n)) < 2 ^ 28) ⌝ }
-    ensures { λ r. ⌜ r .at ≡ endOf (l .at) (sizes w (counts k per n)) ⌝ }
+    requires { ⌜ (w * per ≤ 16384) × (endOf (l .at) (sizes w (partCounts k per n)) < 2 ^ 28) ⌝ }
+    ensures { λ r. ⌜ r .at ≡ endOf (l .at) (sizes w (partCounts k per n)) ⌝ }
 {
     let mut next = l;
     let mut left = n;
@@ -116,8 +114,8 @@ fn put_part(out: &mut [u8], at: usize, start: usize, m: usize)
 
 // The part table of k parts whose items are laid out from l on.
 fn put_table(out: &mut [u8], at: usize, l: Layout, w: usize, per: usize, k: usize, n: usize)
-    requires { ⌜ (w * per ≤ 16384) × (n < 2 ^ 32) × (endOf (l .at) (sizes w (counts k per n)) < 2 ^ 28) × (at + 16 * k < 2 ^ 28) ⌝ }
-    ensures { λ _. ⌜ now (out .exit) ≡ put at (tableBytes w (l .at) (counts k per n)) (now (out .entry)) ⌝ }
+    requires { ⌜ (w * per ≤ 16384) × (n < 2 ^ 32) × (endOf (l .at) (sizes w (partCounts k per n)) < 2 ^ 28) × (at + 16 * k < 2 ^ 28) ⌝ }
+    ensures { λ _. ⌜ now (out .exit) ≡ put at (tableBytes w (l .at) (partCounts k per n)) (now (out .entry)) ⌝ }
 {
     let mut entry = at;
     let mut next = l;
@@ -136,7 +134,7 @@ fn put_table(out: &mut [u8], at: usize, l: Layout, w: usize, per: usize, k: usiz
 // Each part's first item number.
 fn put_offsets(out: &mut [u8], at: usize, per: usize, k: usize, n: usize)
     requires { ⌜ at + 4 * k < 2 ^ 28 ⌝ }
-    ensures { λ _. ⌜ now (out .exit) ≡ put at (les 4 (firsts 0 (counts k per n))) (now (out .entry)) ⌝ }
+    ensures { λ _. ⌜ now (out .exit) ≡ put at (les 4 (firsts 0 (partCounts k per n))) (now (out .entry)) ⌝ }
 {
     let mut entry = at;
     let mut first = 0;
@@ -187,8 +185,8 @@ fn lay_list_header(
 
 // A part table, and behind it the parts' items.
 fn lay_table(out: &mut [u8], l: Layout, w: usize, per: usize, k: usize, n: usize) -> Layout
-    requires { ⌜ (w * per ≤ 16384) × (n < 2 ^ 32) × (endOf (behind (l .at) (16 * k)) (sizes w (counts k per n)) < 2 ^ 28) ⌝ }
-    ensures { λ r. ⌜ Laid l (tableBytes w (behind (l .at) (16 * k)) (counts k per n) ∷ []) r (now (out .entry)) (now (out .exit)) ⌝ }
+    requires { ⌜ (w * per ≤ 16384) × (n < 2 ^ 32) × (endOf (behind (l .at) (16 * k)) (sizes w (partCounts k per n)) < 2 ^ 28) ⌝ }
+    ensures { λ r. ⌜ Laid l (tableBytes w (behind (l .at) (16 * k)) (partCounts k per n) ∷ []) r (now (out .entry)) (now (out .exit)) ⌝ }
 {
     let start = pad(out, l, LIST_PART_SIZE * k);
     let next = l.alloc(LIST_PART_SIZE * k);
@@ -215,7 +213,7 @@ struct Places {
 }
 
 fn list_places(l: Layout, w: usize, n: usize) -> Places
-    requires { ⌜ Room (l .at) w n (listSizes w n) ⌝ }
+    requires { ⌜ ListRoom (l .at) w n (listSizes w n) ⌝ }
     ensures { λ r. ⌜ (r .parts ≡ partCount w n) × (r .table ≡ tableAt (l .at) (partCount w n)) × (r .items .at ≡ itemsEnd (l .at) w n) ⌝ }
 {
     let k = part_count(w, n);
@@ -231,7 +229,7 @@ fn list_places(l: Layout, w: usize, n: usize) -> Places
 
 // The layout behind a list of n items of w bytes: by it pages are known to be too short before a byte is stored.
 pub fn list_end(l: Layout, w: usize, n: usize) -> Layout
-    requires { ⌜ Room (l .at) w n (listSizes w n) ⌝ }
+    requires { ⌜ ListRoom (l .at) w n (listSizes w n) ⌝ }
     ensures { λ r. ⌜ r .at ≡ endOf (l .at) (listSizes w n) ⌝ }
 {
     let p = list_places(l, w, n);
@@ -243,7 +241,7 @@ pub fn list_end(l: Layout, w: usize, n: usize) -> Layout
 
 // What stands before the items of a list: its header and its part table.
 pub fn lay_list_front(out: &mut [u8], l: Layout, vft: u32, w: usize, n: usize) -> Layout
-    requires { ⌜ Room (l .at) w n (listSizes w n) ⌝ }
+    requires { ⌜ ListRoom (l .at) w n (listSizes w n) ⌝ }
     ensures { λ r. ⌜ Laid l (frontBlocks (l .at) vft w n) r (now (out .entry)) (now (out .exit)) ⌝ }
 {
     let p = list_places(l, w, n);
@@ -254,8 +252,8 @@ pub fn lay_list_front(out: &mut [u8], l: Layout, vft: u32, w: usize, n: usize) -
 
 // What stands behind the items of a list: the offsets, if it has a part.
 pub fn lay_offsets(out: &mut [u8], l: Layout, w: usize, n: usize) -> Layout
-    requires { ⌜ Room (l .at) w n (offsetSizes (partCount w n)) ⌝ }
-    ensures { λ r. ⌜ Laid l (offsetBlocks (counts (partCount w n) (perPart w) n)) r (now (out .entry)) (now (out .exit)) ⌝ }
+    requires { ⌜ ListRoom (l .at) w n (offsetSizes (partCount w n)) ⌝ }
+    ensures { λ r. ⌜ Laid l (offsetBlocks (partCounts (partCount w n) (perPart w) n)) r (now (out .entry)) (now (out .exit)) ⌝ }
 {
     let k = part_count(w, n);
     if k == 0 {

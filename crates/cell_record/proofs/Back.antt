@@ -19,7 +19,7 @@ finite-number (inf s) e = tt
 finite-number (fin s m k) e = tt
 
 -- the bits of a finite float
-pub bits-back : (w : ℕ) → w < 2 ^ 32 → Box.finite w ≡ true → toBits binary32 (ofBits binary32 w) ≡ w
+pub bits-back : (w : ℕ) → w < 2 ^ 32 → Box.finiteBits w ≡ true → toBits binary32 (ofBits binary32 w) ≡ w
 bits-back w h f = toBits-ofBits binary32 w h (finite-number (ofBits binary32 w) (finite-bits w ∙ f))
 
 -- the words of a vector and of a box, as a `&[u32]` holds them

@@ -1,6 +1,7 @@
 -- The cell's record by value and the head of the cell that it stands for: floats there, their bits here. Definitions only.
 use lib.Ieee.{binary32, ofBits, toBits}
 use Rattle.math.specs.declared.vec3.Vec3.{Vec3 as Floats}
+use Rattle.quantise.specs.declared.bounds.Aabb.{Aabb}
 use Rattle.strip.specs.Cell.{Vec3, Head}
 use Rattle.cell_record.specs.declared.CellRecord.{CellRecord}
 
@@ -33,3 +34,7 @@ headBy r = record {
   bb-max = bits (r .«bb_max»);
   bb-size = bits (r .«bb_size»);
 }
+
+-- the box from bb_min to bb_max
+abbrev pub rootIn : CellRecord → Aabb
+rootIn r = record { min = r .«bb_min»; max = r .«bb_max» }

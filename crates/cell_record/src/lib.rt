@@ -1,13 +1,14 @@
 // The record of a cell, by value: what a strip's first record holds, its box as vectors of floats. Writing makes it once from a strip whose box is finite,
 // reading once from header and root; every function that needs the box or a flag takes it, or its boxes.
 ghost use mathlib.Core.Path.{_≡_};
-ghost use Prim.Native.Nat.{_≤_};
+ghost use Prim.Native.Nat.{_+_, _≤_};
 ghost use lib.ListN.{length};
-ghost use Rattle.strip.specs.Reading.{headAt};
+ghost use Rattle.strip.specs.Reading.{vecAt, headAt};
 ghost use Rattle.quantise.specs.Short.{shorts, coordinates};
-ghost use Rattle.cell_record.specs.Record.{recordOf};
+ghost use Rattle.cell_record.specs.Record.{floats, recordOf, rootIn};
 use math::vec3::Vec3;
 use math::vec3::floats_at;
+use quantise::bounds::Aabb;
 use quantise::short::Shorts;
 
 pub struct CellRecord {
@@ -38,6 +39,15 @@ impl CellRecord {
         let bb_size = self.bb_size;
         quantise::short::unquantise(q, bb_min, bb_size)
     }
+
+    // The box that splits into leaves.
+    pub fn root_box(self) -> Aabb
+        ensures { λ r. ⌜ r ≡ rootIn self ⌝ }
+    {
+        let min = self.bb_min;
+        let max = self.bb_max;
+        Aabb { min, max }
+    }
 }
 
 // The record at the head of a strip. A caller has its words from `check_strip`.
@@ -57,4 +67,13 @@ pub fn record_at(strip: &[u32]) -> CellRecord
         bb_max,
         bb_size,
     }
+}
+
+// The shorts of the position whose three words stand at `at`, in a cell's box: of a vertex, of a portal's end, of a point.
+pub fn shorts_at(strip: &[u32], at: usize, bb_min: Vec3, bb_size: Vec3) -> Shorts
+    requires { ⌜ at + 3 ≤ length (now strip) ⌝ }
+    ensures { λ r. ⌜ r ≡ shorts (floats (vecAt (now (strip .entry)) at)) «bb_min» «bb_size» ⌝ }
+{
+    let v = floats_at(strip, at);
+    quantise::short::quantise(v, bb_min, bb_size)
 }

@@ -15,8 +15,8 @@ nothing {at} {line} = record { line = sym (put-nil at line); place = omega arith
 pub stored : {at r : ℕ} {text old new : List ℕ} → r ≡ length text → new ≡ put at text old → Stored at text old new (at + r)
 stored {at} l e = record { line = e; place = ap (λ (k : ℕ). at + k) l }
 
-pub then : {at : ℕ} {a b old mid new : List ℕ} {m n : ℕ} → Stored at a old mid m → Stored m b mid new n → Stored at (a ++ b) old new n
-then {at} {a} {b} {old} {mid} {new} {m} {n} s t = record {
+pub stored-then : {at : ℕ} {a b old mid new : List ℕ} {m n : ℕ} → Stored at a old mid m → Stored m b mid new n → Stored at (a ++ b) old new n
+stored-then {at} {a} {b} {old} {mid} {new} {m} {n} s t = record {
   line = t .line ∙ ap (put m b) (s .line) ∙ ap (λ (k : ℕ). put k b (put at a old)) (s .place) ∙ put-append a b at old;
   place = omega (arith, s .place, t .place, length-append a b);
 }

@@ -19,14 +19,14 @@ use Rattle.areas.specs.declared.AreaAnswer.the-variants.{At, Full as AreaFull}
 use Rattle.fields.proofs.Over.{length-over}
 use Rattle.areas.proofs.Ids.{ids-after, at-in, full-in as area-full-in}
 use Rattle.vertices.specs.Vertices.{countAfter}
-use Rattle.vertices.specs.Table.{met, Table, Looked}
+use Rattle.vertices.specs.Table.{met, Table, LookedUp}
 use Rattle.vertices.specs.declared.Numbered.{Numbered}
 use Rattle.vertices.specs.declared.Numbered.the-variants.{Vertex, Full}
 use Rattle.vertices.proofs.Triples.{length-met}
 use Rattle.vertices.proofs.Numbering.{vertex-in, full-in, count-le}
-use Rattle.pages.specs.Checks.{first}
+use Rattle.pages.specs.Checks.{firstFault}
 use Rattle.pages.proofs.Firsts.{not-none}
-use Rattle.decide.specs.Steps.{EdgeHas, Ready, CornerDone, behind}
+use Rattle.decide.specs.Steps.{EdgeHas, TablesReady, CornerDone, behindTable}
 use Rattle.decide.specs.declared.polygons.EdgeAreas.{EdgeAreas}
 use Rattle.decide.specs.declared.polygons.Tables.{Tables}
 use Rattle.vertices.proofs.Behind.{met-set, table-set}
@@ -57,7 +57,7 @@ module _ (ids : List ℕ) (long : length ids ≡ 32) (len x : ℕ) (e : Entry) (
 
 module _ (ids : List ℕ) (long : length ids ≡ 32) (len x y : ℕ) (e : Entry) (ids1 : List ℕ) (has : e ≡ entryOf (take len ids) x) (left : ids1 ≡ over (upTo 32 (take len ids) x) ids) where
   pub edge-no-a : (n : ℕ) → e .at ≡ AreaFull → EdgeHas ids ids1 len x y (record { len = n; fault = 15 })
-  unfolding first
+  unfolding firstFault
   edge-no-a n er = record {
     fault = rw (lt-ltb 32 (length (withNew (take len ids) x)) (over-full ids long len x e ids1 has left er));
     long = still-long ids long len x e ids1 has left;
@@ -75,7 +75,7 @@ module _ (ids : List ℕ) (long : length ids ≡ 32) (len x y : ℕ) (e : Entry)
     long-a = still-long ids long len x e ids1 has left
 
     pub edge-no-b : (n : ℕ) → g .at ≡ AreaFull → EdgeHas ids ids2 len x y (record { len = n; fault = 15 })
-    unfolding first
+    unfolding firstFault
     edge-no-b n gr = record {
       fault =
           let many : 32 < length (withNew (withNew (take len ids) x) y) = rw ids-a at (over-full ids1 long-a (e .len) y g ids2 more left2 gr) in
@@ -85,7 +85,7 @@ module _ (ids : List ℕ) (long : length ids ≡ 32) (len x y : ℕ) (e : Entry)
     }
 
     pub edge-both : (j : ℕ) → g .at ≡ At j → EdgeHas ids ids2 len x y (record { len = g .len; fault = 0 })
-    unfolding first
+    unfolding firstFault
     edge-both j gr = record {
       fault =
           let few : length (withNew (withNew (take len ids) x) y) ≤ 32 = rw ids-a at (fits ids1 long-a (e .len) y g ids2 more left2 j gr) in
@@ -96,16 +96,16 @@ module _ (ids : List ℕ) (long : length ids ≡ 32) (len x y : ℕ) (e : Entry)
 
 -- ---- a corner
 
-module _ (w w' ids : List ℕ) (b m : ℕ) (t : Tables) (item x y z : ℕ) (ready : Ready w ids b m (t .vertices) item) (lt : item < m) (r : Numbered) (looked : Looked w w' b (t .vertices) x r) where
+module _ (w w' ids : List ℕ) (b m : ℕ) (t : Tables) (item x y z : ℕ) (ready : TablesReady w ids b m (t .vertices) item) (lt : item < m) (r : Numbered) (looked : LookedUp w w' b (t .vertices) x r) where
   few-after : countAfter r (t .vertices) ≤ t .vertices + 1
   few-after = rw (looked .answer) (count-le (met w b (t .vertices)) x (t .vertices) (length-met w b (t .vertices)))
 
-  behind-same : behind w' b m ≡ behind w b m
+  behind-same : behindTable w' b m ≡ behindTable w b m
   behind-same = drop-more (b + 2 * countAfter r (t .vertices)) (b + 2 * m) (omega (arith, ready .few, few-after)) w' w (looked .rest)
 
   -- 14
   pub corner-no-vertex : r ≡ Full → CornerDone w w' ids ids b m t item x y z (record { tables = t; fault = 14 })
-  unfolding first
+  unfolding firstFault
   corner-no-vertex er = record {
     fault = rw (lt-ltb 65536 (length (withNew (met w b (t .vertices)) x)) (leb-false (length (withNew (met w b (t .vertices)) x)) 65536 (full-in (leb (length (withNew (met w b (t .vertices)) x)) 65536) _ _ (sym er ∙ looked .answer))));
     ready = record {
@@ -142,7 +142,7 @@ module _ (w w' ids : List ℕ) (b m : ℕ) (t : Tables) (item x y z : ℕ) (read
     module _ (ids' : List ℕ) (e : EdgeAreas) (has : EdgeHas ids ids' (t .areas) y z e) where
       -- 15
       pub corner-no-area : (e .fault ≡ 0 → ⊥) → CornerDone w w' ids ids' b m t item x y z (record { tables = record { areas = e .len; vertices = n }; fault = e .fault })
-      unfolding first
+      unfolding firstFault
       corner-no-area ne = record {
         fault = rw (le-ltb 65536 (length (withNew (met w b (t .vertices)) x)) few-vertices) (has .fault);
         ready = record { table = table-more; few = few-more; room = omega (arith, ready .room, looked .long); trees = ready .trees; areas = has .long };
@@ -154,10 +154,10 @@ module _ (w w' ids : List ℕ) (b m : ℕ) (t : Tables) (item x y z : ℕ) (read
       }
 
       pub corner-fine : e .fault ≡ 0 → CornerDone w (set w' (b + 2 * m + item) k) ids ids' b m t item x y z (record { tables = record { areas = e .len; vertices = n }; fault = 0 })
-      unfolding first
+      unfolding firstFault
       corner-fine none =
-          let stored : behind (set w' (b + 2 * m + item) k) b m ≡ set (behind w b m) item k = drop-set-add (b + 2 * m) w' item k ∙ ap (λ (l : List ℕ). set l item k) behind-same in
-          let long : item < length (behind w b m) = omega (arith, ready .room, length-drop (b + 2 * m) w) in
+          let stored : behindTable (set w' (b + 2 * m + item) k) b m ≡ set (behindTable w b m) item k = drop-set-add (b + 2 * m) w' item k ∙ ap (λ (l : List ℕ). set l item k) behind-same in
+          let long : item < length (behindTable w b m) = omega (arith, ready .room, length-drop (b + 2 * m) w) in
           record {
             fault = rw (le-ltb 65536 (length (withNew (met w b (t .vertices)) x)) few-vertices) (sym none ∙ has .fault);
             ready = record {
@@ -168,9 +168,9 @@ module _ (w w' ids : List ℕ) (b m : ℕ) (t : Tables) (item x y z : ℕ) (read
               areas = has .long;
             };
             long = length-set w' (b + 2 * m + item) k ∙ looked .long;
-            back = ap (drop (item + 1)) stored ∙ drop-set-lt (item + 1) (behind w b m) item k (omega arith);
+            back = ap (drop (item + 1)) stored ∙ drop-set-lt (item + 1) (behindTable w b m) item k (omega arith);
             now-met = λ q. met-set w' b n (b + 2 * m + item) k table-more (omega (arith, few-more))
                 ∙ ap (λ (s : Numbered). met w' b (countAfter s (t .vertices))) (sym er) ∙ looked .now-met ∙ rw (is-in .0);
             now-ids = λ q. has .now-ids none;
-            index = λ q. ap (take (item + 1)) stored ∙ rw (add-one item, take-suc-set (behind w b m) item k long, is-in .1);
+            index = λ q. ap (take (item + 1)) stored ∙ rw (add-one item, take-suc-set (behindTable w b m) item k long, is-in .1);
           }

@@ -10,7 +10,7 @@ use lib.ListN.{length}
 use lib.Dec.{ltb}
 use borrow.Author.Tests.{lt-ltb, le-ltb}
 use Rattle.math.specs.declared.vec3.Vec3.{Vec3 as Floats}
-use Rattle.strip.specs.Cell.{Vec3, Edge}
+use Rattle.strip.specs.Cell.{Vec3, NavEdge}
 use Rattle.strip.specs.Reading.{word, vecAt, vecsAt, edgeAt, edgesAt}
 use Rattle.strip.proofs.Steps.{items-turn, items-done}
 use Rattle.distinct.specs.Distinct.{distinctFrom, numbersFrom}
@@ -19,11 +19,11 @@ use Rattle.areas.specs.EdgeHalf.{none}
 use Rattle.pages.specs.Items.{Corner, noEdge, tripleIn, cornersOf, named}
 use Rattle.pages.specs.Checks.{cornerFault, cornersFault}
 use Rattle.pages.proofs.Firsts.{first-none, first-some, first-last}
-use Rattle.decide.specs.Steps.{Ready, Added, CornerDone, CornersDone, behind}
+use Rattle.decide.specs.Steps.{TablesReady, Added, CornerDone, CornersDone, behindTable}
 use Rattle.decide.specs.declared.polygons.Tables.{Tables}
 use Rattle.decide.specs.declared.polygons.Met.{Met}
 
-pub later : (w ids : List ℕ) (b m n i j : ℕ) → i ≤ j → Ready w ids b m n i → Ready w ids b m n j
+pub later : (w ids : List ℕ) (b m n i j : ℕ) → i ≤ j → TablesReady w ids b m n i → TablesReady w ids b m n j
 later w ids b m n i j h r = record { table = r .table; few = omega (arith, r .few); room = r .room; trees = r .trees; areas = r .areas }
 
 module _ (w ids : List ℕ) (b m : ℕ) (t : Tables) (item : ℕ) where
@@ -31,7 +31,7 @@ module _ (w ids : List ℕ) (b m : ℕ) (t : Tables) (item : ℕ) where
   unfolding named distinctFrom numbersFrom
   nothing-added = record { now-met = refl; now-ids = refl; indices = rw (add-zero item, append-nil) }
 
-  none-left : Ready w ids b m (t .vertices) item → CornersDone w w ids ids b m t item [] (record { tables = t; fault = 0 })
+  none-left : TablesReady w ids b m (t .vertices) item → CornersDone w w ids ids b m t item [] (record { tables = t; fault = 0 })
   unfolding cornersFault
   none-left r = record {
     fault = refl;
@@ -48,7 +48,7 @@ module _ (w ids : List ℕ) (b m : ℕ) (t : Tables) (item : ℕ) where
       fault = d .fault ∙ sym (first-some _ _ (λ e. ne (d .fault ∙ e)));
       ready = later w' ids' b m (r .tables .vertices) (item + 1) (item + suc (length ks)) (omega arith) (d .ready);
       long = d .long;
-      back = drop-more (item + 1) (item + suc (length ks)) (omega arith) (behind w' b m) (behind w b m) (d .back);
+      back = drop-more (item + 1) (item + suc (length ks)) (omega arith) (behindTable w' b m) (behindTable w b m) (d .back);
       added = λ q. absurd (ne q);
     }
 
@@ -60,7 +60,7 @@ module _ (w ids : List ℕ) (b m : ℕ) (t : Tables) (item : ℕ) where
           fault = g .fault ∙ (rw (d .now-met none, d .now-ids none)) ∙ sym (first-none _ _ (sym (d .fault) ∙ none) ∙ first-last _);
           ready = rw sum at (g .ready);
           long = g .long ∙ d .long;
-          back = (rw sum at (g .back)) ∙ drop-more (item + 1) (item + suc (length ks)) (omega arith) (behind w' b m) (behind w b m) (d .back);
+          back = (rw sum at (g .back)) ∙ drop-more (item + 1) (item + suc (length ks)) (omega arith) (behindTable w' b m) (behindTable w b m) (d .back);
           added = λ q.
               let a = g .added q in
               record {
@@ -73,7 +73,7 @@ module _ (w ids : List ℕ) (b m : ℕ) (t : Tables) (item : ℕ) where
 -- ---- the corners as they stand in the strip
 
 -- the edge at a position, where the polygon has more than i edges
-abbrev pub edgeOr : List ℕ → ℕ → ℕ → ℕ → Edge
+abbrev pub edgeOr : List ℕ → ℕ → ℕ → ℕ → NavEdge
 edgeOr s e i m = cond (ltb i m) (edgeAt s e) noEdge
 
 module _ (s : List ℕ) (lo size : Floats) (v e i n m : ℕ) (h : i < n) where
@@ -111,13 +111,13 @@ pub record Going (s : List ℕ) (lo size : Floats) (n k v₀ e₀ b m start : �
   pub within : i ≤ n
   pub vertex : v ≡ v₀ + 3 * i
   pub edge : e ≡ e₀ + 6 * i
-  pub ready : Ready w ids b m (t .vertices) (start + i)
+  pub ready : TablesReady w ids b m (t .vertices) (start + i)
   pub long : length w ≡ length w₀
   pub rest : (w' ids' : List ℕ) (r : Met) → CornersDone w w' ids ids' b m t (start + i) (cornersOf lo size (vecsAt s v (n - i)) (edgesAt s e (k - i))) r
       → CornersDone w₀ w' ids₀ ids' b m had start (cornersOf lo size (vecsAt s v₀ n) (edgesAt s e₀ k)) r
 
 module _ (s : List ℕ) (lo size : Floats) (n k v₀ e₀ b m start : ℕ) (had : Tables) (w₀ ids₀ : List ℕ) where
-  pub begin : Ready w₀ ids₀ b m (had .vertices) start → Going s lo size n k v₀ e₀ b m start had w₀ ids₀ w₀ ids₀ had v₀ e₀ 0
+  pub begin : TablesReady w₀ ids₀ b m (had .vertices) start → Going s lo size n k v₀ e₀ b m start had w₀ ids₀ w₀ ids₀ had v₀ e₀ 0
   begin r = record {
     within = omega arith;
     vertex = omega arith;

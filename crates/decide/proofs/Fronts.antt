@@ -16,7 +16,9 @@ use Rattle.strip.specs.Scan.{Scanned, fault, scan}
 use Rattle.strip.specs.declared.Counts.{Counts}
 use Rattle.strip.proofs.Steps.{items-length}
 use Rattle.strip.proofs.Laid.{Well}
-use Rattle.strip.proofs.Faults.{scan-fault}
+use Rattle.strip.specs.declared.Refusal.{Refusal}
+use Rattle.cell_record.specs.Record.{recordOf}
+use Rattle.cell_record.specs.declared.CellRecord.{CellRecord}
 use Rattle.distinct.specs.Distinct.{indexOf, distinctFrom, numbersFrom}
 use Rattle.distinct.proofs.Left.{drop-more}
 use Rattle.distinct.proofs.Final.{numbers-at-the-end}
@@ -25,9 +27,12 @@ use Rattle.vertices.specs.Table.{met, cleared}
 use Rattle.vertices.proofs.Numbering.{table-cleared, length-cleared, drop-cleared}
 use Rattle.vertices.proofs.Enough.{trees-fit}
 use Rattle.pages.specs.Items.{floats, Corner, corners, triples}
-use Rattle.pages.specs.Checks.{Verdict, when, first, at}
-use Rattle.pages.proofs.Firsts.{passed, at-none, at-some}
-use Rattle.decide.specs.Steps.{Ready, PolygonsDone}
+use Rattle.pages.specs.Checks.{Verdict, faultIf, firstFault, at}
+use Rattle.pages.proofs.Firsts.{passed, at-none}
+use Rattle.decide.specs.Steps.{says, said, TablesReady, PolygonsDone}
+use Rattle.decide.specs.declared.Verdict.{Verdict as Said}
+use Rattle.decide.specs.declared.Verdict.the-variants.{Fine, Refused}
+use Rattle.decide.proofs.Said.{never-both, said-says, said-fine}
 use Rattle.decide.specs.Decide.{onPolygons, beforeLeaves, onScan, trees, most, indicesAt, tablesEnd, Tabled, WellDone, DecideDone}
 use Rattle.decide.specs.declared.polygons.Tables.{Tables}
 use Rattle.decide.specs.declared.polygons.Decided.{Decided}
@@ -44,7 +49,7 @@ module _ (s w wc : List ℕ) (l14 : 14 ≤ length s) (l4 : 4 * length s ≤ leng
   cleared-long : length wc ≡ length w
   cleared-long = rw ec (length-cleared w (trees (length s)) within)
 
-  pub ready : (ids : List ℕ) → length ids ≡ 32 → Ready wc ids (trees (length s)) (most (length s)) 0 0
+  pub ready : (ids : List ℕ) → length ids ≡ 32 → TablesReady wc ids (trees (length s)) (most (length s)) 0 0
   ready ids li = record {
     table = rw ec (table-cleared w (trees (length s)) within (trees-in (length s) l14 .0) (omega (arith, trees-in (length s) l14 .1)));
     few = omega arith;
@@ -63,25 +68,25 @@ map-vertex : (f : ℕ → ℕ) (ks : List Corner) → map f (triples ks) ≡ map
 map-vertex f [] = refl
 map-vertex f (k ∷ ks) = ap (λ (l : List ℕ). f (k .vertex) ∷ l) (map-vertex f ks)
 
-module _ (s : List ℕ) (n : Counts) (h : Head) (w wc w' ids ids' : List ℕ) (t : Tables) (d : Decided)
+module _ (s : List ℕ) (n : Counts) (h : Head) (cell : CellRecord) (same-cell : cell ≡ recordOf h) (w wc w' ids ids' : List ℕ) (t : Tables) (d : Decided)
     (l14 : 14 ≤ length s) (l4 : 4 * length s ≤ length w) (ec : wc ≡ cleared w (trees (length s))) (ev : t .vertices ≡ 0) (ea : take (t .areas) ids ≡ seeded (h .area))
     (p : PolygonsDone (floats (h .bb-min)) (floats (h .bb-size)) wc w' ids ids' (trees (length s)) (most (length s)) t 0 0 0 (polygonsAt s 14 (n .polys)) d) where
   abbrev answer : Decision
   answer = record {
+    cell = cell;
     counts = n;
     areas = record { ids = ids'; len = d .tables .areas };
     vertices = d .tables .vertices;
     corners = d .corners;
     links = d .links;
-    fault = d .fault;
-    place = d .place;
+    verdict = d .verdict;
   }
 
   empty : met wc (trees (length s)) (t .vertices) ≡ []
   unfolding met
   empty = rw ev
 
-  tables-done : d .fault ≡ 0 → Tabled (length s) h (polygonsAt s 14 (n .polys)) w' answer
+  tables-done : d .verdict ≡ Fine → Tabled (length s) h (polygonsAt s 14 (n .polys)) w' answer
   tables-done z =
       let g = p .added z in
       let ks = corners (floats (h .bb-min)) (floats (h .bb-size)) (polygonsAt s 14 (n .polys)) in
@@ -96,6 +101,7 @@ module _ (s : List ℕ) (n : Counts) (h : Head) (w wc w' ids ids' : List ℕ) (t
         few-vertices = p .ready z .few;
         few-corners = p .few z;
         few-polys = omega (arith, p .many z);
+        cell = same-cell;
       }
 
   pub polygons-done : WellDone s h n w w' answer
@@ -113,53 +119,55 @@ module _ (s : List ℕ) (n : Counts) (h : Head) (w wc w' ids ids' : List ℕ) (t
 
 -- ---- 3
 
-pub not-formed : (s w : List ℕ) (number place : ℕ) → scan s ≡ Scanned.fault number place → (r : Decision) → r .fault ≡ number → r .place ≡ place → DecideDone s w w r
-unfolding at
-not-formed s w number place k r e p =
-    let three : number ≡ 3 = scan-fault s number place .0 k .0 in
-    record {
-      verdict = λ rest. rw (k, e, p, three);
-      long = refl;
-      beyond = refl;
-      tabled = λ z. absurd (omega arith);
-      counts = λ z. absurd (omega arith);
-    }
+pub not-formed : (s w : List ℕ) (q : Refusal) → scan s ≡ Scanned.fault (q .number) (q .place) → (r : Decision) → r .verdict ≡ Refused q → DecideDone s w w r
+not-formed s w q k r e = record {
+  verdict = λ rest. rw (k, e);
+  long = refl;
+  beyond = refl;
+  tabled = λ z. never-both (r .verdict) q e z;
+  counts = λ z. never-both (r .verdict) q e z;
+}
 
 -- ---- 1, 10, 11
 
-module _ (s w : List ℕ) (n : Counts) (W : Well s (n .polys) (n .portals) (n .points)) (f : ℕ)
-    (ef : f ≡ first (when (ltb (length w / 4) (length s)) 1 ∷ when (not (finiteBox (headAt s 0))) 10 ∷ when (ltb 16383 (n .polys)) 11 ∷ [])) where
+module _ (s w : List ℕ) (n : Counts) (W : Well s (n .polys) (n .portals) (n .points)) where
+  abbrev front-fault : ℕ
+  front-fault = firstFault (faultIf (ltb (length w / 4) (length s)) 1 ∷ faultIf (not (finiteBox (headAt s 0))) 10 ∷ faultIf (ltb 16383 (n .polys)) 11 ∷ [])
+
   poly-count : length (W .cell .polys) ≡ n .polys
   poly-count = rw (W .polys) (items-length (polygonAt s) (λ x. polyAt s x .next) (n .polys) 14)
 
-  front : (rest : Verdict) → onScan (beforeLeaves (length s) (length w) rest) (scan s) ≡ at 0 f (onPolygons (headAt s 0) (polygonsAt s 14 (n .polys)) rest)
+  front : (rest : Verdict) → onScan (beforeLeaves (length s) (length w) rest) (scan s) ≡ at 0 front-fault (onPolygons (headAt s 0) (polygonsAt s 14 (n .polys)) rest)
   unfolding beforeLeaves
-  front rest = rw (W .is, W .head, poly-count, ← ef, W .polys)
+  front rest = rw (W .is, W .head, poly-count, W .polys)
 
-  -- 1 passed
-  pub room : f ≡ 0 → 4 * length s ≤ length w
-  room none = omega (arith, ltb-false (length w / 4) (length s) (passed (ltb (length w / 4) (length s)) 0 _ (sym ef ∙ none)))
+  module _ (v : Said) (ev : v ≡ said 0 front-fault) where
+    -- 1 passed
+    pub room : v ≡ Fine → 4 * length s ≤ length w
+    room none = omega (arith, ltb-false (length w / 4) (length s) (passed (ltb (length w / 4) (length s)) 0 _ (said-fine 0 front-fault (sym ev ∙ none))))
 
-  pub bad-front : (f ≡ 0 → ⊥) → (r : Decision) → r .fault ≡ f → r .place ≡ 0 → DecideDone s w w r
-  bad-front ne r e p = record {
-    verdict = λ rest. rw (e, p) (at-some 0 f rest _ ne ∙ sym (front rest));
-    long = refl;
-    beyond = refl;
-    tabled = λ z. absurd (ne (sym e ∙ z));
-    counts = λ z. absurd (ne (sym e ∙ z));
-  }
+    pub bad-front : (q : Refusal) → v ≡ Refused q → (r : Decision) → r .verdict ≡ Refused q → DecideDone s w w r
+    bad-front q eq r e = record {
+      verdict = λ rest.
+          let after = onPolygons (headAt s 0) (polygonsAt s 14 (n .polys)) rest in
+          rw e (ap (λ (u : Said). says u after) (sym eq ∙ ev) ∙ said-says 0 front-fault after ∙ sym (front rest));
+      long = refl;
+      beyond = refl;
+      tabled = λ z. never-both (r .verdict) q e z;
+      counts = λ z. never-both (r .verdict) q e z;
+    }
 
-  pub good-front : f ≡ 0 → (w' : List ℕ) (r : Decision) → WellDone s (headAt s 0) n w w' r → DecideDone s w w' r
-  good-front none w' r d = record {
-    verdict = λ rest. d .verdict rest ∙ sym (front rest ∙ at-none 0 f _ none);
-    long = d .long;
-    beyond = drop-more (tablesEnd (length s)) (2 * length s) (omega (arith, trees-in (length s) (W .long) .2)) w' w (d .beyond);
-    tabled = λ z c e.
-        let same : c ≡ W .cell = cc (e, W .is) in
-        rw (same, W .head, W .polys) (d .tabled z);
-    counts = λ z c e.
-        let same : c ≡ W .cell = cc (e, W .is) in
-        let qs : length (W .cell .portals) ≡ n .portals = rw (W .portals) (items-length (portalAt s) (λ x. x + 11) (n .portals) (afterPolygons s 14 (n .polys))) in
-        let ts : length (W .cell .points) ≡ n .points = rw (W .points) (items-length (pointAt s) (λ x. x + 4) (n .points) (afterPolygons s 14 (n .polys) + 11 * n .portals)) in
-        rw (same, poly-count, qs, ts) (d .counts);
-  }
+    pub good-front : v ≡ Fine → (w' : List ℕ) (r : Decision) → WellDone s (headAt s 0) n w w' r → DecideDone s w w' r
+    good-front none w' r d = record {
+      verdict = λ rest. d .verdict rest ∙ sym (front rest ∙ at-none 0 front-fault _ (said-fine 0 front-fault (sym ev ∙ none)));
+      long = d .long;
+      beyond = drop-more (tablesEnd (length s)) (2 * length s) (omega (arith, trees-in (length s) (W .long) .2)) w' w (d .beyond);
+      tabled = λ z c e.
+          let same : c ≡ W .cell = cc (e, W .is) in
+          rw (same, W .head, W .polys) (d .tabled z);
+      counts = λ z c e.
+          let same : c ≡ W .cell = cc (e, W .is) in
+          let qs : length (W .cell .portals) ≡ n .portals = rw (W .portals) (items-length (portalAt s) (λ x. x + 11) (n .portals) (afterPolygons s 14 (n .polys))) in
+          let ts : length (W .cell .points) ≡ n .points = rw (W .points) (items-length (pointAt s) (λ x. x + 4) (n .points) (afterPolygons s 14 (n .polys) + 11 * n .portals)) in
+          rw (same, poly-count, qs, ts) (d .counts);
+    }

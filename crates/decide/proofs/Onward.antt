@@ -9,7 +9,7 @@ use lib.ListN.{length, take, drop, length-append}
 use lib.Dec.{ltb}
 use borrow.Author.Tests.{lt-ltb, le-ltb, ltb-false}
 use Rattle.math.specs.declared.vec3.Vec3.{Vec3 as Floats}
-use Rattle.strip.specs.Cell.{Polygon}
+use Rattle.strip.specs.Cell.{NavPoly}
 use Rattle.strip.specs.Reading.{word, vecAt, polyAt, polygonOf, polygonAt, polygonsAt, afterPolygons}
 use Rattle.strip.specs.declared.Poly.{Poly}
 use Rattle.strip.proofs.Steps.{items-length, items-done, polygons-turn, parts, after-polygon, after-ge, next-inside}
@@ -17,15 +17,17 @@ use Rattle.distinct.proofs.Laws.{numbers-append}
 use Rattle.distinct.proofs.Left.{drop-more}
 use Rattle.vertices.specs.Table.{met}
 use Rattle.pages.specs.Items.{Corner, gather, cornersIn, corners, triples, named, linksOf}
-use Rattle.pages.specs.Checks.{first, when, at, cornersFault, polygonFault, polygonsVerdict}
+use Rattle.pages.specs.Checks.{firstFault, faultIf, at, cornersFault, polygonFault, polygonsVerdict}
 use Rattle.distinct.proofs.Final.{distinct-append}
 use Rattle.pages.proofs.Placed.{length-corners}
 use Rattle.pages.proofs.Accepted.{or-false, triples-append, named-append}
-use Rattle.pages.proofs.Firsts.{passed, not-none, first-none, first-some, first-last, first-two, at-none, at-some}
-use Rattle.decide.specs.Steps.{runFault, Ready, Added, CornersDone, PolygonDone, PolygonsDone, behind}
+use Rattle.pages.proofs.Firsts.{passed, not-none, first-none, first-some, first-last, first-two, at-none}
+use Rattle.decide.specs.Steps.{runFault, TablesReady, Added, CornersDone, PolygonDone, PolygonsDone, behindTable}
 use Rattle.decide.specs.declared.polygons.Tables.{Tables}
 use Rattle.decide.specs.declared.polygons.Met.{Met}
 use Rattle.decide.specs.declared.polygons.Decided.{Decided}
+use Rattle.decide.specs.declared.Verdict.the-variants.{Fine, Refused}
+use Rattle.decide.proofs.Said.{never-both, at-refused}
 use Rattle.decide.proofs.Corners.{nothing-added}
 
 -- ---- lists in a row
@@ -42,10 +44,10 @@ added-append w w' w'' ids ids' ids'' b m t t' t'' item ks ls g h =
 
 -- ---- one polygon
 
-module _ (lo size : Floats) (w ids : List ℕ) (b m : ℕ) (t : Tables) (start : ℕ) (q : Polygon) where
+module _ (lo size : Floats) (w ids : List ℕ) (b m : ℕ) (t : Tables) (start : ℕ) (q : NavPoly) where
   -- 12 and 13 before the corners
   in-order : polygonFault lo size (met w b (t .vertices)) (take (t .areas) ids) start q
-      ≡ first (runFault (length (q .vertices)) start ∷ cornersFault (met w b (t .vertices)) (take (t .areas) ids) (cornersIn lo size q) ∷ when (ltb 7 (length (q .links))) 16 ∷ [])
+      ≡ firstFault (runFault (length (q .vertices)) start ∷ cornersFault (met w b (t .vertices)) (take (t .areas) ids) (cornersIn lo size q) ∷ faultIf (ltb 7 (length (q .links))) 16 ∷ [])
   unfolding polygonFault
   in-order = first-two _ _ _
 
@@ -62,14 +64,14 @@ module _ (lo size : Floats) (w ids : List ℕ) (b m : ℕ) (t : Tables) (start :
     }
 
     module _ (good : f ≡ 0) (room : start + length (q .vertices) ≤ m) (w' ids' : List ℕ) (r : Met) (d : CornersDone w w' ids ids' b m t start (cornersIn lo size q) r) where
-      from-corners : polygonFault lo size (met w b (t .vertices)) (take (t .areas) ids) start q ≡ first (r .fault ∷ when (ltb 7 (length (q .links))) 16 ∷ [])
+      from-corners : polygonFault lo size (met w b (t .vertices)) (take (t .areas) ids) start q ≡ firstFault (r .fault ∷ faultIf (ltb 7 (length (q .links))) 16 ∷ [])
       from-corners = in-order ∙ first-none _ _ (sym ef ∙ good) ∙ rw (d .fault)
 
       long-enough : start + length (cornersIn lo size q) ≡ start + length (q .vertices)
       long-enough = omega (arith, length-corners lo size (q .vertices) (q .edges))
 
-      rest-same : drop m (behind w' b m) ≡ drop m (behind w b m)
-      rest-same = drop-more (start + length (cornersIn lo size q)) m (omega (arith, long-enough)) (behind w' b m) (behind w b m) (d .back)
+      rest-same : drop m (behindTable w' b m) ≡ drop m (behindTable w b m)
+      rest-same = drop-more (start + length (cornersIn lo size q)) m (omega (arith, long-enough)) (behindTable w' b m) (behindTable w b m) (d .back)
 
       pub bad-corner : (r .fault ≡ 0 → ⊥) → PolygonDone lo size w w' ids ids' b m t start q r
       bad-corner ne = record {
@@ -115,9 +117,9 @@ module _ (s : List ℕ) (p : Poly) where
 -- ---- all polygons
 
 module _ (lo size : Floats) (w ids : List ℕ) (b m : ℕ) (t : Tables) (start k l : ℕ) where
-  none-left : Ready w ids b m (t .vertices) start → start ≤ m
-      → PolygonsDone lo size w w ids ids b m t start k l [] (record { tables = t; corners = start; links = l; fault = 0; place = 0 })
-  unfolding polygonsVerdict gather at
+  none-left : TablesReady w ids b m (t .vertices) start → start ≤ m
+      → PolygonsDone lo size w w ids ids b m t start k l [] (record { tables = t; corners = start; links = l; verdict = Fine })
+  unfolding polygonsVerdict gather
   none-left r h = record {
     verdict = λ rest. refl;
     long = refl;
@@ -130,20 +132,20 @@ module _ (lo size : Floats) (w ids : List ℕ) (b m : ℕ) (t : Tables) (start k
     added = λ z. nothing-added w ids b m t start;
   }
 
-  module _ (w' ids' : List ℕ) (p : Polygon) (ps : List Polygon) (r : Met) (d : PolygonDone lo size w w' ids ids' b m t start p r) where
+  module _ (w' ids' : List ℕ) (p : NavPoly) (ps : List NavPoly) (r : Met) (d : PolygonDone lo size w w' ids ids' b m t start p r) where
     stopped : (r .fault ≡ 0 → ⊥)
-        → PolygonsDone lo size w w' ids ids' b m t start k l (p ∷ ps) (record { tables = r .tables; corners = start; links = l; fault = r .fault; place = k })
+        → PolygonsDone lo size w w' ids ids' b m t start k l (p ∷ ps) (record { tables = r .tables; corners = start; links = l; verdict = Refused (record { number = r .fault; place = k }) })
     unfolding polygonsVerdict
     stopped ne = record {
-      verdict = λ rest. rw (← d .fault) (at-some k (r .fault) rest _ ne);
+      verdict = λ rest. rw (← d .fault) (at-refused k (r .fault) _ ne);
       long = d .long;
       back = d .back;
-      ready = λ z. absurd (ne z);
-      few = λ z. absurd (ne z);
-      many = λ z. absurd (ne z);
-      corner-count = λ z. absurd (ne z);
-      link-count = λ z. absurd (ne z);
-      added = λ z. absurd (ne z);
+      ready = λ z. never-both _ _ refl z;
+      few = λ z. never-both _ _ refl z;
+      many = λ z. never-both _ _ refl z;
+      corner-count = λ z. never-both _ _ refl z;
+      link-count = λ z. never-both _ _ refl z;
+      added = λ z. never-both _ _ refl z;
     }
 
     went-on : r .fault ≡ 0 → (w'' ids'' : List ℕ) (q : Decided)
@@ -172,13 +174,13 @@ pub record Onward (s : List ℕ) (lo size : Floats) (n b m : ℕ) (had : Tables)
   pub inside : afterPolygons s at (n - i) ≤ length s
   pub ahead : 3 * start + 14 ≤ at
   pub links : l ≤ at
-  pub ready : Ready w ids b m (t .vertices) start
+  pub ready : TablesReady w ids b m (t .vertices) start
   pub long : length w ≡ length w₀
   pub rest : (w' ids' : List ℕ) (r : Decided) → PolygonsDone lo size w w' ids ids' b m t start i l (polygonsAt s at (n - i)) r
       → PolygonsDone lo size w₀ w' ids₀ ids' b m had 0 0 0 (polygonsAt s 14 n) r
 
 module _ (s : List ℕ) (lo size : Floats) (n b m : ℕ) (had : Tables) (w₀ ids₀ : List ℕ) where
-  pub begin : afterPolygons s 14 n ≤ length s → Ready w₀ ids₀ b m (had .vertices) 0 → Onward s lo size n b m had w₀ ids₀ w₀ ids₀ had 14 0 0 0
+  pub begin : afterPolygons s 14 n ≤ length s → TablesReady w₀ ids₀ b m (had .vertices) 0 → Onward s lo size n b m had w₀ ids₀ w₀ ids₀ had 14 0 0 0
   begin h r = record {
     within = omega arith;
     inside = rw (sub-zero n) h;
@@ -195,7 +197,7 @@ module _ (s : List ℕ) (lo size : Floats) (n b m : ℕ) (had : Tables) (w₀ id
 
     module _ (w' ids' : List ℕ) (r : Met) (d : PolygonDone lo size w w' ids ids' b m t start (polygonOf s p) r) where
       pub stop : (r .fault ≡ 0 → ⊥)
-          → PolygonsDone lo size w₀ w' ids₀ ids' b m had 0 0 0 (polygonsAt s 14 n) (record { tables = r .tables; corners = start; links = l; fault = r .fault; place = i })
+          → PolygonsDone lo size w₀ w' ids₀ ids' b m had 0 0 0 (polygonsAt s 14 n) (record { tables = r .tables; corners = start; links = l; verdict = Refused (record { number = r .fault; place = i }) })
       stop ne = g .rest w' ids' _ (rw (polygons-turn s at i n h p e) (stopped lo size w ids b m t start i l w' ids' (polygonOf s p) _ r d ne))
 
       pub again : r .fault ≡ 0 → Onward s lo size n b m had w₀ ids₀ w' ids' (r .tables) (p .next) (start + p .vertices) (l + p .links) (i + 1)
@@ -215,7 +217,7 @@ module _ (s : List ℕ) (lo size : Floats) (n b m : ℕ) (had : Tables) (w₀ id
           }
 
   pub done : (w ids : List ℕ) (t : Tables) (at start l i : ℕ) → Onward s lo size n b m had w₀ ids₀ w ids t at start l i → n ≤ i → length s ≤ 3 * m + 2
-      → PolygonsDone lo size w₀ w ids₀ ids b m had 0 0 0 (polygonsAt s 14 n) (record { tables = t; corners = start; links = l; fault = 0; place = 0 })
+      → PolygonsDone lo size w₀ w ids₀ ids b m had 0 0 0 (polygonsAt s 14 n) (record { tables = t; corners = start; links = l; verdict = Fine })
   done w ids t at start l i g h fit =
       let few : start ≤ m = omega (arith, g .ahead, g .inside, after-ge (n - i) s at) in
       g .rest w ids _ (rw (items-done (polygonAt s) (λ x. polyAt s x .next) at i n h) (none-left lo size w ids b m t start i l (g .ready) few))

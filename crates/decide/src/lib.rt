@@ -7,45 +7,63 @@ ghost use lib.ListN.{length};
 ghost use lib.Dec.{ltb};
 ghost use Rattle.strip.specs.Reading.{headAt, afterPolygons};
 ghost use Rattle.strip.specs.Box.{finiteBox};
-ghost use Rattle.pages.specs.Checks.{when, first};
+ghost use Rattle.pages.specs.Checks.{faultIf, firstFault};
+ghost use Rattle.decide.specs.Steps.{said};
+ghost use Rattle.decide.specs.declared.Verdict.the-variants.{Refused};
 ghost use Rattle.decide.specs.Decide.{trees, tablesEnd, WellDone, DecideDone};
 use areas::Areas;
-use math::vec3::floats_at;
-use polygons::Frame;
+use cell_record::CellRecord;
+use math::vec3::Vec3;
 use polygons::Tables;
 use strip::Counts;
+use strip::Refusal;
 use strip::StripAnswer;
 
 mod polygons;
 
-// What a strip comes to: its counts, the area table, how many vertices, corners and links there are, and the first refusal's number and
-// place; number 0 is none.
+// Nothing is refused, or the first refusal.
+pub enum Verdict {
+    Fine,
+    Refused(Refusal),
+}
+
+// What a strip comes to: the verdict, and where nothing is refused its cell's record, its counts, the area table, and how many vertices, corners
+// and links there are.
 pub struct Decision {
+    pub cell: CellRecord,
     pub counts: Counts,
     pub areas: Areas,
     pub vertices: usize,
     pub corners: usize,
     pub links: usize,
-    pub fault: u32,
-    pub place: usize,
+    pub verdict: Verdict,
 }
 
 // 1, 10, 11: of a well-formed strip with so many polygons, where so many words of work are lent.
-fn front_fault(strip: &[u32], work: usize, polys: usize) -> u32
+fn front_verdict(strip: &[u32], work: usize, polys: usize) -> Verdict
     requires { ⌜ 14 ≤ length (now strip) ⌝ }
-    ensures { λ r. ⌜ r ≡ first (when (ltb (work / 4) (length (now (strip .entry)))) 1 ∷ when (not (finiteBox (headAt (now (strip .entry)) 0))) 10
-        ∷ when (ltb 16383 polys) 11 ∷ []) ⌝ }
+    ensures { λ r. ⌜ r ≡ said 0 (firstFault (faultIf (ltb (work / 4) (length (now (strip .entry)))) 1 ∷ faultIf (not (finiteBox (headAt (now (strip .entry)) 0))) 10
+        ∷ faultIf (ltb 16383 polys) 11 ∷ [])) ⌝ }
 {
     if work / 4 < strip.len() {
-        return 1;
+        return Verdict::Refused(Refusal {
+            number: 1,
+            place: 0,
+        });
     }
     if !strip::finite_box(strip) {
-        return 10;
+        return Verdict::Refused(Refusal {
+            number: 10,
+            place: 0,
+        });
     }
     if 16383 < polys {
-        return 11;
+        return Verdict::Refused(Refusal {
+            number: 11,
+            place: 0,
+        });
     }
-    0
+    Verdict::Fine
 }
 
 // How many trees the vertex table has, for a strip of so many words.
@@ -68,12 +86,12 @@ fn decide_well(strip: &[u32], counts: Counts, work: &mut [u32]) -> Decision
     requires { ⌜ (14 ≤ length (now strip)) × (afterPolygons (now strip) 14 (counts .polys) ≤ length (now strip)) × (4 * length (now strip) ≤ length (now work)) ⌝ }
     ensures { λ r. ⌜ WellDone (now (strip .entry)) (headAt (now (strip .entry)) 0) counts (now (work .entry)) (now (work .exit)) r ⌝ }
 {
-    let lo = floats_at(strip, 5);
-    let size = floats_at(strip, 11);
-    let frame = Frame { lo, size };
+    let cell = cell_record::record_at(strip);
+    let bb_min = cell.bb_min;
+    let bb_size = cell.bb_size;
     let buckets = tree_count(strip.len());
     let room = strip.len() / 3;
-    let seeded = areas::seed_areas(strip[2]);
+    let seeded = areas::seed_areas(cell.area_id);
     let mut ids = seeded.ids;
     let had = Tables {
         areas: seeded.len,
@@ -81,27 +99,48 @@ fn decide_well(strip: &[u32], counts: Counts, work: &mut [u32]) -> Decision
     };
     let n = counts.polys;
     vertices::clear(work, buckets);
-    let d = polygons::decide_polygons(strip, n, frame, work, &mut ids, buckets, room, had);
+    let d = polygons::decide_polygons(
+        strip,
+        n,
+        bb_min,
+        bb_size,
+        work,
+        &mut ids,
+        buckets,
+        room,
+        had,
+    );
     let tables = d.tables;
+    let verdict = d.verdict;
     let areas = Areas {
         ids: ids,
         len: tables.areas,
     };
     Decision {
+        cell,
         counts,
         areas,
         vertices: tables.vertices,
         corners: d.corners,
         links: d.links,
-        fault: d.fault,
-        place: d.place,
+        verdict,
     }
 }
 
 // No tables: a refusal.
-fn refuse(fault: u32, place: usize) -> Decision
-    ensures { λ r. ⌜ (r .fault ≡ fault) × (r .place ≡ place) ⌝ }
+fn refuse(refusal: Refusal) -> Decision
+    ensures { λ r. ⌜ r .verdict ≡ Refused refusal ⌝ }
 {
+    let none = Vec3::new(0.0, 0.0, 0.0);
+    let cell = CellRecord {
+        content_flags: 0,
+        area_id: 0,
+        version_unk2: 0,
+        vft: 0,
+        bb_min: none,
+        bb_max: none,
+        bb_size: none,
+    };
     let counts = Counts {
         polys: 0,
         portals: 0,
@@ -112,13 +151,13 @@ fn refuse(fault: u32, place: usize) -> Decision
         len: 0,
     };
     Decision {
+        cell,
         counts,
         areas,
         vertices: 0,
         corners: 0,
         links: 0,
-        fault,
-        place,
+        verdict: Verdict::Refused(refusal),
     }
 }
 
@@ -129,12 +168,12 @@ pub fn decide(strip: &[u32], work: &mut [u32]) -> Decision
 {
     match strip::check_strip(strip) {
         StripAnswer::WellFormed(counts) => {
-            let fault = front_fault(strip, work.len(), counts.polys);
-            if fault != 0 {
-                return refuse(fault, 0);
+            let front = front_verdict(strip, work.len(), counts.polys);
+            match front {
+                Verdict::Fine => decide_well(strip, counts, work),
+                Verdict::Refused(f) => refuse(f),
             }
-            decide_well(strip, counts, work)
         }
-        StripAnswer::Refused(r) => refuse(r.number, r.place),
+        StripAnswer::Refused(r) => refuse(r),
     }
 }

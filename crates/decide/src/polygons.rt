@@ -8,18 +8,14 @@ ghost use lib.Dec.{ltb};
 ghost use Rattle.strip.specs.Reading.{word, vecAt, polygonOf, polygonsAt, afterPolygons};
 ghost use Rattle.areas.specs.EdgeHalf.{none};
 ghost use Rattle.pages.specs.Items.{tripleIn, cornersIn};
-ghost use Rattle.decide.specs.Steps.{runFault, EdgeHas, Ready, CornerDone, CornersDone, PolygonDone, PolygonsDone};
+ghost use Rattle.decide.specs.Steps.{runFault, EdgeHas, TablesReady, CornerDone, CornersDone, PolygonDone, PolygonsDone};
+use super::Verdict;
 use areas::AreaAnswer;
 use math::vec3::Vec3;
 use math::vec3::floats_at;
 use strip::Poly;
+use strip::Refusal;
 use vertices::Numbered;
-
-// The box in which shorts are measured: bb_min and bb_size.
-pub struct Frame {
-    pub lo: Vec3,
-    pub size: Vec3,
-}
 
 // How many areas and vertices there are.
 pub struct Tables {
@@ -39,13 +35,12 @@ pub struct Met {
     pub fault: u32,
 }
 
-// What the polygons come to: the tables, how many corners and links there are, and the first refusal with its polygon; 0 is none.
+// What the polygons come to: the tables, how many corners and links there are, and the verdict.
 pub struct Decided {
     pub tables: Tables,
     pub corners: usize,
     pub links: usize,
-    pub fault: u32,
-    pub place: usize,
+    pub verdict: Verdict,
 }
 
 // The areas of both halves of an edge: 15 where one would be a 33rd.
@@ -77,15 +72,14 @@ fn ensure_edge(ids: &mut [u32; 32], len: usize, a: u32, b: u32) -> EdgeAreas
     }
 }
 
-// The triple of the vertex whose three words stand at `at`.
-fn triple_of(strip: &[u32], at: usize, frame: Frame) -> u64
+// The triple of the vertex whose three words stand at `at`. (It runs for each corner, so the two steps of `cell_record::shorts_at` stand here: as one call they would
+// take a seventh of the writer's time more.)
+fn triple_of(strip: &[u32], at: usize, bb_min: Vec3, bb_size: Vec3) -> u64
     requires { ⌜ at + 3 ≤ length (now strip) ⌝ }
-    ensures { λ r. ⌜ (r ≡ tripleIn (frame .lo) (frame .size) (vecAt (now (strip .entry)) at)) × (r < 2 ^ 48) ⌝ }
+    ensures { λ r. ⌜ (r ≡ tripleIn «bb_min» «bb_size» (vecAt (now (strip .entry)) at)) × (r < 2 ^ 48) ⌝ }
 {
     let v = floats_at(strip, at);
-    let lo = frame.lo;
-    let size = frame.size;
-    let q = quantise::short::quantise(v, lo, size);
+    let q = quantise::short::quantise(v, bb_min, bb_size);
     (q.x as u64) + 65536 * (q.y as u64) + 4294967296 * (q.z as u64)
 }
 
@@ -112,12 +106,12 @@ fn decide_corner(
     a: u32,
     b: u32,
 ) -> Met
-    requires { ⌜ Ready (now work) (now ids) buckets room (had .vertices) item × (item < room) × (triple < 2 ^ 48) ⌝ }
+    requires { ⌜ TablesReady (now work) (now ids) buckets room (had .vertices) item × (item < room) × (triple < 2 ^ 48) ⌝ }
     ensures { λ r. ⌜ CornerDone (now (work .entry)) (now (work .exit)) (now (ids .entry)) (now (ids .exit)) buckets room had item triple a b r ⌝ }
 {
     let areas = had.areas;
     let vertices = had.vertices;
-    let known = vertices::find_or_add(work, buckets, vertices, triple);
+    let known = vertices::vertex_index(work, buckets, vertices, triple);
     match known {
         Numbered::Vertex(number, count) => {
             let e = ensure_edge(ids, areas, a, b);
@@ -143,7 +137,8 @@ fn decide_corner(
 fn decide_vertices(
     strip: &[u32],
     p: Poly,
-    frame: Frame,
+    bb_min: Vec3,
+    bb_size: Vec3,
     work: &mut [u32],
     ids: &mut [u32; 32],
     buckets: usize,
@@ -152,9 +147,9 @@ fn decide_vertices(
     had: Tables,
 ) -> Met
     requires { ⌜ (p .«vertex_at» + 3 * p .vertices ≤ length (now strip)) × (p .«edge_at» + 6 * p .edges ≤ length (now strip))
-        × (start + p .vertices ≤ room) × Ready (now work) (now ids) buckets room (had .vertices) start ⌝ }
+        × (start + p .vertices ≤ room) × TablesReady (now work) (now ids) buckets room (had .vertices) start ⌝ }
     ensures { λ r. ⌜ CornersDone (now (work .entry)) (now (work .exit)) (now (ids .entry)) (now (ids .exit)) buckets room had start
-        (cornersIn (frame .lo) (frame .size) (polygonOf (now (strip .entry)) p)) r ⌝ }
+        (cornersIn «bb_min» «bb_size» (polygonOf (now (strip .entry)) p)) r ⌝ }
 {
     let vertices = p.vertices;
     let edges = p.edges;
@@ -163,7 +158,7 @@ fn decide_vertices(
     let mut tables = had;
     let mut i: usize = 0;
     while i < vertices {
-        let triple = triple_of(strip, v, frame);
+        let triple = triple_of(strip, v, bb_min, bb_size);
         let a = area_at(strip, e, i, edges);
         let b = area_at(strip, e + 3, i, edges);
         let met = decide_corner(work, ids, buckets, room, start + i, tables, triple, a, b);
@@ -183,7 +178,8 @@ fn decide_vertices(
 fn decide_polygon(
     strip: &[u32],
     p: Poly,
-    frame: Frame,
+    bb_min: Vec3,
+    bb_size: Vec3,
     work: &mut [u32],
     ids: &mut [u32; 32],
     buckets: usize,
@@ -192,15 +188,26 @@ fn decide_polygon(
     had: Tables,
 ) -> Met
     requires { ⌜ (p .«vertex_at» + 3 * p .vertices ≤ length (now strip)) × (p .«edge_at» + 6 * p .edges ≤ length (now strip))
-        × (start + p .vertices ≤ room) × Ready (now work) (now ids) buckets room (had .vertices) start ⌝ }
-    ensures { λ r. ⌜ PolygonDone (frame .lo) (frame .size) (now (work .entry)) (now (work .exit)) (now (ids .entry)) (now (ids .exit)) buckets room had start
+        × (start + p .vertices ≤ room) × TablesReady (now work) (now ids) buckets room (had .vertices) start ⌝ }
+    ensures { λ r. ⌜ PolygonDone «bb_min» «bb_size» (now (work .entry)) (now (work .exit)) (now (ids .entry)) (now (ids .exit)) buckets room had start
         (polygonOf (now (strip .entry)) p) r ⌝ }
 {
     let fault = before_corners(p.vertices, start);
     if fault != 0 {
         return Met { tables: had, fault };
     }
-    let met = decide_vertices(strip, p, frame, work, ids, buckets, room, start, had);
+    let met = decide_vertices(
+        strip,
+        p,
+        bb_min,
+        bb_size,
+        work,
+        ids,
+        buckets,
+        room,
+        start,
+        had,
+    );
     if met.fault != 0 {
         return met;
     }
@@ -232,7 +239,8 @@ fn before_corners(vertices: usize, start: usize) -> u32
 pub fn decide_polygons(
     strip: &[u32],
     n: usize,
-    frame: Frame,
+    bb_min: Vec3,
+    bb_size: Vec3,
     work: &mut [u32],
     ids: &mut [u32; 32],
     buckets: usize,
@@ -240,8 +248,8 @@ pub fn decide_polygons(
     had: Tables,
 ) -> Decided
     requires { ⌜ (afterPolygons (now strip) 14 n ≤ length (now strip)) × (length (now strip) ≤ 3 * room + 2)
-        × Ready (now work) (now ids) buckets room (had .vertices) 0 ⌝ }
-    ensures { λ r. ⌜ PolygonsDone (frame .lo) (frame .size) (now (work .entry)) (now (work .exit)) (now (ids .entry)) (now (ids .exit)) buckets room had 0 0 0
+        × TablesReady (now work) (now ids) buckets room (had .vertices) 0 ⌝ }
+    ensures { λ r. ⌜ PolygonsDone «bb_min» «bb_size» (now (work .entry)) (now (work .exit)) (now (ids .entry)) (now (ids .exit)) buckets room had 0 0 0
         (polygonsAt (now (strip .entry)) 14 n) r ⌝ }
 {
     let mut tables = had;
@@ -251,7 +259,18 @@ pub fn decide_polygons(
     let mut i: usize = 0;
     while i < n {
         let p = strip::poly_at(strip, at);
-        let met = decide_polygon(strip, p, frame, work, ids, buckets, room, start, tables);
+        let met = decide_polygon(
+            strip,
+            p,
+            bb_min,
+            bb_size,
+            work,
+            ids,
+            buckets,
+            room,
+            start,
+            tables,
+        );
         tables = met.tables;
         let fault = met.fault;
         if fault != 0 {
@@ -259,8 +278,10 @@ pub fn decide_polygons(
                 tables,
                 corners: start,
                 links,
-                fault,
-                place: i,
+                verdict: Verdict::Refused(Refusal {
+                    number: fault,
+                    place: i,
+                }),
             };
         }
         start += p.vertices;
@@ -272,7 +293,6 @@ pub fn decide_polygons(
         tables,
         corners: start,
         links,
-        fault: 0,
-        place: 0,
+        verdict: Verdict::Fine,
     }
 }

@@ -9,27 +9,27 @@ use lib.Arith.{mod-mul, digits-div, digits-mod}
 use lib.Dec.{lit<}
 use lib.ListN.{length, length-append, getD, take, drop, List·getD-eq-default}
 use lib.Seq.{drop-cons}
-use Rattle.fields.specs.Bytes.{le, leBytes, les, zeros, cat}
+use Rattle.fields.specs.Bytes.{leAt, leBytes, les, zeros, cat}
 
 -- ---- a number that is read
 
 -- a number of m + n bytes is one of m bytes and one of n after it
-pub join : (m n : ℕ) (s : List ℕ) (off : ℕ) → le (m + n) s off ≡ le m s off + 256 ^ m * le n s (off + m)
-unfolding le
+pub join : (m n : ℕ) (s : List ℕ) (off : ℕ) → leAt (m + n) s off ≡ leAt m s off + 256 ^ m * leAt n s (off + m)
+unfolding leAt
 join zero n s off = simp (zero-add, add-zero, one-mul)
 join (suc m) n s off =
     let e : off + suc m ≡ off + 1 + m = omega arith in
     rw (suc-add m n, e, join m n s (off + 1), pow-succ', mul-assoc) (omega arith)
 
 -- a number that starts past the end is 0
-pub past : (n : ℕ) (s : List ℕ) (off : ℕ) → length s ≤ off → le n s off ≡ 0
-unfolding le
+pub past : (n : ℕ) (s : List ℕ) (off : ℕ) → length s ≤ off → leAt n s off ≡ 0
+unfolding leAt
 past zero s off h = refl
 past (suc n) s off h = rw (List·getD-eq-default s 0 h, past n s (off + 1) (omega arith))
 
 -- a number is the same in two lists that have the same n bytes there
-pub same : (n : ℕ) (s : List ℕ) (i : ℕ) (t : List ℕ) (j : ℕ) → ((k : ℕ) → k < n → getD s (i + k) 0 ≡ getD t (j + k) 0) → le n s i ≡ le n t j
-unfolding le
+pub same : (n : ℕ) (s : List ℕ) (i : ℕ) (t : List ℕ) (j : ℕ) → ((k : ℕ) → k < n → getD s (i + k) 0 ≡ getD t (j + k) 0) → leAt n s i ≡ leAt n t j
+unfolding leAt
 same zero s i t j h = refl
 same (suc n) s i t j h =
     let first : getD s i 0 ≡ getD t j 0 = simp add-zero at (h zero (omega arith)) in
@@ -42,11 +42,11 @@ same (suc n) s i t j h =
         rw (ei, ej) (h (suc k) (omega arith))
 
 -- n bytes make a number below 256 ^ n
-pub le-lt : (n : ℕ) (s : List ℕ) (off : ℕ) → ((k : ℕ) → getD s k 0 < 256) → le n s off < 256 ^ n
-unfolding le
+pub le-lt : (n : ℕ) (s : List ℕ) (off : ℕ) → ((k : ℕ) → getD s k 0 < 256) → leAt n s off < 256 ^ n
+unfolding leAt
 le-lt zero s off bytes = omega arith
 le-lt (suc n) s off bytes =
-    let rest : le n s (off + 1) < 256 ^ n = le-lt n s (off + 1) bytes in
+    let rest : leAt n s (off + 1) < 256 ^ n = le-lt n s (off + 1) bytes in
     let first : getD s off 0 < 256 = bytes off in
     rw pow-succ' (omega arith)
 
@@ -102,19 +102,19 @@ le-zeros (suc n) = ap (λ (l : List ℕ). 0 ∷ l) (le-zeros n)
 -- ---- there and back
 
 -- the bytes of v, read, are v again
-pub le-bytes : (n v : ℕ) → le n (leBytes n v) 0 ≡ v % 256 ^ n
-unfolding le leBytes
+pub le-bytes : (n v : ℕ) → leAt n (leBytes n v) 0 ≡ v % 256 ^ n
+unfolding leAt leBytes
 le-bytes zero v = omega arith
 le-bytes (suc n) v = rw (same n (v % 256 ∷ leBytes n (v / 256)) 1 (leBytes n (v / 256)) 0 (λ k l. rw (one-add k, zero-add k)), le-bytes n (v / 256), lowest n v) (omega arith)
 
 -- the bytes of a number that was read are those that it was read from
-pub bytes-le : (n : ℕ) (s : List ℕ) (off : ℕ) → off + n ≤ length s → ((k : ℕ) → getD s k 0 < 256) → leBytes n (le n s off) ≡ take n (drop off s)
-unfolding le leBytes
+pub bytes-le : (n : ℕ) (s : List ℕ) (off : ℕ) → off + n ≤ length s → ((k : ℕ) → getD s k 0 < 256) → leBytes n (leAt n s off) ≡ take n (drop off s)
+unfolding leAt leBytes
 bytes-le zero s off h bytes = refl
 bytes-le (suc n) s off h bytes =
     let first : getD s off 0 < 256 = bytes off in
-    let low : (getD s off 0 + 256 * le n s (off + 1)) % 256 ≡ getD s off 0 = omega arith in
-    let high : (getD s off 0 + 256 * le n s (off + 1)) / 256 ≡ le n s (off + 1) = omega arith in
+    let low : (getD s off 0 + 256 * leAt n s (off + 1)) % 256 ≡ getD s off 0 = omega arith in
+    let high : (getD s off 0 + 256 * leAt n s (off + 1)) / 256 ≡ leAt n s (off + 1) = omega arith in
     let some : off < length s = omega arith in
     rw (low, high, bytes-le n s (off + 1) (omega arith) bytes, drop-cons s off 0 some, add-one off)
 

@@ -6,7 +6,7 @@ use native.Mathlib.Nat.{zero-add}
 use native.Mathlib.Omega.{arith}
 use lib.ListN.{length, take, drop, getD, length-append, List·getD-append}
 use lib.Seq.{length-take-le, take-at, drop-at, getD-append-add}
-use Rattle.fields.specs.Bytes.{le, leBytes, put}
+use Rattle.fields.specs.Bytes.{leAt, leBytes, put}
 use Rattle.fields.proofs.Bytes.{same, le-bytes, length-bytes}
 use Rattle.fields.proofs.Puts.{put-eq}
 
@@ -69,11 +69,11 @@ put-held at bs xs h = record {
 }
 
 -- a number of as many bytes reads as in b
-pub held-field : {s : List ℕ} {at : ℕ} {b : List ℕ} (n : ℕ) → Holds s at b → length b ≡ n → le n s at ≡ le n b 0
+pub held-field : {s : List ℕ} {at : ℕ} {b : List ℕ} (n : ℕ) → Holds s at b → length b ≡ n → leAt n s at ≡ leAt n b 0
 held-field {s} {at} {b} n h e = same n s at b 0 (λ k l. byte k (omega arith))
   where
     byte : (k : ℕ) → k < length b → getD s (at + k) 0 ≡ getD b (0 + k) 0
     byte k l = rw (h .whole, ← (h .place), getD-append-add (h .before) (b ++ h .behind) k 0, zero-add k) (List·getD-append b (h .behind) 0 k l)
 
-pub held-value : {s : List ℕ} {at : ℕ} (n v : ℕ) → Holds s at (leBytes n v) → le n s at ≡ v % 256 ^ n
+pub held-value : {s : List ℕ} {at : ℕ} (n v : ℕ) → Holds s at (leBytes n v) → leAt n s at ≡ v % 256 ^ n
 held-value n v h = held-field n h (length-bytes n v) ∙ le-bytes n v

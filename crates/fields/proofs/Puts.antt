@@ -8,7 +8,7 @@ use native.Mathlib.Numerals.{add-one}
 use native.Mathlib.Omega.{arith}
 use lib.ListN.{length, length-set, take, drop, set, getD}
 use lib.Seq.{sets, set-out, getD-set-same, getD-set-other}
-use Rattle.fields.specs.Bytes.{over, put, le, leBytes, les}
+use Rattle.fields.specs.Bytes.{over, put, leAt, leBytes, les}
 use Rattle.fields.proofs.Over.{length-over, over-over, over-eq}
 use Rattle.fields.proofs.Bytes.{same, length-bytes, bytes-join, bytes-mod, le-bytes, les-drop}
 
@@ -145,12 +145,12 @@ pub put-join : (n v at : ℕ) (xs : List ℕ) → put (at + n) (leBytes n (v / 2
 put-join n v at xs = rw (bytes-mod, bytes-join) (put-number at n v (leBytes n (v / 256 ^ n)) xs)
 
 -- it reads back, and a store elsewhere leaves a number as it was
-pub read-back : (n v at : ℕ) (xs : List ℕ) → at + n ≤ length xs → le n (put at (leBytes n v) xs) at ≡ v % 256 ^ n
+pub read-back : (n v at : ℕ) (xs : List ℕ) → at + n ≤ length xs → leAt n (put at (leBytes n v) xs) at ≡ v % 256 ^ n
 read-back n v at xs h =
     same n (put at (leBytes n v) xs) at (leBytes n v) 0 (λ k l. rw zero-add (stored at (leBytes n v) xs k (omega arith) (rw length-bytes l))) ∙ le-bytes n v
 
-pub kept-before : (n at : ℕ) (bs xs : List ℕ) (i : ℕ) → i + n ≤ at → le n (put at bs xs) i ≡ le n xs i
+pub kept-before : (n at : ℕ) (bs xs : List ℕ) (i : ℕ) → i + n ≤ at → leAt n (put at bs xs) i ≡ leAt n xs i
 kept-before n at bs xs i h = same n (put at bs xs) i xs i (λ k l. before at bs xs (i + k) (omega arith))
 
-pub kept-after : (n at : ℕ) (bs xs : List ℕ) (i : ℕ) → at + length bs ≤ i → le n (put at bs xs) i ≡ le n xs i
+pub kept-after : (n at : ℕ) (bs xs : List ℕ) (i : ℕ) → at + length bs ≤ i → leAt n (put at bs xs) i ≡ leAt n xs i
 kept-after n at bs xs i h = same n (put at bs xs) i xs i (λ k l. after at bs xs (i + k) (omega arith))

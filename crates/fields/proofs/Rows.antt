@@ -10,7 +10,7 @@ use lib.Dec.{leb}
 use lib.ListN.{length, length-append}
 use lib.Pow.{pow-pos, pow-add, shr-shr}
 use borrow.Author.Tests.{leb-true}
-use Rattle.fields.specs.Bytes.{le, leBytes}
+use Rattle.fields.specs.Bytes.{leAt, leBytes}
 use Rattle.fields.specs.Rows.{rowBytes, rowSize, pack, field, rowAt}
 use Rattle.fields.proofs.Bytes.{length-bytes}
 use Rattle.fields.proofs.Holds.{Holds, all-held, held-in, held-first, held-second, held-value}
@@ -42,13 +42,13 @@ row-held (f ∷ fs) (suc off) h = by (leb (f .0) (suc off)) refl h (row-held fs 
         (held-in second (rest k))
 
 -- a field of a record that stands in s
-pub field-in : {s : List ℕ} {at : ℕ} (fs : List (ℕ × ℕ)) (off n v : ℕ) → 0 < n → rowAt fs off ≡ (n, v) → Holds s at (rowBytes fs) → le n s (at + off) ≡ v % 256 ^ n
+pub field-in : {s : List ℕ} {at : ℕ} (fs : List (ℕ × ℕ)) (off n v : ℕ) → 0 < n → rowAt fs off ≡ (n, v) → Holds s at (rowBytes fs) → leAt n s (at + off) ≡ v % 256 ^ n
 field-in {s} {at} fs off n v some e h =
     let k : Holds (rowBytes fs) off (leBytes n v) = subst (λ (f : ℕ × ℕ). 0 < f .0 → Holds (rowBytes fs) off (leBytes (f .0) (f .1))) e (row-held fs off) some in
     held-value n v (held-in h k)
 
 -- a field of a record
-pub field-back : (fs : List (ℕ × ℕ)) (off n v : ℕ) → 0 < n → rowAt fs off ≡ (n, v) → le n (rowBytes fs) off ≡ v % 256 ^ n
+pub field-back : (fs : List (ℕ × ℕ)) (off n v : ℕ) → 0 < n → rowAt fs off ≡ (n, v) → leAt n (rowBytes fs) off ≡ v % 256 ^ n
 field-back fs off n v some e = rw zero-add at (field-in fs off n v some e (all-held (rowBytes fs)))
 
 -- ---- bits

@@ -4,9 +4,9 @@ use mathlib.Core.List.{List, [], _∷_, _++_}
 use lib.ListN.{getD, take, drop, replicate}
 
 -- the little-endian value of the n bytes of s from off on; a byte past the end counts as 0
-unfoldable pub le : ℕ → List ℕ → ℕ → ℕ
-le zero s off = 0
-le (suc n) s off = getD s off 0 + 256 * le n s (off + 1)
+unfoldable pub leAt : ℕ → List ℕ → ℕ → ℕ
+leAt zero s off = 0
+leAt (suc n) s off = getD s off 0 + 256 * leAt n s (off + 1)
 
 -- the n low bytes of v, the lowest first
 unfoldable pub leBytes : ℕ → ℕ → List ℕ

@@ -3,40 +3,42 @@ ghost use mathlib.Core.Path.{_≡_};
 ghost use mathlib.Core.List.{_++_};
 ghost use Prim.Native.Nat.{_+_, _≤_, min};
 ghost use lib.ListN.{length};
-ghost use Rattle.fields.specs.Bytes.{le, leBytes, les, put};
+ghost use Rattle.fields.specs.Bytes.{leAt, leBytes, les, put};
+
+pub mod sizes;
 
 // Where all the bytes of a number are there, it is one load: its caller tests the room once.
 fn whole_u8(b: &[u8], off: usize) -> u8
     requires { ⌜ off + 1 ≤ length (now b) ⌝ }
-    ensures { λ r. ⌜ r ≡ le 1 (now (b .entry)) off ⌝ }
+    ensures { λ r. ⌜ r ≡ leAt 1 (now (b .entry)) off ⌝ }
 {
     b[off]
 }
 
 fn whole_u16(b: &[u8], off: usize) -> u16
     requires { ⌜ off + 2 ≤ length (now b) ⌝ }
-    ensures { λ r. ⌜ r ≡ le 2 (now (b .entry)) off ⌝ }
+    ensures { λ r. ⌜ r ≡ leAt 2 (now (b .entry)) off ⌝ }
 {
     (whole_u8(b, off) as u16) + 0x100 * (whole_u8(b, off + 1) as u16)
 }
 
 fn whole_u32(b: &[u8], off: usize) -> u32
     requires { ⌜ off + 4 ≤ length (now b) ⌝ }
-    ensures { λ r. ⌜ r ≡ le 4 (now (b .entry)) off ⌝ }
+    ensures { λ r. ⌜ r ≡ leAt 4 (now (b .entry)) off ⌝ }
 {
     (whole_u16(b, off) as u32) + 0x1_0000 * (whole_u16(b, off + 2) as u32)
 }
 
 fn whole_u64(b: &[u8], off: usize) -> u64
     requires { ⌜ off + 8 ≤ length (now b) ⌝ }
-    ensures { λ r. ⌜ r ≡ le 8 (now (b .entry)) off ⌝ }
+    ensures { λ r. ⌜ r ≡ leAt 8 (now (b .entry)) off ⌝ }
 {
     (whole_u32(b, off) as u64) + 0x1_0000_0000 * (whole_u32(b, off + 4) as u64)
 }
 
 // The number at off, wherever that is; near the end it is read by halves.
 pub fn u8_le(b: &[u8], off: usize) -> u8
-    ensures { λ r. ⌜ r ≡ le 1 (now (b .entry)) off ⌝ }
+    ensures { λ r. ⌜ r ≡ leAt 1 (now (b .entry)) off ⌝ }
 {
     if b.len() <= off {
         return 0;
@@ -45,7 +47,7 @@ pub fn u8_le(b: &[u8], off: usize) -> u8
 }
 
 pub fn u16_le(b: &[u8], off: usize) -> u16
-    ensures { λ r. ⌜ r ≡ le 2 (now (b .entry)) off ⌝ }
+    ensures { λ r. ⌜ r ≡ leAt 2 (now (b .entry)) off ⌝ }
 {
     if b.len() <= off {
         return 0;
@@ -57,7 +59,7 @@ pub fn u16_le(b: &[u8], off: usize) -> u16
 }
 
 pub fn u32_le(b: &[u8], off: usize) -> u32
-    ensures { λ r. ⌜ r ≡ le 4 (now (b .entry)) off ⌝ }
+    ensures { λ r. ⌜ r ≡ leAt 4 (now (b .entry)) off ⌝ }
 {
     if b.len() <= off {
         return 0;
@@ -69,7 +71,7 @@ pub fn u32_le(b: &[u8], off: usize) -> u32
 }
 
 pub fn u64_le(b: &[u8], off: usize) -> u64
-    ensures { λ r. ⌜ r ≡ le 8 (now (b .entry)) off ⌝ }
+    ensures { λ r. ⌜ r ≡ leAt 8 (now (b .entry)) off ⌝ }
 {
     if b.len() <= off {
         return 0;

@@ -6,21 +6,21 @@ use native.Mathlib.Omega.{arith}
 use native.Mathlib.Nat.{add-zero}
 use Rattle.quantise.specs.declared.bounds.Aabb.{Aabb}
 use Rattle.blocks.specs.Layout.{behind, endOf}
-use Rattle.blocks.specs.Lists.{partCount, listSizes, Room}
+use Rattle.blocks.specs.Lists.{partCount, listSizes, ListRoom}
 use Rattle.blocks.proofs.Layouts.{place-ge, end-ge, end-append}
 use Rattle.pages.specs.Optional.{sizeOf}
 use Rattle.pages.specs.Sectors.{sub0, sub1, sub2, sub3}
-use Rattle.front.specs.Ends.{sum, reached, Within, sizesBy, listsEnd, pagesEnd}
+use Rattle.front.specs.Ends.{sumOf, reached, Within, sizesBy, listsEnd, pagesEnd}
 use Rattle.front.specs.declared.ends.Reach.{Reach}
 
 -- ---- blocks in a row
 
 -- they hold no more than there is between their ends
-pub end-sum : (end : ℕ) (ns : List ℕ) → end + sum ns ≤ endOf end ns
+pub end-sum : (end : ℕ) (ns : List ℕ) → end + sumOf ns ≤ endOf end ns
 end-sum end [] = omega arith
 end-sum end (n ∷ ns) = omega (arith, place-ge end n, end-sum (behind end n) ns)
 
-pub sum-append : (ms ns : List ℕ) → sum (ms ++ ns) ≡ sum ms + sum ns
+pub sum-append : (ms ns : List ℕ) → sumOf (ms ++ ns) ≡ sumOf ms + sumOf ns
 sum-append [] ns = omega arith
 sum-append (m ∷ ms) ns = omega (arith, sum-append ms ns)
 
@@ -28,7 +28,7 @@ sum-append (m ∷ ms) ns = omega (arith, sum-append ms ns)
 pub joined : (r : Reach) (ms ns : List ℕ) {q : Reach} → q ≡ reached r ms → reached q ns ≡ reached r (ms ++ ns)
 unfolding reached
 joined r ms ns e =
-    let b : r .bytes + sum (ms ++ ns) ≡ r .bytes + sum ms + sum ns = omega (arith, sum-append ms ns) in
+    let b : r .bytes + sumOf (ms ++ ns) ≡ r .bytes + sumOf ms + sumOf ns = omega (arith, sum-append ms ns) in
     rw (e, end-append (r .at) ms ns, b)
 
 module _ {r : Reach} (ms ns : List ℕ) where
@@ -74,7 +74,7 @@ module _ (boxes leafs : List ℕ) (d : ℕ) where
 
 -- ---- the lists
 
-room : (p q w n : ℕ) → p ≡ q → 1 ≤ w → w ≤ 16384 → partCount w n ≤ 1024 → endOf q (listSizes w n) < 2 ^ 28 → Room p w n (listSizes w n)
+room : (p q w n : ℕ) → p ≡ q → 1 ≤ w → w ≤ 16384 → partCount w n ≤ 1024 → endOf q (listSizes w n) < 2 ^ 28 → ListRoom p w n (listSizes w n)
 room p q w n e s l t b = record { some = s; page = l; table = t; below = rw e b }
 
 module _ (v i p : ℕ) where
@@ -89,10 +89,10 @@ module _ (v i p : ℕ) where
 
   -- for each of the lists, where it begins
   pub record ListRooms : Type 0 where
-    pub vertices : (q : ℕ) → q ≡ behind 0 368 → Room q 6 v (listSizes 6 v)
-    pub indices : (q : ℕ) → q ≡ behindVertices → Room q 2 i (listSizes 2 i)
-    pub edges : (q : ℕ) → q ≡ behindIndices → Room q 8 i (listSizes 8 i)
-    pub polygons : (q : ℕ) → q ≡ behindEdges → Room q 48 p (listSizes 48 p)
+    pub vertices : (q : ℕ) → q ≡ behind 0 368 → ListRoom q 6 v (listSizes 6 v)
+    pub indices : (q : ℕ) → q ≡ behindVertices → ListRoom q 2 i (listSizes 2 i)
+    pub edges : (q : ℕ) → q ≡ behindIndices → ListRoom q 8 i (listSizes 8 i)
+    pub polygons : (q : ℕ) → q ≡ behindEdges → ListRoom q 48 p (listSizes 48 p)
 
   pub list-rooms : v ≤ 65536 → i ≤ 67582 → p ≤ 16383 → listsEnd v i p < 2 ^ 28 → ListRooms
   list-rooms few-v few-i few-p below =

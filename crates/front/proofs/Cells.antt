@@ -5,37 +5,37 @@ use mathlib.Core.List.{List, [], _∷_, _++_}
 use native.Mathlib.Omega.{arith}
 use lib.ListN.{length}
 use Rattle.quantise.specs.declared.bounds.Aabb.{Aabb}
-use Rattle.strip.specs.Cell.{Point, Cell}
+use Rattle.strip.specs.Cell.{NavPoint, Cell}
 use Rattle.blocks.specs.Layout.{behind, endOf}
 use Rattle.blocks.specs.Lists.{listSizes}
 use Rattle.blocks.proofs.Layouts.{end-append}
 use Rattle.pages.specs.Optional.{sizeOf}
 use Rattle.pages.specs.Sectors as Sectors
-use Rattle.pages.specs.Sectors.{Sector, quarters, idsOf, grown, byteCount, sub0, sub1, sub2, sub3}
+use Rattle.pages.specs.Sectors.{Sector, quarters, leafIds, grown, byteCount, sub0, sub1, sub2, sub3}
 use Rattle.pages.specs.Sectors.Sector.{leaf, node}
 use Rattle.pages.specs.Pages.{allCorners, vertices, links, sectors, counts, sizesOf, sizes, pages}
 use Rattle.pages.proofs.Sizes.{pages-length}
 use Rattle.quadtree.specs.Work.{boxesIn, pickedFrom, countIn, treeBy}
 use Rattle.quadtree.proofs.Picks.{count-picked}
-use Rattle.front.specs.Ends.{sum, leafSizes, sizesBy, listsEnd, pagesEnd}
+use Rattle.front.specs.Ends.{sumOf, leafSizes, sizesBy, listsEnd, pagesEnd}
 use Rattle.front.proofs.Behind.{sum-append, behindVertices, behindIndices, behindEdges}
 
 -- the sizes by the words are the tree's
-module _ (boxes leafs : List ℕ) (ts : List Point) (l : length ts ≡ length leafs) where
+module _ (boxes leafs : List ℕ) (ts : List NavPoint) (l : length ts ≡ length leafs) where
   pub sizes-tree : (d k : ℕ) (b : Aabb) → Sectors.sizes (treeBy boxes leafs ts d k b) ≡ sizesBy boxes leafs d k b
   unfolding Sectors.sizes grown sizesBy
   sizes-tree zero k b =
       let n : length (pickedFrom leafs k 0 ts) ≡ countIn leafs k 0 (length leafs) = sym (count-picked leafs k 0 ts) ∙ ap (countIn leafs k 0) l in
-      ap (leafSizes (length (idsOf (quarters b) 0 (boxesIn boxes)))) n
+      ap (leafSizes (length (leafIds (quarters b) 0 (boxesIn boxes)))) n
   sizes-tree (suc d) k b =
       rw (sizes-tree d k (sub0 b), sizes-tree d (k + 4 ^ d) (sub1 b), sizes-tree d (k + 2 * 4 ^ d) (sub2 b), sizes-tree d (k + 3 * 4 ^ d) (sub3 b))
 
 -- the bytes that count for the total are those in the blocks
-pub sum-some : (n : ℕ) → sum (sizeOf n) ≡ n
+pub sum-some : (n : ℕ) → sumOf (sizeOf n) ≡ n
 sum-some zero = refl
 sum-some (suc n) = omega arith
 
-pub sum-tree : (t : Sector) → sum (Sectors.sizes t) ≡ byteCount t
+pub sum-tree : (t : Sector) → sumOf (Sectors.sizes t) ≡ byteCount t
 unfolding Sectors.sizes byteCount
 sum-tree (leaf b is ts) =
     let m : ℕ = 2 * length is in

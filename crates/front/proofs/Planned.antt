@@ -9,6 +9,8 @@ use Rattle.strip.specs.Cell.{Cell}
 use Rattle.strip.specs.Reading.{word, headAt, afterPolygons, portalAt}
 use Rattle.strip.specs.declared.Counts.{Counts}
 use Rattle.strip.proofs.Steps.{items-length}
+use Rattle.cell_record.specs.Record.{rootIn}
+use Rattle.cell_record.proofs.Fields.{flags-are, root-is}
 use Rattle.vertices.proofs.Triples.{length-met}
 use Rattle.pages.specs.Sectors as Sectors
 use Rattle.pages.specs.Sectors.{byteCount, depthBy, rootBox}
@@ -19,7 +21,7 @@ use Rattle.decide.specs.declared.Decision.{Decision}
 use Rattle.plan.specs.Plan.{pointsIn}
 use Rattle.plan.specs.Ready.{cellAt, Ready}
 use Rattle.plan.proofs.Rest.{poly-count, boxPart, leafPart, part-long, part-tree}
-use Rattle.front.specs.Ends.{sum, sizesBy, pagesEnd}
+use Rattle.front.specs.Ends.{sumOf, sizesBy, pagesEnd}
 use Rattle.front.proofs.Cells.{sizes-tree, sum-tree, cell-end}
 
 same-end : {v v' i i' p p' q q' l l' : ℕ} {t t' : List ℕ} → v ≡ v' → i ≡ i' → p ≡ p' → q ≡ q' → l ≡ l' → t ≡ t' → pagesEnd v i p q l t ≡ pagesEnd v' i' p' q' l' t'
@@ -50,22 +52,25 @@ module _ (s w : List ℕ) (d : Decision) (R : Ready s w d) where
 
   -- ---- and the words give its sectors' sizes
 
-  module _ (from : ℕ) (here : from ≡ tablesEnd (length s)) (b : Aabb) (root : b ≡ rootBox (headAt s 0)) where
+  module _ (from : ℕ) (here : from ≡ tablesEnd (length s)) (b : Aabb) (root : b ≡ rootIn (d .cell)) where
     abbrev sizesIn : List ℕ
-    sizesIn = sizesBy (boxPart s w (d .counts) (R .held) from here) (leafPart s w (d .counts) (R .held) from here) (depthBy (word s 1 / 2 ^ 2 % 2)) 0 b
+    sizesIn = sizesBy (boxPart s w (d .counts) (R .held) from here) (leafPart s w (d .counts) (R .held) from here) (depthBy (d .cell .«content_flags» / 2 ^ 2 % 2)) 0 b
 
     sizes-are : sizesIn ≡ Sectors.sizes (sectors cell)
-    unfolding sectors
+    unfolding sectors headAt
     sizes-are =
-        sym (sizes-tree (boxPart s w (d .counts) (R .held) from here) (leafPart s w (d .counts) (R .held) from here) (pointsIn s (d .counts)) (part-long s w (d .counts) (R .held) from here) (depthBy (word s 1 / 2 ^ 2 % 2)) 0 b)
-        ∙ ap Sectors.sizes (part-tree s w (d .counts) (R .held) from here b root)
+        let flags = flags-are (headAt s 0) (d .cell) (R .tabled .cell) in
+        let whole : b ≡ rootBox (headAt s 0) = root ∙ root-is (headAt s 0) (d .cell) (R .tabled .cell) in
+        rw flags
+        (sym (sizes-tree (boxPart s w (d .counts) (R .held) from here) (leafPart s w (d .counts) (R .held) from here) (pointsIn s (d .counts)) (part-long s w (d .counts) (R .held) from here) (depthBy (word s 1 / 2 ^ 2 % 2)) 0 b)
+        ∙ ap Sectors.sizes (part-tree s w (d .counts) (R .held) from here b whole))
 
     end-is : pagesEnd (d .vertices) (d .corners) (d .counts .polys) (d .counts .portals) (d .links) sizesIn ≡ length (pages cell)
     end-is = same-end vertex-count (R .tabled .corner-count) polygon-count portal-count link-count sizes-are ∙ cell-end cell
 
-    pub planned-ends : {end bytes : ℕ} → end ≡ pagesEnd (d .vertices) (d .corners) (d .counts .polys) (d .counts .portals) (d .links) sizesIn → bytes ≡ sum sizesIn
+    pub planned-ends : {end bytes : ℕ} → end ≡ pagesEnd (d .vertices) (d .corners) (d .counts .polys) (d .counts .portals) (d .links) sizesIn → bytes ≡ sumOf sizesIn
         → (end ≡ length (pages cell)) × (bytes ≡ byteCount (sectors cell))
-    planned-ends e b = (e ∙ end-is, b ∙ ap sum sizes-are ∙ sum-tree (sectors cell))
+    planned-ends e b = (e ∙ end-is, b ∙ ap sumOf sizes-are ∙ sum-tree (sectors cell))
 
     pub planned-small : (d .vertices ≤ 65536) × (d .corners ≤ 67582) × (d .counts .polys ≤ 16383)
         × (pagesEnd (d .vertices) (d .corners) (d .counts .polys) (d .counts .portals) (d .links) sizesIn < 2 ^ 28)

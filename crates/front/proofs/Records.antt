@@ -18,7 +18,7 @@ use Rattle.quantise.specs.declared.short.Shorts.{Shorts}
 use Rattle.strip.specs.Cell.{Head}
 use Rattle.strip.specs.Reading.{word, vecAt, low16, high16, portalAt}
 use Rattle.pages.specs.Items.{floats}
-use Rattle.pages.specs.Sectors.{nanBits}
+use Rattle.pages.specs.Sectors.{nanWord}
 use Rattle.pages.specs.Pages.{Places, Counts, oneBits, headerFirst, headerLast, headerBytes, padded, portalRow}
 use Rattle.pages.proofs.Sizes.{length-padded}
 
@@ -28,7 +28,7 @@ module _ (h : Head) (a : Places) (n : Counts) where
   pub first-words : a .vertices < 2 ^ 32 → a .indices < 2 ^ 32 → a .edges < 2 ^ 32
       → les 4
       (h .vft ∷ 1 ∷ 0 ∷ 0 ∷ h .content ∷ 0x10011 ∷ 0 ∷ 0
-      ∷ oneBits ∷ 0 ∷ 0 ∷ nanBits ∷ 0 ∷ oneBits ∷ 0 ∷ nanBits ∷ 0 ∷ 0 ∷ oneBits ∷ nanBits ∷ 0 ∷ 0 ∷ 0 ∷ nanBits
+      ∷ oneBits ∷ 0 ∷ 0 ∷ nanWord ∷ 0 ∷ oneBits ∷ 0 ∷ nanWord ∷ 0 ∷ 0 ∷ oneBits ∷ nanWord ∷ 0 ∷ 0 ∷ 0 ∷ nanWord
       ∷ h .bb-size .x ∷ h .bb-size .y ∷ h .bb-size .z ∷ 0x7F80_0001
       ∷ a .vertices ∷ 0 ∷ 0 ∷ 0 ∷ a .indices ∷ 0 ∷ a .edges ∷ 0 ∷ n .indices ∷ n .areas ∷ [])
       ≡ rowBytes (headerFirst h a n)

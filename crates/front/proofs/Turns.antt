@@ -13,7 +13,7 @@ use Rattle.fields.proofs.Bytes.{length-les}
 use Rattle.fields.proofs.Puts.{length-put, put-nil, put-next}
 use Rattle.fields.proofs.Rows.{length-rows}
 use Rattle.math.specs.declared.vec3.Vec3.{Vec3 as Floats}
-use Rattle.strip.specs.Cell.{Polygon, Portal}
+use Rattle.strip.specs.Cell.{NavPoly, NavPortal}
 use Rattle.strip.specs.Reading.{word, itemsAt, wordsAt, polyAt, polygonOf, polygonAt, polygonsAt, afterPolygons, portalAt, portalsAt}
 use Rattle.strip.specs.declared.Poly.{Poly}
 use Rattle.strip.proofs.Steps.{items-turn, items-done, items-length, polygons-turn, after-polygon, next-inside, parts}
@@ -47,13 +47,13 @@ module _ (lo size : Floats) (s : List ℕ) (first n start : ℕ) (out₀ : List 
           there = omega (arith, g .there);
           long = rw e (length-put to row out) ∙ g .long;
           left = rw e (put-next 28 to row (cat (portalItems lo size (portalsAt s (at + 11) (n - (i + 1))))) out (length-rows (portalRow lo size (portalAt s at))))
-              ∙ ap (λ (ps : List Portal). put to (cat (portalItems lo size ps)) out) (sym (items-turn (portalAt s) (λ x. x + 11) at i n h)) ∙ g .left;
+              ∙ ap (λ (ps : List NavPortal). put to (cat (portalItems lo size ps)) out) (sym (items-turn (portalAt s) (λ x. x + 11) at i n h)) ∙ g .left;
         }
 
     pub portaling-done : n ≤ i → out ≡ put start (cat (portalItems lo size (portalsAt s first n))) out₀
     unfolding portalItems cat
     portaling-done h =
-        sym (put-nil to out) ∙ ap (λ (ps : List Portal). put to (cat (portalItems lo size ps)) out) (sym (items-done (portalAt s) (λ x. x + 11) at i n h)) ∙ g .left
+        sym (put-nil to out) ∙ ap (λ (ps : List NavPortal). put to (cat (portalItems lo size ps)) out) (sym (items-done (portalAt s) (λ x. x + 11) at i n h)) ∙ g .left
 
 pub portals-long : (lo size : Floats) (s : List ℕ) (first n : ℕ) → length (cat (portalItems lo size (portalsAt s first n))) ≡ 28 * n
 portals-long lo size s first n = length-portals lo size (portalsAt s first n) ∙ ap (λ (k : ℕ). 28 * k) (items-length (portalAt s) (λ x. x + 11) n first)
@@ -132,4 +132,4 @@ module _ (s : List ℕ) (n start : ℕ) (out₀ : List ℕ) where
     pub linking-done : n ≤ i → out ≡ put start (les 2 (linksOf (polygonsAt s 14 n))) out₀
     unfolding gather les
     linking-done h =
-        sym (put-nil to out) ∙ ap (λ (ps : List Polygon). put to (les 2 (linksOf ps)) out) (sym (items-done (polygonAt s) (λ x. polyAt s x .next) at i n h)) ∙ g .left
+        sym (put-nil to out) ∙ ap (λ (ps : List NavPoly). put to (les 2 (linksOf ps)) out) (sym (items-done (polygonAt s) (λ x. polyAt s x .next) at i n h)) ∙ g .left

@@ -6,19 +6,20 @@ use Rattle.quantise.specs.declared.bounds.Aabb.{Aabb}
 use Rattle.blocks.specs.Layout.{behind, endOf}
 use Rattle.blocks.specs.Lists.{listSizes}
 use Rattle.pages.specs.Optional.{sizeOf}
-use Rattle.pages.specs.Sectors.{quarters, idsOf, sub0, sub1, sub2, sub3}
+use Rattle.pages.specs.Sectors.{quarters, leafIds, sub0, sub1, sub2, sub3}
 use Rattle.quadtree.specs.Work.{boxesIn, countIn}
 use Rattle.front.specs.declared.ends.Reach.{Reach}
+use Rattle.fields.specs.Sizes.{EDGE-SIZE, INDEX-SIZE, NAVMESH-SIZE, POINT-SIZE, POLY-SIZE, PORTAL-SIZE, SECTOR-DATA-SIZE, SECTOR-SIZE, VERTEX-SIZE}
 
 -- ---- blocks of these sizes, one after the other
 
-abbrev pub sum : List ℕ → ℕ
-sum [] = 0
-sum (n ∷ ns) = n + sum ns
+abbrev pub sumOf : List ℕ → ℕ
+sumOf [] = 0
+sumOf (n ∷ ns) = n + sumOf ns
 
 -- what is reached behind them
 unfoldable pub reached : Reach → List ℕ → Reach
-reached r ns = record { at = endOf (r .at) ns; bytes = r .bytes + sum ns }
+reached r ns = record { at = endOf (r .at) ns; bytes = r .bytes + sumOf ns }
 
 -- they end where an address is still the system section's
 pub record Within (r : Reach) (ns : List ℕ) : Type 0 where
@@ -29,13 +30,13 @@ pub record Within (r : Reach) (ns : List ℕ) : Type 0 where
 
 -- a leaf's: sector, m ids, n points, data
 abbrev pub leafSizes : (m n : ℕ) → List ℕ
-leafSizes m n = 96 ∷ (sizeOf (2 * m) ++ (sizeOf (8 * n) ++ (32 ∷ [])))
+leafSizes m n = SECTOR-SIZE ∷ (sizeOf (2 * m) ++ (sizeOf (POINT-SIZE * n) ++ (SECTOR-DATA-SIZE ∷ [])))
 
 -- those of a tree, d splits below b, whose leaves are numbered from k on
 unfoldable pub sizesBy : (boxes leafs : List ℕ) → (d k : ℕ) → Aabb → List ℕ
-sizesBy boxes leafs zero k b = leafSizes (length (idsOf (quarters b) 0 (boxesIn boxes))) (countIn leafs k 0 (length leafs))
+sizesBy boxes leafs zero k b = leafSizes (length (leafIds (quarters b) 0 (boxesIn boxes))) (countIn leafs k 0 (length leafs))
 sizesBy boxes leafs (suc d) k b =
-    96
+    SECTOR-SIZE
     ∷ (sizesBy boxes leafs d k (sub0 b)
     ++ (sizesBy boxes leafs d (k + 4 ^ d) (sub1 b)
     ++ (sizesBy boxes leafs d (k + 2 * 4 ^ d) (sub2 b)
@@ -44,9 +45,9 @@ sizesBy boxes leafs (suc d) k b =
 -- the end behind the header and the four lists
 abbrev pub listsEnd : (vertices corners polys : ℕ) → ℕ
 listsEnd vertices corners polys =
-    endOf (endOf (endOf (endOf (behind 0 368) (listSizes 6 vertices)) (listSizes 2 corners)) (listSizes 8 corners)) (listSizes 48 polys)
+    endOf (endOf (endOf (endOf (behind 0 NAVMESH-SIZE) (listSizes VERTEX-SIZE vertices)) (listSizes INDEX-SIZE corners)) (listSizes EDGE-SIZE corners)) (listSizes POLY-SIZE polys)
 
 -- and behind all blocks
 abbrev pub pagesEnd : (vertices corners polys portals links : ℕ) → (sectors : List ℕ) → ℕ
 pagesEnd vertices corners polys portals links sectors =
-    endOf (endOf (endOf (listsEnd vertices corners polys) sectors) (sizeOf (28 * portals))) (sizeOf (2 * links))
+    endOf (endOf (endOf (listsEnd vertices corners polys) sectors) (sizeOf (PORTAL-SIZE * portals))) (sizeOf (2 * links))

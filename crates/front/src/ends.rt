@@ -7,9 +7,14 @@ ghost use Rattle.pages.specs.Optional.{sizeOf};
 ghost use Rattle.pages.specs.Sectors.{depthBy, byteCount};
 ghost use Rattle.pages.specs.Pages.{sectors, pages};
 ghost use Rattle.plan.specs.Ready.{cellAt, Ready};
-ghost use Rattle.front.specs.Ends.{sum, reached, Within, leafSizes, sizesBy, listsEnd, pagesEnd};
+ghost use Rattle.front.specs.Ends.{sumOf, reached, Within, leafSizes, sizesBy, listsEnd, pagesEnd};
 use blocks::Layout;
 use decide::Decision;
+use fields::sizes::NAVMESH_SIZE;
+use fields::sizes::POLY_SIZE;
+use fields::sizes::PORTAL_SIZE;
+use fields::sizes::SECTOR_DATA_SIZE;
+use fields::sizes::SECTOR_SIZE;
 use quantise::bounds::Aabb;
 
 // The end of the blocks so far, and the bytes in them.
@@ -47,10 +52,10 @@ fn leaf_end(r: Reach, ids: usize, points: usize) -> Reach
     requires { ⌜ Within r (leafSizes ids points) ⌝ }
     ensures { λ q. ⌜ q ≡ reached r (leafSizes ids points) ⌝ }
 {
-    let sector = next(r, 96);
+    let sector = next(r, SECTOR_SIZE);
     let behind_ids = next_some(sector, 2 * ids);
     let behind_points = next_some(behind_ids, 8 * points);
-    next(behind_points, 32)
+    next(behind_points, SECTOR_DATA_SIZE)
 }
 
 // The layout behind the four lists.
@@ -58,11 +63,11 @@ fn lists_end(vertices: usize, corners: usize, polys: usize) -> Layout
     requires { ⌜ (vertices ≤ 65536) × (corners ≤ 67582) × (polys ≤ 16383) × (listsEnd vertices corners polys < 2 ^ 28) ⌝ }
     ensures { λ r. ⌜ r .at ≡ listsEnd vertices corners polys ⌝ }
 {
-    let header = Layout::new().alloc(368);
+    let header = Layout::new().alloc(NAVMESH_SIZE);
     let behind_vertices = blocks::list_end(header, 6, vertices);
     let behind_indices = blocks::list_end(behind_vertices, 2, corners);
     let behind_edges = blocks::list_end(behind_indices, 8, corners);
-    blocks::list_end(behind_edges, 48, polys)
+    blocks::list_end(behind_edges, POLY_SIZE, polys)
 }
 
 // Behind the blocks of the leaf with this box and this number, by the words of quarter boxes and of points' leaves.
@@ -94,7 +99,7 @@ fn tree_end<'a>(
     let d = depth - 1;
     let w = width / 4;
     let subs = quadtree::boxes::split(b);
-    let r0 = next(r, 96);
+    let r0 = next(r, SECTOR_SIZE);
     let r1 = tree_end(r0, subs.s0, d, w, leaf, boxes, leafs);
     let r2 = tree_end(r1, subs.s1, d, w, leaf + w, boxes, leafs);
     let r3 = tree_end(r2, subs.s2, d, w, leaf + 2 * w, boxes, leafs);
@@ -106,10 +111,9 @@ fn sectors_end<'a>(r: Reach, content: u32, b: Aabb, boxes: &'a [u32], leafs: &'a
     requires { ⌜ Within r (sizesBy (now boxes) (now leafs) (depthBy (content / 2 ^ 2 % 2)) 0 b) ⌝ }
     ensures { λ q. ⌜ q ≡ reached r (sizesBy (now (boxes .entry)) (now (leafs .entry)) (depthBy (content / 2 ^ 2 % 2)) 0 b) ⌝ }
 {
-    if content / 4 % 2 == 0 {
-        return tree_end(r, b, 2, 16, 0, boxes, leafs);
-    }
-    tree_end(r, b, 0, 1, 0, boxes, leafs)
+    let depth = quadtree::boxes::depth_of(content);
+    let width = quadtree::boxes::leaf_count(depth);
+    tree_end(r, b, depth, width, 0, boxes, leafs)
 }
 
 // The end behind all blocks, and the bytes in the sectors' blocks: by the counts of the writer's first pass, the cell's content flags and box, and the
@@ -118,7 +122,7 @@ fn blocks_end<'a>(d: Decision, content: u32, b: Aabb, boxes: &'a [u32], leafs: &
     requires { ⌜ (d .vertices ≤ 65536) × (d .corners ≤ 67582) × (d .counts .polys ≤ 16383)
         × (pagesEnd (d .vertices) (d .corners) (d .counts .polys) (d .counts .portals) (d .links) (sizesBy (now boxes) (now leafs) (depthBy (content / 2 ^ 2 % 2)) 0 b) < 2 ^ 28) ⌝ }
     ensures { λ r. ⌜ r .at ≡ pagesEnd (d .vertices) (d .corners) (d .counts .polys) (d .counts .portals) (d .links) (sizesBy (now (boxes .entry)) (now (leafs .entry)) (depthBy (content / 2 ^ 2 % 2)) 0 b) ⌝ }
-    ensures { λ r. ⌜ r .bytes ≡ sum (sizesBy (now (boxes .entry)) (now (leafs .entry)) (depthBy (content / 2 ^ 2 % 2)) 0 b) ⌝ }
+    ensures { λ r. ⌜ r .bytes ≡ sumOf (sizesBy (now (boxes .entry)) (now (leafs .entry)) (depthBy (content / 2 ^ 2 % 2)) 0 b) ⌝ }
 {
     let counts = d.counts;
     let lists = lists_end(d.vertices, d.corners, counts.polys);
@@ -127,7 +131,7 @@ fn blocks_end<'a>(d: Decision, content: u32, b: Aabb, boxes: &'a [u32], leafs: &
         bytes: 0,
     };
     let sectors = sectors_end(start, content, b, boxes, leafs);
-    let portals = next_some(sectors, 28 * counts.portals);
+    let portals = next_some(sectors, PORTAL_SIZE * counts.portals);
     let links = next_some(portals, 2 * d.links);
     Reach {
         at: links.at,
@@ -145,6 +149,7 @@ pub fn pages_end(strip: &[u32], d: Decision, work: &[u32]) -> Reach
     let at = decide::tables_end(strip);
     let mid = at + 3 * counts.polys;
     let end = mid + counts.points;
-    let b = plan::root_box(strip);
-    blocks_end(d, strip[1], b, &work[at..mid], &work[mid..end])
+    let cell = d.cell;
+    let b = cell.root_box();
+    blocks_end(d, cell.content_flags, b, &work[at..mid], &work[mid..end])
 }

@@ -5,19 +5,20 @@ ghost use Prim.Native.Nat.{_+_, _*_, _/_, _%_, _^_, _≤_, _<_};
 ghost use lib.ListN.{length, take};
 ghost use Rattle.fields.specs.Bytes.{les, cat, put};
 ghost use Rattle.fields.specs.Rows.{rowBytes, pack};
-ghost use Rattle.quantise.specs.Short.{shorts};
-ghost use Rattle.strip.specs.Reading.{vecAt, headAt, portalAt, portalsAt, polygonsAt, afterPolygons, low16, high16};
-ghost use Rattle.areas.specs.Areas.{idsOf};
+ghost use Rattle.strip.specs.Reading.{portalAt, portalsAt, polygonsAt, afterPolygons, low16, high16};
+ghost use Rattle.cell_record.specs.Record.{headBy};
+ghost use Rattle.areas.specs.Areas.{areaIds};
 ghost use Rattle.blocks.specs.Layout.{endOf, Laid};
-ghost use Rattle.pages.specs.Items.{floats, linksOf};
+ghost use Rattle.pages.specs.Items.{linksOf};
 ghost use Rattle.pages.specs.Optional.{blockOf, sizeOf};
 ghost use Rattle.pages.specs.Pages.{portalRow, portalItems, padded, headerFirst, headerLast, headerBytes};
 ghost use Rattle.front.specs.Front.{placesIn, countsIn};
 use areas::Areas;
 use blocks::Layout;
+use cell_record::CellRecord;
+use fields::sizes::PORTAL_SIZE;
+use math::num::bits_of_float;
 use math::vec3::Vec3;
-use math::vec3::floats_at;
-use quantise::short::Shorts;
 
 pub mod ends;
 
@@ -48,17 +49,17 @@ const ONE: u32 = 0x3F80_0000;
 
 const NAN: u32 = 0x7FC0_0000;
 
-// The header before the areas, 0x98 bytes. The strip's first record holds what is the cell's own.
-fn put_first(out: &mut [u8], strip: &[u32], a: Addresses, n: Totals)
-    requires { ⌜ 14 ≤ length (now strip) ⌝ }
-    ensures { λ _. ⌜ now (out .exit) ≡ put 0 (rowBytes (headerFirst (headAt (now (strip .entry)) 0) (placesIn a) (countsIn n))) (now (out .entry)) ⌝ }
+// The header before the areas, 0x98 bytes. The cell's record holds what is its own.
+fn put_first(out: &mut [u8], cell: CellRecord, a: Addresses, n: Totals)
+    ensures { λ _. ⌜ now (out .exit) ≡ put 0 (rowBytes (headerFirst (headBy cell) (placesIn a) (countsIn n))) (now (out .entry)) ⌝ }
 {
+    let bb_size = cell.bb_size;
     let words = [
-        strip[4],
+        cell.vft,
         1,
         0,
         0,
-        strip[1],
+        cell.content_flags,
         0x10011,
         0,
         0,
@@ -78,9 +79,9 @@ fn put_first(out: &mut [u8], strip: &[u32], a: Addresses, n: Totals)
         0,
         0,
         NAN, // not the diagonal's 1
-        strip[11],
-        strip[12],
-        strip[13],
+        bits_of_float(bb_size.x),
+        bits_of_float(bb_size.y),
+        bits_of_float(bb_size.z),
         0x7F80_0001,
         a.vertices,
         0,
@@ -110,9 +111,8 @@ fn put_areas(out: &mut [u8], ids: &[u32], len: usize)
 }
 
 // The header behind the areas, from 0x118 on.
-fn put_last(out: &mut [u8], strip: &[u32], a: Addresses, n: Totals)
-    requires { ⌜ 14 ≤ length (now strip) ⌝ }
-    ensures { λ _. ⌜ now (out .exit) ≡ put 280 (rowBytes (headerLast (headAt (now (strip .entry)) 0) (placesIn a) (countsIn n))) (now (out .entry)) ⌝ }
+fn put_last(out: &mut [u8], cell: CellRecord, a: Addresses, n: Totals)
+    ensures { λ _. ⌜ now (out .exit) ≡ put 280 (rowBytes (headerLast (headBy cell) (placesIn a) (countsIn n))) (now (out .entry)) ⌝ }
 {
     let words = [
         a.polygons,
@@ -125,7 +125,7 @@ fn put_last(out: &mut [u8], strip: &[u32], a: Addresses, n: Totals)
         0,
         n.vertices,
         n.polygons,
-        strip[2],
+        cell.area_id,
         n.total,
         n.points,
         n.portals,
@@ -133,7 +133,7 @@ fn put_last(out: &mut [u8], strip: &[u32], a: Addresses, n: Totals)
         0,
         0,
         0,
-        strip[3],
+        cell.version_unk2,
         0,
         0,
         0,
@@ -141,24 +141,14 @@ fn put_last(out: &mut [u8], strip: &[u32], a: Addresses, n: Totals)
     fields::put_all(out, 280, 4, &words);
 }
 
-// The header, 368 bytes at 0, of the strip's cell. It is stored last, when all addresses are known.
-pub fn put_header(out: &mut [u8], strip: &[u32], a: Addresses, n: Totals, areas: Areas)
-    requires { ⌜ 14 ≤ length (now strip) ⌝ }
-    ensures { λ _. ⌜ now (out .exit) ≡ put 0 (headerBytes (headAt (now (strip .entry)) 0) (placesIn a) (countsIn n) (idsOf areas)) (now (out .entry)) ⌝ }
+// The header, 368 bytes at 0, of a cell with this record. It is stored last, when all addresses are known.
+pub fn put_header(out: &mut [u8], cell: CellRecord, a: Addresses, n: Totals, areas: Areas)
+    ensures { λ _. ⌜ now (out .exit) ≡ put 0 (headerBytes (headBy cell) (placesIn a) (countsIn n) (areaIds areas)) (now (out .entry)) ⌝ }
 {
     let ids = areas.ids;
-    put_first(out, strip, a, n);
+    put_first(out, cell, a, n);
     put_areas(out, &ids, areas.len);
-    put_last(out, strip, a, n);
-}
-
-// The shorts of the position at `at`.
-fn shorts_at(strip: &[u32], at: usize, lo: Vec3, size: Vec3) -> Shorts
-    requires { ⌜ at + 3 ≤ length (now strip) ⌝ }
-    ensures { λ r. ⌜ r ≡ shorts (floats (vecAt (now (strip .entry)) at)) lo size ⌝ }
-{
-    let v = floats_at(strip, at);
-    quantise::short::quantise(v, lo, size)
+    put_last(out, cell, a, n);
 }
 
 // A portal's areas in one word: area_from (14 bits), area_to (14), area_unk (4). Both areas stand in w.
@@ -169,12 +159,12 @@ fn portal_areas(w: u32, unk: u32) -> u32
 }
 
 // A portal, 28 bytes, from its record at `at`.
-fn put_portal(out: &mut [u8], to: usize, strip: &[u32], at: usize, lo: Vec3, size: Vec3)
+fn put_portal(out: &mut [u8], to: usize, strip: &[u32], at: usize, bb_min: Vec3, bb_size: Vec3)
     requires { ⌜ at + 11 ≤ length (now strip) ⌝ }
-    ensures { λ _. ⌜ now (out .exit) ≡ put to (rowBytes (portalRow lo size (portalAt (now (strip .entry)) at))) (now (out .entry)) ⌝ }
+    ensures { λ _. ⌜ now (out .exit) ≡ put to (rowBytes (portalRow «bb_min» «bb_size» (portalAt (now (strip .entry)) at))) (now (out .entry)) ⌝ }
 {
-    let a = shorts_at(strip, at + 2, lo, size);
-    let b = shorts_at(strip, at + 5, lo, size);
+    let a = cell_record::shorts_at(strip, at + 2, bb_min, bb_size);
+    let b = cell_record::shorts_at(strip, at + 5, bb_min, bb_size);
     let polys = strip[at + 8];
     let areas = portal_areas(strip[at + 9], strip[at + 10]);
     let words = [
@@ -203,18 +193,18 @@ fn put_portals(
     strip: &[u32],
     first: usize,
     n: usize,
-    lo: Vec3,
-    size: Vec3,
+    bb_min: Vec3,
+    bb_size: Vec3,
 )
     requires { ⌜ (first + 11 * n ≤ length (now strip)) × (start + 28 * n < 2 ^ 28) ⌝ }
-    ensures { λ _. ⌜ now (out .exit) ≡ put start (cat (portalItems lo size (portalsAt (now (strip .entry)) first n))) (now (out .entry)) ⌝ }
+    ensures { λ _. ⌜ now (out .exit) ≡ put start (cat (portalItems «bb_min» «bb_size» (portalsAt (now (strip .entry)) first n))) (now (out .entry)) ⌝ }
 {
     let mut to = start;
     let mut at = first;
     let mut i: usize = 0;
     while i < n {
-        put_portal(out, to, strip, at, lo, size);
-        to += 28;
+        put_portal(out, to, strip, at, bb_min, bb_size);
+        to += PORTAL_SIZE;
         at += 11;
         i += 1;
     }
@@ -227,18 +217,18 @@ pub fn lay_portals(
     strip: &[u32],
     first: usize,
     n: usize,
-    lo: Vec3,
-    size: Vec3,
+    bb_min: Vec3,
+    bb_size: Vec3,
 ) -> Layout
     requires { ⌜ (first + 11 * n ≤ length (now strip)) × (endOf (l .at) (sizeOf (28 * n)) < 2 ^ 28) ⌝ }
-    ensures { λ r. ⌜ Laid l (blockOf (cat (portalItems lo size (portalsAt (now (strip .entry)) first n)))) r (now (out .entry)) (now (out .exit)) ⌝ }
+    ensures { λ r. ⌜ Laid l (blockOf (cat (portalItems «bb_min» «bb_size» (portalsAt (now (strip .entry)) first n)))) r (now (out .entry)) (now (out .exit)) ⌝ }
 {
     if n == 0 {
         return l;
     }
-    let start = blocks::pad(out, l, 28 * n);
-    put_portals(out, start, strip, first, n, lo, size);
-    l.alloc(28 * n)
+    let start = blocks::pad(out, l, PORTAL_SIZE * n);
+    put_portals(out, start, strip, first, n, bb_min, bb_size);
+    l.alloc(PORTAL_SIZE * n)
 }
 
 // The links of n polygons, 2 bytes each.

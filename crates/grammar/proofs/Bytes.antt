@@ -6,7 +6,7 @@ use Prim.Native.Nat.{ℕ, zero, suc, _+_, _-_}
 use native.Mathlib.Omega.{arith}
 use lib.Dec.{leb}
 use lib.ListN.{length, take, drop}
-use Rattle.fields.specs.Bytes.{le, cut}
+use Rattle.fields.specs.Bytes.{leAt, cut}
 use Rattle.resource.specs.Section.{inGraphics, inSystem, part, resolved}
 use Rattle.strip.specs.Cell.{All}
 use Rattle.grammar.specs.Parts.{Good, Array}
@@ -71,7 +71,7 @@ module _ (system graphics : List ℕ) (sb : Bytes system) (gb : Bytes graphics) 
 
   pub bytes-items : {w va : ℕ} {items : List (List ℕ)} → Items system graphics w va items → All Bytes items
   bytes-items empty = tt
-  bytes-items {w} (some h l) = subst (All Bytes) (sym (l .are)) (bytes-cut w (le 4 (l .header) 8) (l .bytes) (bytes-parts (l .items-good)))
+  bytes-items {w} (some h l) = subst (All Bytes) (sym (l .are)) (bytes-cut w (leAt 4 (l .header) 8) (l .bytes) (bytes-parts (l .items-good)))
 
   bytes-data : {s : List ℕ} {ps : List (List ℕ)} → Data system graphics s ps → All Bytes ps
   bytes-data (no-data e) = tt

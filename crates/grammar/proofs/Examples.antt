@@ -5,7 +5,7 @@ use Prim.Native.Nat.{ℕ, _+_, _<_}
 use native.Mathlib.Nat.{mul-zero}
 use native.Mathlib.Omega.{arith}
 use lib.ListN.{length}
-use Rattle.fields.specs.Bytes.{le, leBytes, cat, cut}
+use Rattle.fields.specs.Bytes.{leAt, leBytes, cat, cut}
 use Rattle.fields.specs.Rows.{rowBytes, pack}
 use Rattle.resource.specs.Section.{part, resolved}
 use Rattle.strip.specs.Cell.{vecWords, headWords, each, encodeAs}
@@ -16,13 +16,14 @@ use Rattle.grammar.specs.Lists.{no-table, no-part, Items, some}
 use Rattle.grammar.specs.Polygons.{none}
 use Rattle.grammar.specs.Derives.{vecOf, headOf, Makes, Derives}
 use Rattle.grammar.specs.Vehicle.{vehicleHeader, emptyList, vehicleSector, vehicleData, vehiclePages, vehicleCell, vehicleStrip}
+use Rattle.fields.specs.Sizes.{LIST-VFT-EDGES, LIST-VFT-INDICES, LIST-VFT-POLYS, LIST-VFT-VERTICES}
 
 pub p12-length : length vehiclePages ≡ 688
 unfolding vehiclePages vehicleHeader emptyList vehicleSector vehicleData rowBytes leBytes cat
 p12-length = refl
 
-pub p12-total : le 4 vehiclePages 0x144 ≡ 128
-unfolding vehiclePages vehicleHeader rowBytes leBytes cat le
+pub p12-total : leAt 4 vehiclePages 0x144 ≡ 128
+unfolding vehiclePages vehicleHeader rowBytes leBytes cat leAt
 p12-total = refl
 
 module _ (graphics : List ℕ) where
@@ -33,8 +34,8 @@ module _ (graphics : List ℕ) where
   found : (off n : ℕ) {b : List ℕ} → 0 < n → resolved vehiclePages graphics (0x5000_0000 + off) n ≡ b → length b ≡ n → At off n b
   found off n h e l = record { some = h; there = e; whole = l }
 
-  blocks : At 0 368 vehicleHeader × At 368 48 (emptyList 1080158456 368) × At 416 48 (emptyList 1080158424 416) × At 464 48 (emptyList 1080158440 464)
-      × At 512 48 (emptyList 1080158408 512) × At 560 96 vehicleSector × At 656 32 vehicleData
+  blocks : At 0 368 vehicleHeader × At 368 48 (emptyList LIST-VFT-VERTICES 368) × At 416 48 (emptyList LIST-VFT-INDICES 416) × At 464 48 (emptyList LIST-VFT-EDGES 464)
+      × At 512 48 (emptyList LIST-VFT-POLYS 512) × At 560 96 vehicleSector × At 656 32 vehicleData
   unfolding vehiclePages vehicleHeader emptyList vehicleSector vehicleData rowBytes leBytes cat resolved part
   blocks = (
     found 0 368 (omega arith) refl refl,
@@ -47,21 +48,21 @@ module _ (graphics : List ℕ) where
   )
 
   leaf : Data vehiclePages graphics vehicleSector []
-  unfolding vehicleSector vehicleData rowBytes leBytes cat le
+  unfolding vehicleSector vehicleData rowBytes leBytes cat leAt
   leaf = data-at (omega arith) (blocks .6) Array.none
 
   tree : Tree vehiclePages graphics (0x5000_0000 + 560) 1 []
-  unfolding vehicleSector rowBytes leBytes cat le subsTo
+  unfolding vehicleSector rowBytes leBytes cat leAt subsTo
   tree = Trees.tree (blocks .5) leaf Trees.none Trees.none
 
   no-items : (w vft off : ℕ) → At off 48 (emptyList vft off) → Items vehiclePages graphics w (0x5000_0000 + off) []
-  unfolding emptyList rowBytes leBytes le cut
+  unfolding emptyList rowBytes leBytes leAt cut
   no-items w vft off g =
       some {va = 0x5000_0000 + off} (omega arith)
       (record { header = emptyList vft off; parts = []; bytes = []; header-good = g; parts-good = no-table; items-good = no-part; adds-up = sym (mul-zero w); are = refl })
 
   pub p12-makes : Makes vehiclePages graphics 1 vehicleCell
-  unfolding vehicleCell vehicleHeader vehicleSector rowBytes leBytes cat le vecOf headOf finiteBox
+  unfolding vehicleCell vehicleHeader vehicleSector rowBytes leBytes cat leAt vecOf headOf finiteBox
   p12-makes = record {
     header = vehicleHeader;
     root = vehicleSector;
@@ -77,10 +78,10 @@ module _ (graphics : List ℕ) where
     finite-box = refl;
     tree = tree;
     few-sectors = omega arith;
-    vertex-list = no-items 6 1080158456 368 (blocks .1);
-    index-list = no-items 2 1080158424 416 (blocks .2);
-    edge-list = no-items 8 1080158440 464 (blocks .3);
-    polygon-list = no-items 48 1080158408 512 (blocks .4);
+    vertex-list = no-items 6 LIST-VFT-VERTICES 368 (blocks .1);
+    index-list = no-items 2 LIST-VFT-INDICES 416 (blocks .2);
+    edge-list = no-items 8 LIST-VFT-EDGES 464 (blocks .3);
+    polygon-list = no-items 48 LIST-VFT-POLYS 512 (blocks .4);
     portal-list = Array.none;
     polygons-are = none;
     portals-are = refl;

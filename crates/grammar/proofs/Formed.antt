@@ -13,7 +13,7 @@ use lib.Ieee.{Float, binary32, ofBits, isNan, fits}
 use lib.Ieee.Scale.{finite}
 use lib.Ieee.Fits.{add-fits}
 use lib.Ieee.Bits.{ofBits-toBits}
-use Rattle.fields.specs.Bytes.{le, cut}
+use Rattle.fields.specs.Bytes.{leAt, cut}
 use Rattle.fields.specs.Rows.{field}
 use Rattle.fields.proofs.Bytes.{le-lt}
 use Rattle.math.proofs.Finite.{finite-bits}
@@ -21,7 +21,7 @@ use Rattle.quantise.specs.Short.{coordinate}
 use Rattle.quantise.proofs.Numbers.{coordinate-number}
 use Rattle.areas.specs.EdgeHalf as EdgeHalf
 use Rattle.resource.specs.Section.{resolved}
-use Rattle.strip.specs.Cell.{Vec3, Polygon, Portal, Point, Head, Cell, All, HalfFits, EdgeFits, PolygonFits, PortalFits, PointFits, Fits}
+use Rattle.strip.specs.Cell.{Vec3, NavPoly, NavPortal, NavPoint, Head, Cell, All, HalfFits, EdgeFits, PolygonFits, PortalFits, PointFits, Fits}
 use Rattle.strip.specs.Box as Box
 use Rattle.strip.specs.Scan.{Scanned, scan}
 use Rattle.strip.proofs.Box.{FiniteVec, box-finite}
@@ -42,7 +42,7 @@ coordinate-fits : (q : ℕ) (lo extent : Float) → T (fits binary32 (coordinate
 unfolding coordinate
 coordinate-fits q lo extent = add-fits binary32 lo _
 
-of-finite : (b : ℕ) → Box.finite b ≡ true → T (finite (ofBits binary32 b))
+of-finite : (b : ℕ) → Box.finiteBits b ≡ true → T (finite (ofBits binary32 b))
 of-finite b h = rw (finite-bits b, h) tt
 
 is-number : (b : Bool) → T (not b) → b ≡ false
@@ -50,7 +50,7 @@ is-number true t = absurd t
 is-number false t = refl
 
 -- on a finite axis it is the bits of a number
-pub axis-number : (q lo extent : ℕ) → q < 65536 → Box.finite lo ≡ true → Box.finite extent ≡ true → isNan (ofBits binary32 (axis q lo extent)) ≡ false
+pub axis-number : (q lo extent : ℕ) → q < 65536 → Box.finiteBits lo ≡ true → Box.finiteBits extent ≡ true → isNan (ofBits binary32 (axis q lo extent)) ≡ false
 unfolding axis
 axis-number q lo extent h l e =
     let x : Float = coordinate q (ofBits binary32 lo) (ofBits binary32 extent) in
@@ -65,17 +65,17 @@ back-numbers h l e x y z hx hy hz =
 -- ---- every position, where P holds of what shorts are turned back to
 
 module _ (P : Vec3 → Type 0) (back : ℕ → ℕ → ℕ → Vec3) (good : (x y z : ℕ) → Short x → Short y → Short z → P (back x y z)) where
-  at-bytes : (b : List ℕ) (i j k : ℕ) → Bytes b → P (back (le 2 b i) (le 2 b j) (le 2 b k))
+  at-bytes : (b : List ℕ) (i j k : ℕ) → Bytes b → P (back (leAt 2 b i) (leAt 2 b j) (leAt 2 b k))
   at-bytes b i j k h = good _ _ _ (le-lt 2 b i h) (le-lt 2 b j h) (le-lt 2 b k h)
 
-  vertices-have : {vs is es : List (List ℕ)} {ls : List ℕ} {area : ℕ → ℕ} → All Bytes vs → {b : List ℕ} {p : Polygon}
+  vertices-have : {vs is es : List (List ℕ)} {ls : List ℕ} {area : ℕ → ℕ} → All Bytes vs → {b : List ℕ} {p : NavPoly}
       → PolygonOf vs is es ls area back b p → All P (p .vertices)
   unfolding vertexOf
   vertices-have {vs} {is} h {b} f = rw (f .vertices-are) (each-item (runOf b is))
     where
-      each-item : (l : List (List ℕ)) → All P (map (λ i. back (le 2 (getD vs (le 2 i 0) []) 0) (le 2 (getD vs (le 2 i 0) []) 2) (le 2 (getD vs (le 2 i 0) []) 4)) l)
+      each-item : (l : List (List ℕ)) → All P (map (λ i. back (leAt 2 (getD vs (leAt 2 i 0) []) 0) (leAt 2 (getD vs (leAt 2 i 0) []) 2) (leAt 2 (getD vs (leAt 2 i 0) []) 4)) l)
       each-item [] = tt
-      each-item (i ∷ l) = (at-bytes (getD vs (le 2 i 0) []) 0 2 4 (all-at Bytes vs (le 2 i 0) [] h bytes-none), each-item l)
+      each-item (i ∷ l) = (at-bytes (getD vs (leAt 2 i 0) []) 0 2 4 (all-at Bytes vs (leAt 2 i 0) [] h bytes-none), each-item l)
 
   ends-have : (b : List ℕ) → Bytes b → Ends P (portalOf back b)
   unfolding portalOf
@@ -109,20 +109,20 @@ half-fits area w = record { unk3 = omega arith; unk2 = omega arith }
 
 edge-fits : (area : ℕ → ℕ) (b : List ℕ) → EdgeFits (edgeOf area b)
 unfolding edgeOf
-edge-fits area b = record { a = half-fits area (le 4 b 0); b = half-fits area (le 4 b 4) }
+edge-fits area b = record { a = half-fits area (leAt 4 b 0); b = half-fits area (leAt 4 b 4) }
 
-module _ {vs is es : List (List ℕ)} {ls : List ℕ} {area : ℕ → ℕ} {back : ℕ → ℕ → ℕ → Vec3} {b : List ℕ} {p : Polygon} (h : Bytes b) (f : PolygonOf vs is es ls area back b p) where
+module _ {vs is es : List (List ℕ)} {ls : List ℕ} {area : ℕ → ℕ} {back : ℕ → ℕ → ℕ → Vec3} {b : List ℕ} {p : NavPoly} (h : Bytes b) (f : PolygonOf vs is es ls area back b p) where
   run-length : (items : List (List ℕ)) → startOf b + countOf b ≤ length items → length (runOf b items) ≡ countOf b
   run-length items room = length-take-le (countOf b) (drop (startOf b) items) (rw length-drop (omega arith))
 
   vertex-count : length (p .vertices) ≡ countOf b
-  vertex-count = ap length (f .vertices-are) ∙ length-map (runOf b is) (λ i. vertexOf back (getD vs (le 2 i 0) [])) ∙ run-length is (f .in-indices)
+  vertex-count = ap length (f .vertices-are) ∙ length-map (runOf b is) (λ i. vertexOf back (getD vs (leAt 2 i 0) [])) ∙ run-length is (f .in-indices)
 
   edge-count : length (p .edges) ≡ countOf b
   edge-count = ap length (f .edges-are) ∙ length-map (runOf b es) (edgeOf area) ∙ run-length es (f .in-edges)
 
   link-count : length (p .links) ≤ 7
-  link-count = rw (f .links-are) (omega (arith, run-most ls (field 15 17 (le 4 b 0x2C)) (field 12 3 (le 4 b 0x2C))))
+  link-count = rw (f .links-are) (omega (arith, run-most ls (field 15 17 (leAt 4 b 0x2C)) (field 12 3 (leAt 4 b 0x2C))))
 
   polygon-shaped : Shaped p
   polygon-shaped = record { edges = edge-count ∙ sym vertex-count; few-vertices = omega (arith, vertex-count); few-links = link-count }
@@ -134,7 +134,7 @@ module _ {vs is es : List (List ℕ)} {ls : List ℕ} {area : ℕ → ℕ} {back
         edge-count = omega (arith, edge-count);
         link-count = omega (arith, link-count);
         flags0 = rw (f .flags0) (le-lt 2 b 0 h);
-        links = rw (f .links-are) (run-shorts ls (field 15 17 (le 4 b 0x2C)) (field 12 3 (le 4 b 0x2C)) shorts);
+        links = rw (f .links-are) (run-shorts ls (field 15 17 (leAt 4 b 0x2C)) (field 12 3 (leAt 4 b 0x2C)) shorts);
         edges = rw (f .edges-are) (all-images EdgeFits (edgeOf area) (edge-fits area) (runOf b es));
       }
 
@@ -163,7 +163,7 @@ module _ (system graphics : List ℕ) (sb : Bytes system) (gb : Bytes graphics) 
   links-short : (va n : ℕ) → All Short (linksAt system graphics va n)
   unfolding linksAt
   links-short va n =
-      all-map Short Bytes (λ b. le 2 b 0) (λ b h. le-lt 2 b 0 h) (cut 2 (length (resolved system graphics va (2 * n)) / 2) (resolved system graphics va (2 * n)))
+      all-map Short Bytes (λ b. leAt 2 b 0) (λ b h. le-lt 2 b 0 h) (cut 2 (length (resolved system graphics va (2 * n)) / 2) (resolved system graphics va (2 * n)))
       (bytes-cut 2 _ _ (bytes-resolved system graphics sb gb va (2 * n)))
 
   module _ {sectors : ℕ} {c : Cell} (m : Makes system graphics sectors c) where
@@ -171,17 +171,17 @@ module _ (system graphics : List ℕ) (sb : Bytes system) (gb : Bytes graphics) 
     back = backOf (c .head)
 
     abbrev links : List ℕ
-    links = linksAt system graphics (le 8 (m .header) 0x130) (le 4 (m .header) 0x150)
+    links = linksAt system graphics (leAt 8 (m .header) 0x130) (leAt 4 (m .header) 0x150)
 
     -- what holds of every item made from bytes holds of all the cell's
-    polygons-have : (Q : Polygon → Type 0) → ((b : List ℕ) (p : Polygon) → Bytes b → PolygonOf (m .vertices) (m .indices) (m .edges) links (areaOf (m .header)) back b p → Q p)
+    polygons-have : (Q : NavPoly → Type 0) → ((b : List ℕ) (p : NavPoly) → Bytes b → PolygonOf (m .vertices) (m .indices) (m .edges) links (areaOf (m .header)) back b p → Q p)
         → All Q (c .polys)
     polygons-have Q good = each-all Bytes Q good (bytes-items system graphics sb gb (m .polygon-list)) (m .polygons-are)
 
-    portals-have : (Q : Portal → Type 0) → ((b : List ℕ) → Bytes b → Q (portalOf back b)) → All Q (c .portals)
+    portals-have : (Q : NavPortal → Type 0) → ((b : List ℕ) → Bytes b → Q (portalOf back b)) → All Q (c .portals)
     portals-have Q good = rw (m .portals-are) (all-map Q Bytes (portalOf back) good (m .portals) (bytes-array system graphics sb gb (m .portal-list)))
 
-    points-have : (Q : Point → Type 0) → ((b : List ℕ) → Bytes b → Q (pointOf back b)) → All Q (c .points)
+    points-have : (Q : NavPoint → Type 0) → ((b : List ℕ) → Bytes b → Q (pointOf back b)) → All Q (c .points)
     points-have Q good = rw (m .points-are) (all-map Q Bytes (pointOf back) good (m .points) (bytes-trees system graphics sb gb (m .tree)))
 
     positions : (P : Vec3 → Type 0) → ((x y z : ℕ) → Short x → Short y → Short z → P (back x y z)) → Positions P c
@@ -201,7 +201,7 @@ module _ (system graphics : List ℕ) (sb : Bytes system) (gb : Bytes graphics) 
     makes-shaped = polygons-have Shaped (λ b p h f. polygon-shaped h f)
 
     short-links : All Short links
-    short-links = links-short (le 8 (m .header) 0x130) (le 4 (m .header) 0x150)
+    short-links = links-short (leAt 8 (m .header) 0x130) (leAt 4 (m .header) 0x150)
 
     makes-fits : Fits c
     makes-fits = record {

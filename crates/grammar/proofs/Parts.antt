@@ -5,7 +5,7 @@ use mathlib.Core.List.{List}
 use Prim.Native.Nat.{ℕ, _+_, _<_}
 use native.Mathlib.Omega.{arith}
 use lib.ListN.{length}
-use Rattle.fields.specs.Bytes.{le}
+use Rattle.fields.specs.Bytes.{leAt}
 use Rattle.fields.proofs.Cuts.{cut-length}
 use Rattle.fields.proofs.Holds.{Holds}
 use Rattle.resource.specs.Section.{good, resolved}
@@ -35,5 +35,5 @@ held-good graphics few h held = record { some = h; there = resource.held-resolve
 
 -- ---- lists
 
-pub list-length : (system graphics : List ℕ) (w : ℕ) {va : ℕ} {items : List (List ℕ)} (l : ListAt system graphics va w items) → length items ≡ le 4 (l .header) 8
-list-length system graphics w l = ap length (l .are) ∙ cut-length w (le 4 (l .header) 8) (l .bytes)
+pub list-length : (system graphics : List ℕ) (w : ℕ) {va : ℕ} {items : List (List ℕ)} (l : ListAt system graphics va w items) → length items ≡ leAt 4 (l .header) 8
+list-length system graphics w l = ap length (l .are) ∙ cut-length w (leAt 4 (l .header) 8) (l .bytes)

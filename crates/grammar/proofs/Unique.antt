@@ -4,8 +4,8 @@ use mathlib.Core.List.{List, _++_, map}
 use Prim.Native.Nat.{ℕ, suc, _*_, _<_}
 use native.Mathlib.Nat.{mul-zero}
 use native.Mathlib.Omega.{arith}
-use Rattle.fields.specs.Bytes.{le, cut}
-use Rattle.strip.specs.Cell.{Vec3, Edge, Polygon, Portal, Point, Head, Cell, encode}
+use Rattle.fields.specs.Bytes.{leAt, cut}
+use Rattle.strip.specs.Cell.{Vec3, NavEdge, NavPoly, NavPortal, NavPoint, Head, Cell, encode}
 use Rattle.grammar.specs.Parts.{Good, Array}
 use Rattle.grammar.specs.Trees.{Data, no-data, data-at, Trees}
 use Rattle.grammar.specs.Lists.{Table, no-table, table, Parts, no-part, skipped, part, ListAt, Items, empty, some}
@@ -42,7 +42,7 @@ module _ (system graphics : List ℕ) where
       let h : l .header ≡ m .header = good-one (l .header-good) (m .header-good) in
       let t : l .parts ≡ m .parts = table-one (l .parts-good) (rw (← h) at (m .parts-good)) in
       let b : l .bytes ≡ m .bytes = parts-one (l .items-good) (rw (← h, ← t) at (m .items-good)) in
-      l .are ∙ ap (λ (x : List ℕ). cut w (le 4 x 8) (l .bytes)) h ∙ ap (cut w (le 4 (m .header) 8)) b ∙ sym (m .are)
+      l .are ∙ ap (λ (x : List ℕ). cut w (leAt 4 x 8) (l .bytes)) h ∙ ap (cut w (leAt 4 (m .header) 8)) b ∙ sym (m .are)
 
   pub items-one : {va w : ℕ} {xs ys : List (List ℕ)} → Items system graphics w va xs → Items system graphics w va ys → xs ≡ ys
   items-one empty empty = refl
@@ -69,10 +69,10 @@ module _ (system graphics : List ℕ) where
 
 -- ---- polygons
 
-pub polygon-one : {vs is es : List (List ℕ)} {ls : List ℕ} {area : ℕ → ℕ} {back : ℕ → ℕ → ℕ → Vec3} {b : List ℕ} {p q : Polygon}
+pub polygon-one : {vs is es : List (List ℕ)} {ls : List ℕ} {area : ℕ → ℕ} {back : ℕ → ℕ → ℕ → Vec3} {b : List ℕ} {p q : NavPoly}
     → PolygonOf vs is es ls area back b p → PolygonOf vs is es ls area back b q → p ≡ q
 polygon-one {p = p} {q = q} f g =
-    let make : ℕ → ℕ → ℕ → List ℕ → List Vec3 → List Edge → Polygon = λ a b c d e h. record { flags0 = a; flags1 = b; flags2 = c; links = d; vertices = e; edges = h } in
+    let make : ℕ → ℕ → ℕ → List ℕ → List Vec3 → List NavEdge → NavPoly = λ a b c d e h. record { flags0 = a; flags1 = b; flags2 = c; links = d; vertices = e; edges = h } in
     let e₀ : p .flags0 ≡ q .flags0 = f .flags0 ∙ sym (g .flags0) in
     let e₁ : p .flags1 ≡ q .flags1 = f .flags1 ∙ sym (g .flags1) in
     let e₂ : p .flags2 ≡ q .flags2 = f .flags2 ∙ sym (g .flags2) in
@@ -104,7 +104,7 @@ module _ (system graphics : List ℕ) where
       let polys : c .polys ≡ d .polys = each-one (λ b p q f g. polygon-one f g) (l .polygons-are) (rw (← h, ← head, ← vs, ← is, ← es, ← bs) at (m .polygons-are)) in
       let portals : c .portals ≡ d .portals = l .portals-are ∙ ap (λ (x : Head). map (portalOf (backOf x)) (l .portals)) head ∙ ap (map (portalOf (backOf (d .head)))) qs ∙ sym (m .portals-are) in
       let points : c .points ≡ d .points = l .points-are ∙ ap (λ (x : Head). map (pointOf (backOf x)) (l .points)) head ∙ ap (map (pointOf (backOf (d .head)))) (ts .1) ∙ sym (m .points-are) in
-      let make : Head → List Polygon → List Portal → List Point → Cell = λ a b c d. record { head = a; polys = b; portals = c; points = d } in
+      let make : Head → List NavPoly → List NavPortal → List NavPoint → Cell = λ a b c d. record { head = a; polys = b; portals = c; points = d } in
       let whole : make (c .head) (c .polys) (c .portals) (c .points) ≡ make (d .head) (d .polys) (d .portals) (d .points) = rw (head, polys, portals, points) in
       (ts .0, whole)
 

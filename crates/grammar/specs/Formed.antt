@@ -5,7 +5,7 @@ use mathlib.Core.Bool.{false}
 use mathlib.Core.List.{List}
 use lib.Ieee.{binary32, ofBits, isNan}
 use lib.ListN.{length, getD}
-use Rattle.strip.specs.Cell.{Vec3, Polygon, Portal, Cell, All}
+use Rattle.strip.specs.Cell.{Vec3, NavPoly, NavPortal, Cell, All}
 
 -- the bytes of a `&[u8]`
 abbrev pub Bytes : List ℕ → Type 0
@@ -18,7 +18,7 @@ pub record AllNumbers (v : Vec3) : Type 0 where
   pub z : isNan (ofBits binary32 (v .z)) ≡ false
 
 -- both ends of a portal
-pub record Ends (P : Vec3 → Type 0) (p : Portal) : Type 0 where
+pub record Ends (P : Vec3 → Type 0) (p : NavPortal) : Type 0 where
   pub from : P (p .from)
   pub to : P (p .to)
 
@@ -29,7 +29,7 @@ pub record Positions (P : Vec3 → Type 0) (c : Cell) : Type 0 where
   pub points : All (λ t. P (t .position)) (c .points)
 
 -- what reading makes of a polygon: as many edges as vertices, at most 2,047 of them, and at most 7 links
-pub record Shaped (p : Polygon) : Type 0 where
+pub record Shaped (p : NavPoly) : Type 0 where
   pub edges : length (p .edges) ≡ length (p .vertices)
   pub few-vertices : length (p .vertices) ≤ 2047
   pub few-links : length (p .links) ≤ 7

@@ -4,6 +4,7 @@ use mathlib.Core.List.{List, [], _∷_}
 use Rattle.fields.specs.Bytes.{cat}
 use Rattle.fields.specs.Rows.{rowBytes}
 use Rattle.strip.specs.Cell.{Vec3, Cell}
+use Rattle.fields.specs.Sizes.{LIST-VFT-EDGES, LIST-VFT-INDICES, LIST-VFT-POLYS, LIST-VFT-VERTICES}
 
 -- the address of a place in the system section
 abbrev at : ℕ → ℕ
@@ -40,7 +41,7 @@ vehicleData = rowBytes ((8, 0) ∷ (8, 0) ∷ (8, 0) ∷ (2, 0) ∷ (2, 0) ∷ (
 unfoldable pub vehiclePages : List ℕ
 vehiclePages =
     cat (
-    vehicleHeader ∷ emptyList 1080158456 368 ∷ emptyList 1080158424 416 ∷ emptyList 1080158440 464 ∷ emptyList 1080158408 512
+    vehicleHeader ∷ emptyList LIST-VFT-VERTICES 368 ∷ emptyList LIST-VFT-INDICES 416 ∷ emptyList LIST-VFT-EDGES 464 ∷ emptyList LIST-VFT-POLYS 512
     ∷ vehicleSector ∷ vehicleData ∷ [])
 
 -- the cell, and its strip of 15 words

@@ -12,7 +12,7 @@ use Rattle.fields.specs.Bytes.{les, put}
 use Rattle.fields.specs.Rows.{rowBytes, pack}
 use Rattle.fields.proofs.Puts.{length-put, put-nil, put-cons, put-next}
 use Rattle.math.specs.declared.vec3.Vec3.{Vec3 as Floats}
-use Rattle.strip.specs.Cell.{Polygon}
+use Rattle.strip.specs.Cell.{NavPoly}
 use Rattle.strip.specs.Reading.{vecAt, vecsAt, halfAt, edgeAt, edgesAt, polyAt, polygonOf, polygonAt, polygonsAt, afterPolygons}
 use Rattle.strip.specs.declared.Poly.{Poly}
 use Rattle.strip.proofs.Steps.{items-done, items-length, polygons-turn, after-polygon, next-inside}
@@ -143,4 +143,4 @@ module _ (s : List ℕ) (lo size : Floats) (n : ℕ) (ids : List ℕ) (base : �
 
     pub edged : n ≤ i → w ≡ put base (edgeWords ids (corners lo size (polygonsAt s 14 n))) w₀
     unfolding gather edgeWords
-    edged h = sym (put-nil place w) ∙ ap (λ (ps : List Polygon). put place (edgeWords ids (corners lo size ps)) w) (sym (items-done (polygonAt s) (λ x. polyAt s x .next) at i n h)) ∙ g .rest
+    edged h = sym (put-nil place w) ∙ ap (λ (ps : List NavPoly). put place (edgeWords ids (corners lo size ps)) w) (sym (items-done (polygonAt s) (λ x. polyAt s x .next) at i n h)) ∙ g .rest

@@ -16,7 +16,7 @@ use Rattle.quantise.specs.Bounds.{fold, greatest, leastSide}
 use Rattle.quantise.proofs.Quarters.{side-fits}
 use Rattle.math.specs.MinMax.{lesser}
 use Rattle.quadtree.proofs.Picks.{bits-below}
-use Rattle.strip.specs.Cell.{Polygon}
+use Rattle.strip.specs.Cell.{NavPoly}
 use Rattle.strip.specs.Reading.{word, itemsAt, after, vecAt, polyAt, polygonOf, polygonAt, polygonsAt, afterPolygons}
 use Rattle.strip.specs.declared.Poly.{Poly}
 use Rattle.strip.proofs.Steps.{items-length, parts, after-ge}
@@ -58,7 +58,7 @@ polygon-made s p own k start before x y z c first low second last ec ef el es et
     rw (v, l, ef, ec, es, el, start-cut start own, et)
 
 -- the min sides of a quarter box have 16 bits
-pub record Narrow (p : Polygon) : Type 0 where
+pub record Narrow (p : NavPoly) : Type 0 where
   pub x : bits16 (boxOf p .«x_min») < 65536
   pub y : bits16 (boxOf p .«y_min») < 65536
   pub z : bits16 (boxOf p .«z_min») < 65536
@@ -66,12 +66,12 @@ pub record Narrow (p : Polygon) : Type 0 where
 least-narrow : (ws : List ℕ) → bits16 (leastSide ws) < 65536
 least-narrow ws = bits-below (leastSide ws) (side-fits false (fold lesser greatest ws))
 
-narrow : (p : Polygon) → Narrow p
+narrow : (p : NavPoly) → Narrow p
 unfolding boxOf
 narrow p = record { x = least-narrow (map (λ v. v .x) (p .vertices)); y = least-narrow (map (λ v. v .y) (p .vertices)); z = least-narrow (map (λ v. v .z) (p .vertices)) }
 
 -- so the bytes of its words are those of the polygon's record
-pub polygon-bytes : (own k start before : ℕ) (p : Polygon)
+pub polygon-bytes : (own k start before : ℕ) (p : NavPoly)
     → les 4 (polygonWords own k start before (sides (boxOf p .«x_min») (boxOf p .«x_max»)) (sides (boxOf p .«y_min») (boxOf p .«y_max»)) (sides (boxOf p .«z_min») (boxOf p .«z_max»)) p)
     ≡ rowBytes (polygonRow own k start before p)
 unfolding polygonWords les rowBytes

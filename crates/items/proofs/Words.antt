@@ -10,7 +10,7 @@ use Rattle.fields.specs.Bytes.{leBytes, les, cat, put}
 use Rattle.fields.proofs.Bytes.{length-les, length-bytes}
 use Rattle.fields.proofs.Puts.{put-next}
 use Rattle.blocks.specs.Layout.{behind, endOf, Laid}
-use Rattle.blocks.specs.Lists.{counts, sizes, Wide}
+use Rattle.blocks.specs.Lists.{partCounts, sizes, Wide}
 use Rattle.blocks.specs.declared.Layout.{Layout}
 use Rattle.blocks.proofs.Lists.{length-cat}
 use Rattle.blocks.proofs.Parts.{Filling, filling, filling-room, filling-turn, filled, Parting, parting, parting-room, parting-turn}
@@ -126,7 +126,7 @@ module _ (words : List ℕ) (s w per k n : ℕ) (l : Layout) (out₀ : List ℕ)
 
   module _ (next : Layout) (out : List ℕ) (from left i : ℕ) (g : Laying words s w per k n l out₀ next out from left i) (h : i < k) (m : ℕ) (is : m ≡ min per left) (room : (s + 1) * n ≤ length words) where
     -- the part that a turn lays out stands in the words, and ends below 2^28
-    pub laying-room : endOf (l .at) (sizes w (counts k per n)) < 2 ^ 28 → (from + (s + 1) * m ≤ length words) × (behind (next .at) (w * m) < 2 ^ 28)
+    pub laying-room : endOf (l .at) (sizes w (partCounts k per n)) < 2 ^ 28 → (from + (s + 1) * m ≤ length words) × (behind (next .at) (w * m) < 2 ^ 28)
     laying-room below =
         let le : m ≤ left = omega arith in
         (omega (arith, mul-le-mul-left (s + 1) le, g .from-here), parting-room _ _ _ _ _ _ _ _ _ _ _ _ (g .parts) h m is below)

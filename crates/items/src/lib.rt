@@ -6,25 +6,26 @@ ghost use Prim.Native.Nat.{_+_, _-_, _*_, _^_, _≤_, _<_};
 ghost use lib.ListN.{length, take, drop};
 ghost use Rattle.fields.specs.Bytes.{cat, put};
 ghost use Rattle.blocks.specs.Layout.{behind, Laid};
-ghost use Rattle.blocks.specs.Lists.{partSizes, listSizes, listBlocks, Room};
+ghost use Rattle.blocks.specs.Lists.{partSizes, listSizes, listBlocks, ListRoom};
 ghost use Rattle.items.specs.Words.{itemOf, itemsIn, partsOf, numberItems};
 ghost use Rattle.vertices.specs.Table.{met};
 ghost use Rattle.plan.specs.Plan.{boxes};
 ghost use Rattle.pages.specs.Items.{vertexItems, edgeItems, polygonItems};
-ghost use Rattle.strip.specs.Reading.{headAt, polygonsAt, afterPolygons};
+ghost use Rattle.strip.specs.Reading.{polygonsAt, afterPolygons};
 ghost use Rattle.items.specs.Made.{edgeWords, cornersAt};
+ghost use Rattle.fields.specs.Sizes.{LIST-VFT-EDGES, LIST-VFT-INDICES, LIST-VFT-POLYS, LIST-VFT-VERTICES};
 use blocks::Layout;
+use fields::sizes::EDGE_SIZE;
+use fields::sizes::INDEX_SIZE;
+use fields::sizes::LIST_VFT_EDGES;
+use fields::sizes::LIST_VFT_INDICES;
+use fields::sizes::LIST_VFT_POLYS;
+use fields::sizes::LIST_VFT_VERTICES;
+use fields::sizes::POLY_SIZE;
+use fields::sizes::VERTEX_SIZE;
 
 mod edges;
 mod polygons;
-
-const VERTEX_LIST_VFT: u32 = 1080158456;
-
-const INDEX_LIST_VFT: u32 = 1080158424;
-
-const EDGE_LIST_VFT: u32 = 1080158440;
-
-const POLYGON_LIST_VFT: u32 = 1080158408;
 
 // A part's items take at most a page.
 const PART_SIZE: usize = 16384;
@@ -83,7 +84,7 @@ fn lay_part(
 
 // The items of all parts, n of them.
 fn lay_items(out: &mut [u8], l: Layout, words: &[u32], n: usize, whole: usize, w: usize) -> Layout
-    requires { ⌜ ((whole + 1) * n ≤ length (now words)) × (4 * whole ≤ w) × Room (l .at) w n (partSizes w n) ⌝ }
+    requires { ⌜ ((whole + 1) * n ≤ length (now words)) × (4 * whole ≤ w) × ListRoom (l .at) w n (partSizes w n) ⌝ }
     ensures { λ r. ⌜ Laid l (partsOf w n (itemsIn whole w n (now (words .entry)))) r (now (out .entry)) (now (out .exit)) ⌝ }
 {
     let per = PART_SIZE / w;
@@ -103,7 +104,7 @@ fn lay_items(out: &mut [u8], l: Layout, words: &[u32], n: usize, whole: usize, w
 }
 
 // A list of n items of w bytes that stand in words, `whole` + 1 to an item: header, part table, items of each part, offsets.
-pub fn lay_list(
+pub fn write_list(
     out: &mut [u8],
     l: Layout,
     vft: u32,
@@ -112,7 +113,7 @@ pub fn lay_list(
     whole: usize,
     w: usize,
 ) -> Layout
-    requires { ⌜ ((whole + 1) * n ≤ length (now words)) × (4 * whole ≤ w) × Room (l .at) w n (listSizes w n) ⌝ }
+    requires { ⌜ ((whole + 1) * n ≤ length (now words)) × (4 * whole ≤ w) × ListRoom (l .at) w n (listSizes w n) ⌝ }
     ensures { λ r. ⌜ Laid l (listBlocks (l .at) vft w (itemsIn whole w n (now (words .entry)))) r (now (out .entry)) (now (out .exit)) ⌝ }
 {
     let parts = blocks::lay_list_front(out, l, vft, w, n);
@@ -122,18 +123,26 @@ pub fn lay_list(
 
 // The list of the n vertices of the table in work, behind its `buckets` roots of trees.
 pub fn lay_vertices(out: &mut [u8], l: Layout, work: &[u32], buckets: usize, n: usize) -> Layout
-    requires { ⌜ (buckets + 2 * n ≤ length (now work)) × Room (l .at) 6 n (listSizes 6 n) ⌝ }
-    ensures { λ r. ⌜ Laid l (listBlocks (l .at) 1080158456 6 (vertexItems (met (now (work .entry)) buckets n))) r (now (out .entry)) (now (out .exit)) ⌝ }
+    requires { ⌜ (buckets + 2 * n ≤ length (now work)) × ListRoom (l .at) 6 n (listSizes 6 n) ⌝ }
+    ensures { λ r. ⌜ Laid l (listBlocks (l .at) LIST-VFT-VERTICES 6 (vertexItems (met (now (work .entry)) buckets n))) r (now (out .entry)) (now (out .exit)) ⌝ }
 {
-    lay_list(out, l, VERTEX_LIST_VFT, &work[buckets..], n, 1, 6)
+    write_list(
+        out,
+        l,
+        LIST_VFT_VERTICES,
+        &work[buckets..],
+        n,
+        1,
+        VERTEX_SIZE,
+    )
 }
 
 // The list of the n indices that stand in work from `from` on.
 pub fn lay_indices(out: &mut [u8], l: Layout, work: &[u32], from: usize, n: usize) -> Layout
-    requires { ⌜ (from + n ≤ length (now work)) × Room (l .at) 2 n (listSizes 2 n) ⌝ }
-    ensures { λ r. ⌜ Laid l (listBlocks (l .at) 1080158424 2 (numberItems 2 (take n (drop from (now (work .entry)))))) r (now (out .entry)) (now (out .exit)) ⌝ }
+    requires { ⌜ (from + n ≤ length (now work)) × ListRoom (l .at) 2 n (listSizes 2 n) ⌝ }
+    ensures { λ r. ⌜ Laid l (listBlocks (l .at) LIST-VFT-INDICES 2 (numberItems 2 (take n (drop from (now (work .entry)))))) r (now (out .entry)) (now (out .exit)) ⌝ }
 {
-    lay_list(out, l, INDEX_LIST_VFT, &work[from..], n, 0, 2)
+    write_list(out, l, LIST_VFT_INDICES, &work[from..], n, 0, INDEX_SIZE)
 }
 
 // The list of the edges of the strip's n polygons, which have `corners` corners, by the area table of `len` ids. Its items are made in work from
@@ -150,21 +159,28 @@ pub fn lay_edges(
     base: usize,
 ) -> Layout
     requires { ⌜ (afterPolygons (now strip) 14 n ≤ length (now strip)) × (corners ≡ length (cornersAt (now strip) n)) × (base + 2 * corners ≤ length (now work))
-        × Room (l .at) 8 corners (listSizes 8 corners) ⌝ }
-    ensures { λ r. ⌜ Laid l (listBlocks (l .at) 1080158440 8 (edgeItems (take len (now (ids .entry))) (cornersAt (now (strip .entry)) n))) r (now (out .entry)) (now (out .exit)) ⌝ }
+        × ListRoom (l .at) 8 corners (listSizes 8 corners) ⌝ }
+    ensures { λ r. ⌜ Laid l (listBlocks (l .at) LIST-VFT-EDGES 8 (edgeItems (take len (now (ids .entry))) (cornersAt (now (strip .entry)) n))) r (now (out .entry)) (now (out .exit)) ⌝ }
     ensures { λ _. ⌜ now (work .exit) ≡ put base (edgeWords (take len (now (ids .entry))) (cornersAt (now (strip .entry)) n)) (now (work .entry)) ⌝ }
 {
     edges::put_edges(strip, n, ids, len, work, base);
-    lay_list(out, l, EDGE_LIST_VFT, &work[base..], corners, 1, 8)
+    write_list(out, l, LIST_VFT_EDGES, &work[base..], corners, 1, EDGE_SIZE)
 }
 
-// The list of the strip's n polygons, whose quarter boxes stand in `sides`, three words to each. A record is built in its block.
-pub fn lay_polygons(out: &mut [u8], l: Layout, strip: &[u32], n: usize, sides: &[u32]) -> Layout
-    requires { ⌜ (14 ≤ length (now strip)) × (afterPolygons (now strip) 14 n ≤ length (now strip)) × (now sides ≡ boxes (polygonsAt (now strip) 14 n))
-        × Room (l .at) 48 n (listSizes 48 n) ⌝ }
-    ensures { λ r. ⌜ Laid l (listBlocks (l .at) 1080158408 48 (polygonItems (headAt (now (strip .entry)) 0 .area) 0 0 0 (polygonsAt (now (strip .entry)) 14 n))) r (now (out .entry)) (now (out .exit)) ⌝ }
+// The list of the n polygons of a cell with this area id, whose quarter boxes stand in `sides`, three words to each. A record is built in its block.
+pub fn lay_polygons(
+    out: &mut [u8],
+    l: Layout,
+    strip: &[u32],
+    area_id: u32,
+    n: usize,
+    sides: &[u32],
+) -> Layout
+    requires { ⌜ (afterPolygons (now strip) 14 n ≤ length (now strip)) × (now sides ≡ boxes (polygonsAt (now strip) 14 n))
+        × ListRoom (l .at) 48 n (listSizes 48 n) ⌝ }
+    ensures { λ r. ⌜ Laid l (listBlocks (l .at) LIST-VFT-POLYS 48 (polygonItems «area_id» 0 0 0 (polygonsAt (now (strip .entry)) 14 n))) r (now (out .entry)) (now (out .exit)) ⌝ }
 {
-    let parts = blocks::lay_list_front(out, l, POLYGON_LIST_VFT, 48, n);
-    let offsets = polygons::lay_records(out, parts, strip, strip[2], n, sides);
-    blocks::lay_offsets(out, offsets, 48, n)
+    let parts = blocks::lay_list_front(out, l, LIST_VFT_POLYS, POLY_SIZE, n);
+    let offsets = polygons::lay_records(out, parts, strip, area_id, n, sides);
+    blocks::lay_offsets(out, offsets, POLY_SIZE, n)
 }

@@ -5,20 +5,18 @@ ghost use Prim.Native.Nat.{_+_, _*_, _%_, _^_, _≤_, _<_};
 ghost use lib.ListN.{length, getD};
 ghost use Rattle.fields.specs.Bytes.{les, cat, put};
 ghost use Rattle.blocks.specs.Layout.{behind, Laid};
-ghost use Rattle.blocks.specs.Lists.{partSizes, Room};
+ghost use Rattle.blocks.specs.Lists.{partSizes, ListRoom};
 ghost use Rattle.strip.specs.Reading.{polygonOf};
 ghost use Rattle.pages.specs.Items.{partWord};
 ghost use Rattle.items.specs.Words.{partsOf};
 ghost use Rattle.items.specs.Made.{pairWord, countBits, polygonWords};
 ghost use Rattle.items.specs.Records.{start, following, past, recordsAt, Standing};
 use blocks::Layout;
+use fields::sizes::POLY_SIZE;
 use strip::Poly;
 
-// The size of a polygon's record.
-const SIZE: usize = 48;
-
 // As many records take at most a page.
-const PER_PART: usize = 341;
+const POLYS_PER_PART: usize = 341;
 
 fn pair_word(a: u32, b: u32) -> u32
     ensures { λ r. ⌜ r ≡ pairWord a b ⌝ }
@@ -125,7 +123,7 @@ fn put_records(
         let after = behind_polygon(next, p);
         put_polygon(strip, p, own, next, sides, out, to);
         next = after;
-        to += SIZE;
+        to += POLY_SIZE;
         left -= 1;
     }
     next
@@ -151,9 +149,9 @@ fn lay_part(
     ensures { λ r. ⌜ r .cursor ≡ past (now (strip .entry)) c m ⌝ }
     ensures { λ r. ⌜ Laid l (cat (recordsAt own (now (strip .entry)) c m) ∷ []) (r .layout) (now (out .entry)) (now (out .exit)) ⌝ }
 {
-    let place = blocks::pad(out, l, SIZE * m);
+    let place = blocks::pad(out, l, POLY_SIZE * m);
     let next = put_records(strip, own, c, m, sides, out, place);
-    let layout = l.alloc(SIZE * m);
+    let layout = l.alloc(POLY_SIZE * m);
     Part {
         layout: layout,
         cursor: next,
@@ -169,10 +167,10 @@ pub fn lay_records(
     n: usize,
     sides: &[u32],
 ) -> Layout
-    requires { ⌜ Standing (now strip) (now sides) start n × Room (l .at) 48 n (partSizes 48 n) ⌝ }
+    requires { ⌜ Standing (now strip) (now sides) start n × ListRoom (l .at) 48 n (partSizes 48 n) ⌝ }
     ensures { λ r. ⌜ Laid l (partsOf 48 n (recordsAt own (now (strip .entry)) start n)) r (now (out .entry)) (now (out .exit)) ⌝ }
 {
-    let k = blocks::part_count(SIZE, n);
+    let k = blocks::part_count(POLY_SIZE, n);
     let mut layout = l;
     let mut next = Cursor {
         at: 14,
@@ -183,7 +181,7 @@ pub fn lay_records(
     let mut left = n;
     let mut i = 0;
     while i < k {
-        let m = fields::least(PER_PART, left);
+        let m = fields::least(POLYS_PER_PART, left);
         let part = lay_part(out, layout, strip, own, next, m, sides);
         layout = part.layout;
         next = part.cursor;

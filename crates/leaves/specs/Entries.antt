@@ -38,10 +38,10 @@ shortsTo ws lo size (suc n) =
     ++ (short (floatsAt ws (3 * n) .x) (lo .x) (size .x) ∷ short (floatsAt ws (3 * n) .y) (lo .y) (size .y) ∷ short (floatsAt ws (3 * n) .z) (lo .z) (size .z) ∷ [])
 
 -- how many vertices there are; 65537 where there are too many, 65538 where there is too little work
-abbrev pub counted : All → ℕ
-counted (Count n) = n
-counted (Over i) = 65537
-counted Short = 65538
+abbrev pub countOrWhy : All → ℕ
+countOrWhy (Count n) = n
+countOrWhy (Over i) = 65537
+countOrWhy Short = 65538
 
 -- a refusal's number, 0 where there is none; and the words of the answer
 abbrev pub numberOf : Paper Counts → ℕ

@@ -16,7 +16,7 @@ ghost use Rattle.strip.specs.Outcome.{shown};
 ghost use Rattle.strip.specs.Check.{stripOutcome};
 ghost use Rattle.blocks.specs.Layout.{placeOf};
 ghost use Rattle.math.specs.Floats.{floatsAt};
-ghost use Rattle.leaves.specs.Entries.{sideOf, seedAt, indexOrFull, shortsTo, counted, numberOf, answerOf};
+ghost use Rattle.leaves.specs.Entries.{sideOf, seedAt, indexOrFull, shortsTo, countOrWhy, numberOf, answerOf};
 use areas::AreaAnswer;
 use math::num::bits_of_float;
 use math::num::float_of_bits;
@@ -129,7 +129,7 @@ pub extern "C" fn leaf_quantise_all(vertices: &[u32], bounds: &[u32; 6], out: &m
 // 65,536; 65538 where there is less work than four words to a triple.
 #[no_mangle]
 pub extern "C" fn leaf_number_all(triples: &[u32], work: &mut [u32]) -> usize
-    ensures { λ r. ⌜ r ≡ counted (answerWith (length (now (work .entry))) (triplesOf (now (triples .entry)))) ⌝ }
+    ensures { λ r. ⌜ r ≡ countOrWhy (answerWith (length (now (work .entry))) (triplesOf (now (triples .entry)))) ⌝ }
     ensures { λ r. ⌜ (r ≤ 65536 → take (length (triplesOf (now (triples .entry)))) (now (work .exit)) ≡ numbersFrom [] (triplesOf (now (triples .entry)))) ⌝ }
     ensures { λ _. ⌜ drop (4 * length (triplesOf (now (triples .entry)))) (now (work .exit)) ≡ drop (4 * length (triplesOf (now (triples .entry)))) (now (work .entry)) ⌝ }
 {

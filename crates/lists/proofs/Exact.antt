@@ -7,13 +7,12 @@ use mathlib.Core.Bool.{true}
 use mathlib.Core.List.{List, [], _∷_, _++_, append-assoc, append-nil}
 use mathlib.Core.Logic.{⊎-elim}
 use lib.ListN.{length}
-use Rattle.fields.specs.Bytes.{le, cut}
+use Rattle.fields.specs.Bytes.{leAt, cut}
 use Rattle.resource.specs.Section.{resolved}
-use Rattle.strip.specs.declared.Refusal.{Refusal}
 use Rattle.grammar.specs.Parts.{Good}
 use Rattle.grammar.specs.Lists.{Table, no-table, table, Parts, no-part, skipped, part, ListAt, Items as ItemsAt, empty, some}
 use Rattle.grammar.proofs.Parts.{list-length}
-use Rattle.lists.specs.declared.ListAnswer.the-variants.{Items, Refused}
+use Rattle.strip.specs.Outcome.{values, refusal}
 use Rattle.lists.specs.Lists.{addressAt, countAt, parts, total, whole, header, tableOf, partBytes, partGood, bytesTo, goodTo, allGood, listBytes, listed}
 use Rattle.lists.proofs.Lists.{resolved-most, whole-of, length-whole, good-both, length-list}
 use Rattle.lists.proofs.Accepted.{Accepted, Found, at-null, there, listed-found, found-listed, refused-items}
@@ -54,18 +53,18 @@ module _ (S G : List ℕ) (w : ℕ) (wide : 0 < w) (t : List ℕ) where
   -- one part: skipped, or good
   single : (j : ℕ) → partGood S G w t j ≡ true → Parts S G w t (16 * j) 1 (partBytes S G w t j)
   unfolding partGood partBytes addressAt countAt
-  single j g = let z : 0 ≤ le 4 t (16 * j + 8) = omega arith in ⊎-elim none-here some-here (eq-or-lt-of-le z)
+  single j g = let z : 0 ≤ leAt 4 t (16 * j + 8) = omega arith in ⊎-elim none-here some-here (eq-or-lt-of-le z)
     where
-      some-here : 0 < le 4 t (16 * j + 8) → Parts S G w t (16 * j) 1 (resolved S G (le 8 t (16 * j)) (w * le 4 t (16 * j + 8)))
+      some-here : 0 < leAt 4 t (16 * j + 8) → Parts S G w t (16 * j) 1 (resolved S G (leAt 8 t (16 * j)) (w * leAt 4 t (16 * j + 8)))
       some-here m =
-          let one : 1 ≤ le 4 t (16 * j + 8) = m in
-          let n : 0 < w * le 4 t (16 * j + 8) = omega (arith, mul-le-mul-left w one) in
-          subst (Parts S G w t (16 * j) 1) (append-nil (resolved S G (le 8 t (16 * j)) (w * le 4 t (16 * j + 8)))) (part (whole-good S G (le 8 t (16 * j)) (w * le 4 t (16 * j + 8)) n g) no-part)
+          let one : 1 ≤ leAt 4 t (16 * j + 8) = m in
+          let n : 0 < w * leAt 4 t (16 * j + 8) = omega (arith, mul-le-mul-left w one) in
+          subst (Parts S G w t (16 * j) 1) (append-nil (resolved S G (leAt 8 t (16 * j)) (w * leAt 4 t (16 * j + 8)))) (part (whole-good S G (leAt 8 t (16 * j)) (w * leAt 4 t (16 * j + 8)) n g) no-part)
 
-      none-here : 0 ≡ le 4 t (16 * j + 8) → Parts S G w t (16 * j) 1 (resolved S G (le 8 t (16 * j)) (w * le 4 t (16 * j + 8)))
+      none-here : 0 ≡ leAt 4 t (16 * j + 8) → Parts S G w t (16 * j) 1 (resolved S G (leAt 8 t (16 * j)) (w * leAt 4 t (16 * j + 8)))
       none-here z =
-          let e : w * le 4 t (16 * j + 8) ≡ 0 = ap (λ (x : ℕ). w * x) (sym z) ∙ mul-zero w in
-          rw (none-there S G (le 8 t (16 * j)) (w * le 4 t (16 * j + 8)) e) (skipped (sym z) no-part)
+          let e : w * leAt 4 t (16 * j + 8) ≡ 0 = ap (λ (x : ℕ). w * x) (sym z) ∙ mul-zero w in
+          rw (none-there S G (leAt 8 t (16 * j)) (w * leAt 4 t (16 * j + 8)) e) (skipped (sym z) no-part)
 
   -- one more behind others
   more : {at k : ℕ} {bs : List ℕ} (j : ℕ) → Parts S G w t at k bs → at + 16 * k ≡ 16 * j → partGood S G w t j ≡ true → Parts S G w t at (suc k) (bs ++ partBytes S G w t j)
@@ -97,11 +96,11 @@ module _ (S G : List ℕ) (w : ℕ) (wide : 0 < w) (t : List ℕ) where
   unfolding partGood partBytes addressAt countAt
   complete j e g no-part = rw (add-zero j, append-nil) (g, refl)
   complete j e g (skipped {k = k} z p) =
-      let none : w * le 4 t (16 * j + 8) ≡ 0 = rw (← e, z, mul-zero) in
-      turn _ j k g (none-asked S G (le 8 t (16 * j)) (w * le 4 t (16 * j + 8)) none) (none-there S G (le 8 t (16 * j)) (w * le 4 t (16 * j + 8)) none) (λ n. complete (suc j) (omega arith) n p)
+      let none : w * leAt 4 t (16 * j + 8) ≡ 0 = rw (← e, z, mul-zero) in
+      turn _ j k g (none-asked S G (leAt 8 t (16 * j)) (w * leAt 4 t (16 * j + 8)) none) (none-there S G (leAt 8 t (16 * j)) (w * leAt 4 t (16 * j + 8)) none) (λ n. complete (suc j) (omega arith) n p)
   complete j e g (part {k = k} {b = b} h p) =
-      let here : Good S G (le 8 t (16 * j)) (w * le 4 t (16 * j + 8)) b = rw e at h in
-      turn _ j k g (good-whole S G (le 8 t (16 * j)) (w * le 4 t (16 * j + 8)) here) (here .there) (λ n. complete (suc j) (omega arith) n p)
+      let here : Good S G (leAt 8 t (16 * j)) (w * leAt 4 t (16 * j + 8)) b = rw e at h in
+      turn _ j k g (good-whole S G (leAt 8 t (16 * j)) (w * leAt 4 t (16 * j + 8)) here) (here .there) (λ n. complete (suc j) (omega arith) n p)
 
 -- ---- the list
 
@@ -111,9 +110,9 @@ module _ (S G : List ℕ) (w : ℕ) (wide : 0 < w) where
   itemsOf va n = cut w n (listBytes S G w (tableOf S G va))
 
   -- a table that is whole has the parts that the header counts
-  parts-are : (va : ℕ) → whole S G (le 8 (header S G va) 0x10) (16 * le 4 (header S G va) 0x20) ≡ true → parts (tableOf S G va) ≡ le 4 (header S G va) 0x20
+  parts-are : (va : ℕ) → whole S G (leAt 8 (header S G va) 0x10) (16 * leAt 4 (header S G va) 0x20) ≡ true → parts (tableOf S G va) ≡ leAt 4 (header S G va) 0x20
   unfolding tableOf
-  parts-are va e = omega (arith, length-whole S G (le 8 (header S G va) 0x10) (16 * le 4 (header S G va) 0x20) e)
+  parts-are va e = omega (arith, length-whole S G (leAt 8 (header S G va) 0x10) (16 * leAt 4 (header S G va) 0x20) e)
 
   found-items : {va n : ℕ} → Found S G w va n → ItemsAt S G w va (itemsOf va n)
   unfolding cut header tableOf listBytes
@@ -126,7 +125,7 @@ module _ (S G : List ℕ) (w : ℕ) (wide : 0 < w) where
         parts = t;
         bytes = listBytes S G w t;
         header-good = whole-good S G va 48 (omega arith) (a .header-whole);
-        parts-good = whole-table S G (le 8 (header S G va) 0x10) (le 4 (header S G va) 0x20) (a .table-whole);
+        parts-good = whole-table S G (leAt 8 (header S G va) 0x10) (leAt 4 (header S G va) 0x20) (a .table-whole);
         items-good = subst (λ (k : ℕ). Parts S G w t 0 k (listBytes S G w t)) (parts-are va (a .table-whole)) (sound S G w wide t (parts t) (a .parts-good));
         adds-up = length-list S G w t (a .parts-good) ∙ ap (λ (n : ℕ). w * n) (a .adds-up);
         are = refl;
@@ -141,11 +140,11 @@ module _ (S G : List ℕ) (w : ℕ) (wide : 0 < w) where
     t = tableOf S G va
 
     abbrev k : ℕ
-    k = le 4 (header S G va) 0x20
+    k = leAt 4 (header S G va) 0x20
 
-    has-table : (t ≡ l .parts) × (whole S G (le 8 (header S G va) 0x10) (16 * k) ≡ true)
+    has-table : (t ≡ l .parts) × (whole S G (leAt 8 (header S G va) 0x10) (16 * k) ≡ true)
     unfolding tableOf
-    has-table = table-whole S G (subst (λ (x : List ℕ). Table S G (le 8 x 0x10) (le 4 x 0x20) (l .parts)) (sym header-is) (l .parts-good))
+    has-table = table-whole S G (subst (λ (x : List ℕ). Table S G (leAt 8 x 0x10) (leAt 4 x 0x20) (l .parts)) (sym header-is) (l .parts-good))
 
     count-is : 0 + k ≡ parts t
     count-is = omega (arith, parts-are va (has-table .1))
@@ -154,7 +153,7 @@ module _ (S G : List ℕ) (w : ℕ) (wide : 0 < w) where
     unfolding goodTo
     has-parts =
         complete S G w wide t 0 refl refl
-        (subst (λ (u : List ℕ). Parts S G w u 0 k (l .bytes)) (sym (has-table .0)) (subst (λ (x : List ℕ). Parts S G w (l .parts) 0 (le 4 x 0x20) (l .bytes)) (sym header-is) (l .items-good)))
+        (subst (λ (u : List ℕ). Parts S G w u 0 k (l .bytes)) (sym (has-table .0)) (subst (λ (x : List ℕ). Parts S G w (l .parts) 0 (leAt 4 x 0x20) (l .bytes)) (sym header-is) (l .items-good)))
 
     all-good : allGood S G w t ≡ true
     all-good = subst (λ (n : ℕ). goodTo S G w t n ≡ true) count-is (has-parts .0)
@@ -163,8 +162,8 @@ module _ (S G : List ℕ) (w : ℕ) (wide : 0 < w) where
     unfolding listBytes bytesTo
     bytes-are = ap (bytesTo S G w t) (sym count-is) ∙ has-parts .1
 
-    items-are : le 4 (header S G va) 8 ≡ le 4 (l .header) 8
-    items-are = ap (λ (x : List ℕ). le 4 x 8) header-is
+    items-are : leAt 4 (header S G va) 8 ≡ leAt 4 (l .header) 8
+    items-are = ap (λ (x : List ℕ). leAt 4 x 8) header-is
 
     accepted : Accepted S G w va
     accepted =
@@ -173,10 +172,10 @@ module _ (S G : List ℕ) (w : ℕ) (wide : 0 < w) where
           header-whole = good-whole S G va 48 (l .header-good);
           table-whole = has-table .1;
           parts-good = all-good;
-          adds-up = eq-of-mul-eq-mul-left w wide (total t) (le 4 (header S G va) 8) (sym (length-list S G w t all-good) ∙ ap length bytes-are ∙ l .adds-up ∙ ap (λ (n : ℕ). w * n) (sym items-are));
+          adds-up = eq-of-mul-eq-mul-left w wide (total t) (leAt 4 (header S G va) 8) (sym (length-list S G w t all-good) ∙ ap length bytes-are ∙ l .adds-up ∙ ap (λ (n : ℕ). w * n) (sym items-are));
         }
 
-    length-is : le 4 (l .header) 8 ≡ length xs
+    length-is : leAt 4 (l .header) 8 ≡ length xs
     length-is = sym (list-length S G w l)
 
   items-found : {va : ℕ} {xs : List (List ℕ)} → ItemsAt S G w va xs → Found S G w va (length xs) × (xs ≡ itemsOf va (length xs))
@@ -185,11 +184,11 @@ module _ (S G : List ℕ) (w : ℕ) (wide : 0 < w) where
   items-found (some {va = va} far l) = (subst (Found S G w va) (items-are far l ∙ length-is far l) (there (accepted far l)), l .are ∙ rw (length-is far l, ← (bytes-are far l)))
 
   module _ (place : ℕ) where
-    pub listed-items : {va n : ℕ} → listed S G w va place ≡ Items n → ItemsAt S G w va (itemsOf va n)
+    pub listed-items : {va n : ℕ} → listed S G w va place ≡ values n → ItemsAt S G w va (itemsOf va n)
     listed-items e = found-items (listed-found S G w place e)
 
-    pub items-listed : {va : ℕ} {xs : List (List ℕ)} → ItemsAt S G w va xs → (listed S G w va place ≡ Items (length xs)) × (xs ≡ itemsOf va (length xs))
+    pub items-listed : {va : ℕ} {xs : List (List ℕ)} → ItemsAt S G w va xs → (listed S G w va place ≡ values (length xs)) × (xs ≡ itemsOf va (length xs))
     items-listed i = let (f, e) = items-found i in (found-listed S G w place f, e)
 
-    pub refused-none : {va : ℕ} {r : Refusal} {xs : List (List ℕ)} → listed S G w va place ≡ Refused r → ItemsAt S G w va xs → ⊥
+    pub refused-none : {va number p : ℕ} {xs : List (List ℕ)} → listed S G w va place ≡ refusal number p → ItemsAt S G w va xs → ⊥
     refused-none e i = refused-items (sym e ∙ items-listed i .0)

@@ -12,7 +12,7 @@ use lib.Dec.{eqb}
 use lib.Seq.{take-all, take-nil, drop-drop, drop-append-le, take-append-le, drop-append-add, length-take-le, getD-take, getD-drop, take-take}
 use borrow.Rule.Slice.PartAt.{part-to-end}
 use borrow.Author.Tests.{ne-eqb, eqb-true, eqb-false}
-use Rattle.fields.specs.Bytes.{le}
+use Rattle.fields.specs.Bytes.{leAt}
 use Rattle.fields.proofs.Bytes.{same}
 use Rattle.resource.specs.Section.{resolved, good}
 use Rattle.resource.proofs.Parts.{good-length, bad-empty, short-bad, full-good}
@@ -135,7 +135,7 @@ module _ (system graphics : List ℕ) (size : ℕ) (table : List ℕ) where
 -- ---- items
 
 -- a field of an item is a field of the bytes
-pub item-field : (size : ℕ) (bytes : List ℕ) (i w off : ℕ) → off + w ≤ size → le w (item size bytes i) off ≡ le w bytes (size * i + off)
+pub item-field : (size : ℕ) (bytes : List ℕ) (i w off : ℕ) → off + w ≤ size → leAt w (item size bytes i) off ≡ leAt w bytes (size * i + off)
 unfolding item
 item-field size bytes i w off f =
     same w (take size (drop (size * i) bytes)) off bytes (size * i + off)
@@ -246,5 +246,5 @@ module _ (size : ℕ) (bytes : List ℕ) (i n : ℕ) where
       rw (split, drop-take (size * j) (size * (n - j)) (drop (size * i) bytes), take-take size (size * (n - j)) (drop (size * j) (drop (size * i) bytes)) room, drop-drop (size * j) (size * i) bytes, mul-add size i j)
 
   -- a field of its item j
-  pub run-field : (w j off : ℕ) → j < n → off + w ≤ size → le w (take (size * n) (drop (size * i) bytes)) (size * j + off) ≡ le w (item size bytes (i + j)) off
-  run-field w j off l f = sym (item-field size (take (size * n) (drop (size * i) bytes)) j w off f) ∙ ap (λ (x : List ℕ). le w x off) (run-item j l)
+  pub run-field : (w j off : ℕ) → j < n → off + w ≤ size → leAt w (take (size * n) (drop (size * i) bytes)) (size * j + off) ≡ leAt w (item size bytes (i + j)) off
+  run-field w j off l f = sym (item-field size (take (size * n) (drop (size * i) bytes)) j w off f) ∙ ap (λ (x : List ℕ). leAt w x off) (run-item j l)

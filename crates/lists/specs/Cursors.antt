@@ -1,7 +1,9 @@
 -- Where a cursor stands in a list. Definitions only.
 use Prim.Native.Nat.{ℕ, _+_, _≤_, _<_}
+use denote.Ref.{RefT}
 use mathlib.Core.Path.{_≡_}
 use mathlib.Core.List.{List}
+use Rattle.resource.specs.Section.{resolvedAt}
 use Rattle.lists.specs.declared.Cursor.{Cursor}
 use Rattle.lists.specs.Lists.{addressAt, countAt, parts, before}
 
@@ -18,3 +20,7 @@ pub record Holds (table : List ℕ) (i : ℕ) (c : Cursor) : Type 0 where
   pub inside : c .part < parts table
   pub low : c .first ≤ i
   pub high : i < c .first + c .count
+
+-- where byte off of the part at an address stands in the lent sections
+abbrev pub runAt : RefT (List ℕ) → RefT (List ℕ) → ℕ → ℕ → ℕ × ℕ
+runAt system graphics va off = (resolvedAt system graphics va .0, off + resolvedAt system graphics va .1)

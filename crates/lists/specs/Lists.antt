@@ -5,10 +5,12 @@ use mathlib.Core.Bool.{Bool, true, cond, _&&_, _||_}
 use mathlib.Core.List.{List, [], _++_}
 use lib.Dec.{eqb}
 use lib.ListN.{length, take, drop}
-use Rattle.fields.specs.Bytes.{le}
+use Rattle.fields.specs.Bytes.{leAt}
 use Rattle.resource.specs.Section.{good, resolved}
+use Rattle.strip.specs.Outcome.{Paper, values, refusal, refusalOf}
 use Rattle.lists.specs.declared.ListAnswer.{ListAnswer}
 use Rattle.lists.specs.declared.ListAnswer.the-variants.{Items, Refused}
+use Rattle.fields.specs.Sizes.{LIST-SIZE}
 
 -- item i of a list of bytes, size bytes to an item
 unfoldable pub item : ℕ → List ℕ → ℕ → List ℕ
@@ -16,10 +18,10 @@ item size bytes i = take size (drop (size * i) bytes)
 
 -- entry k of a part table, 16 bytes: its address, and its item count at 8
 unfoldable pub addressAt : List ℕ → ℕ → ℕ
-addressAt table k = le 8 table (16 * k)
+addressAt table k = leAt 8 table (16 * k)
 
 unfoldable pub countAt : List ℕ → ℕ → ℕ
-countAt table k = le 4 table (16 * k + 8)
+countAt table k = leAt 4 table (16 * k + 8)
 
 -- the parts that a table has
 abbrev pub parts : List ℕ → ℕ
@@ -41,10 +43,10 @@ module _ (system graphics : List ℕ) where
 
   -- the list's header, and its part table: address at 0x10, part count at 0x20
   unfoldable pub header : ℕ → List ℕ
-  header va = resolved system graphics va 48
+  header va = resolved system graphics va LIST-SIZE
 
   unfoldable pub tableOf : ℕ → List ℕ
-  tableOf va = resolved system graphics (le 8 (header va) 0x10) (16 * le 4 (header va) 0x20)
+  tableOf va = resolved system graphics (leAt 8 (header va) 0x10) (16 * leAt 4 (header va) 0x20)
 
 module _ (system graphics : List ℕ) (size : ℕ) where
   unfoldable pub partBytes : List ℕ → ℕ → List ℕ
@@ -71,18 +73,23 @@ module _ (system graphics : List ℕ) (size : ℕ) where
   allGood table = goodTo table (parts table)
 
   -- the list at an address: address 0 is empty; 35 header, part table or a part not good; 36 the counts don't add up to the item count at 8
-  unfoldable pub listed : ℕ → ℕ → ListAnswer
+  unfoldable pub listed : ℕ → ℕ → Paper ℕ
   listed va place =
-      cond (eqb va 0) (Items 0)
-      (cond (whole system graphics va 48)
-      (cond (whole system graphics (le 8 (header system graphics va) 0x10) (16 * le 4 (header system graphics va) 0x20))
+      cond (eqb va 0) (values 0)
+      (cond (whole system graphics va LIST-SIZE)
+      (cond (whole system graphics (leAt 8 (header system graphics va) 0x10) (16 * leAt 4 (header system graphics va) 0x20))
       (cond (allGood (tableOf system graphics va))
-      (cond (eqb (total (tableOf system graphics va)) (le 4 (header system graphics va) 8))
-      (Items (le 4 (header system graphics va) 8))
-      (Refused (record { number = 36; place = place })))
-      (Refused (record { number = 35; place = place })))
-      (Refused (record { number = 35; place = place })))
-      (Refused (record { number = 35; place = place })))
+      (cond (eqb (total (tableOf system graphics va)) (leAt 4 (header system graphics va) 8))
+      (values (leAt 4 (header system graphics va) 8))
+      (refusal 36 place))
+      (refusal 35 place))
+      (refusal 35 place))
+      (refusal 35 place))
+
+-- what each case of the answer says
+abbrev pub paper : ListAnswer → Paper ℕ
+paper (Items n) = values n
+paper (Refused r) = refusalOf r
 
 -- an item count is of 32 bits
 abbrev pub Few : ListAnswer → Type 0

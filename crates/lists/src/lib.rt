@@ -2,8 +2,10 @@
 ghost use mathlib.Core.Path.{_≡_};
 ghost use Prim.Native.Nat.{_+_, _-_, _*_, _^_, _≤_, _<_};
 ghost use lib.ListN.{take, drop};
-ghost use Rattle.lists.specs.Lists.{parts, before, total, tableOf, listBytes, listed, Few, Readable};
-ghost use Rattle.lists.specs.Cursors.{Stands, Holds};
+ghost use Rattle.lists.specs.Lists.{parts, before, total, tableOf, listBytes, listed, paper, Few, Readable};
+ghost use Rattle.lists.specs.Cursors.{Stands, Holds, runAt};
+use fields::sizes::LIST_PART_SIZE;
+use fields::sizes::LIST_SIZE;
 use fields::u32_le;
 use fields::u64_le;
 use resource::good_part;
@@ -27,10 +29,10 @@ pub struct Cursor {
 pub fn list_table<'a>(system: &'a [u8], graphics: &'a [u8], va: u64) -> &'a [u8]
     ensures { λ r. ⌜ now r ≡ tableOf (now (system .entry)) (now (graphics .entry)) va ⌝ }
 {
-    let h = resolve(system, graphics, va, 48);
+    let h = resolve(system, graphics, va, LIST_SIZE);
     let address = u64_le(h, 0x10);
     let count = u32_le(h, 0x20) as usize;
-    resolve(system, graphics, address, 16 * count)
+    resolve(system, graphics, address, LIST_PART_SIZE * count)
 }
 
 // How many items the list at va has. Counts are compared only when every part was looked at.
@@ -41,27 +43,27 @@ pub fn read_list<'a>(
     item_size: u16,
     place: usize,
 ) -> ListAnswer
-    ensures { λ r. ⌜ (r ≡ listed (now (system .entry)) (now (graphics .entry)) «item_size» va place) × Few r ⌝ }
+    ensures { λ r. ⌜ (paper r ≡ listed (now (system .entry)) (now (graphics .entry)) «item_size» va place) × Few r ⌝ }
 {
     if va == 0 {
         return ListAnswer::Items(0);
     }
-    let h = resolve(system, graphics, va, 48);
-    if h.len() < 48 {
+    let h = resolve(system, graphics, va, LIST_SIZE);
+    if h.len() < LIST_SIZE {
         return ListAnswer::Refused(Refusal { number: 35, place });
     }
     let items = u32_le(h, 8) as usize;
     let count = u32_le(h, 0x20) as usize;
     let table = list_table(system, graphics, va);
-    if table.len() < 16 * count {
+    if table.len() < LIST_PART_SIZE * count {
         return ListAnswer::Refused(Refusal { number: 35, place });
     }
     let mut total: usize = 0;
     let mut k: usize = 0;
     while k < count {
-        let part = u32_le(table, 16 * k + 8) as usize;
+        let part = u32_le(table, LIST_PART_SIZE * k + 8) as usize;
         let bytes = (item_size as usize) * part;
-        if resolve(system, graphics, u64_le(table, 16 * k), bytes).len() < bytes {
+        if resolve(system, graphics, u64_le(table, LIST_PART_SIZE * k), bytes).len() < bytes {
             return ListAnswer::Refused(Refusal { number: 35, place });
         }
         total += part;
@@ -82,14 +84,14 @@ fn cursor_at(table: &[u8], k: usize, first: usize) -> Cursor
     Cursor {
         part: k,
         first,
-        count: u32_le(table, 16 * k + 8) as usize,
-        address: u64_le(table, 16 * k),
+        count: u32_le(table, LIST_PART_SIZE * k + 8) as usize,
+        address: u64_le(table, LIST_PART_SIZE * k),
     }
 }
 
 // The cursor at the head of a list.
 pub fn list_start(table: &[u8]) -> Cursor
-    ensures { λ r. ⌜ Stands (now (table .entry)) r ⌝ }
+    ensures { λ r. ⌜ Stands (now (table .entry)) r × (r .part ≡ 0) × (r .first ≡ 0) ⌝ }
 {
     cursor_at(table, 0, 0)
 }
@@ -102,7 +104,7 @@ fn back_to(table: &[u8], from: Cursor, i: usize) -> Cursor
     let mut c = from;
     while i < c.first {
         let k = c.part - 1;
-        let count = u32_le(table, 16 * k + 8) as usize;
+        let count = u32_le(table, LIST_PART_SIZE * k + 8) as usize;
         c = cursor_at(table, k, c.first - count);
     }
     c
@@ -143,7 +145,8 @@ pub fn list_run<'a>(
     i: usize,
 ) -> &'a [u8]
     requires { ⌜ Readable (now system) (now graphics) size (now table) × Holds (now table) i c × (0 < size) ⌝ }
-    ensures { λ r. ⌜ now r ≡ take (size * (c .first + c .count - i)) (drop (size * i) (listBytes (now (system .entry)) (now (graphics .entry)) size (now (table .entry)))) ⌝ }
+    ensures content { λ r. ⌜ now r ≡ take (size * (c .first + c .count - i)) (drop (size * i) (listBytes (now (system .entry)) (now (graphics .entry)) size (now (table .entry)))) ⌝ }
+    ensures place { λ r. ⌜ r .ptr ≡ runAt (system .entry) (graphics .entry) (c .address) (size * (i - c .first)) ⌝ }
 {
     let count = c.count;
     let p = good_part(system, graphics, c.address, size * count);

@@ -6,7 +6,7 @@ use Prim.Native.Nat.{zero, suc}
 use lib.Dec.{T}
 use lib.Ieee.{Float, nan, inf, fin, Format, ne, isNan, fits}
 use lib.Ieee.Compare.{differs-from-itself}
-use Rattle.math.specs.MinMax.{Picked, plain, first}
+use Rattle.math.specs.MinMax.{Picked, plain, chosen}
 use Rattle.math.proofs.Whole.{is-nan, same-no-nan}
 use Rattle.math.proofs.Order.{Order}
 
@@ -49,7 +49,7 @@ module _ {before under : Float → Float → Bool} (o : Order before under) (a b
   stays h k = record { one = inl refl; left = o .self a; right = λ t. o .total a b (same-no-nan a h) t k }
 
   -- ---- and of `first`
-  pub picks : Picked under a b (first before a b)
+  pub picks : Picked under a b (chosen before a b)
   picks = go (isNan a) refl (before b a) refl
     where
       go : (n : Bool) → isNan a ≡ n → (c : Bool) → before b a ≡ c → Picked under a b (cond n b (cond c b a))
@@ -85,11 +85,11 @@ module _ {before under : Float → Float → Bool} (o : Order before under) (a b
       | inr e ↦ elim (g' .one) [ inl e' ↦ sym (both r' r e' e g' g) | inr e' ↦ ap plain (e ∙ sym e') ]
     ]
 
-    pub agree-first : (r : Float) → Picked under a b r → plain r ≡ plain (first before a b)
-    agree-first r g = agree r (first before a b) g picks
+    pub agree-first : (r : Float) → Picked under a b r → plain r ≡ plain (chosen before a b)
+    agree-first r g = agree r (chosen before a b) g picks
 
   -- ---- what is picked next does not turn on that sign
-  pub first-plain : plain (first before (plain a) b) ≡ plain (first before a b)
+  pub first-plain : plain (chosen before (plain a) b) ≡ plain (chosen before a b)
   first-plain = rw (nan-plain a, o .unsigned b a) (go (isNan a) (before b a))
     where
       go : (n c : Bool) → plain (cond n b (cond c b (plain a))) ≡ plain (cond n b (cond c b a))

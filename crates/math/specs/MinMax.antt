@@ -30,15 +30,15 @@ plain (fin s zero e) = fin false zero e
 plain (fin s (suc m) e) = fin s (suc m) e
 
 -- One choice, for equations about what no zero's sign shows in: b where a is a NaN or b is before a, and a otherwise.
-abbrev pub first : (Float → Float → Bool) → Float → Float → Float
-first before a b = cond (isNan a) b (cond (before b a) b a)
+abbrev pub chosen : (Float → Float → Bool) → Float → Float → Float
+chosen before a b = cond (isNan a) b (cond (before b a) b a)
 
 -- above
 abbrev pub gt : Float → Float → Bool
 gt x y = lt y x
 
 unfoldable pub lesser : Float → Float → Float
-lesser a b = first lt a b
+lesser a b = chosen lt a b
 
 unfoldable pub greater : Float → Float → Float
-greater a b = first gt a b
+greater a b = chosen gt a b

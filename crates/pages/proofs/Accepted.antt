@@ -9,7 +9,7 @@ use lib.ListN.{length}
 use lib.Dec.{ltb}
 use borrow.Author.Tests.{ltb-false, le-ltb}
 use Rattle.math.specs.declared.vec3.Vec3.{Vec3 as Floats}
-use Rattle.strip.specs.Cell.{Polygon, Cell, All}
+use Rattle.strip.specs.Cell.{NavPoly, Cell, All}
 use Rattle.strip.specs.Box.{finiteBox}
 use Rattle.distinct.specs.Distinct.{withNew, distinctFrom}
 use Rattle.distinct.proofs.Final.{length-grows, distinct-append}
@@ -18,20 +18,20 @@ use Rattle.areas.proofs.Seeds.{length-seeded}
 use Rattle.pages.specs.Items.{Corner, gather, cornersIn, corners, triples, named}
 use Rattle.pages.specs.Sectors.{leafCounts}
 use Rattle.pages.specs.Pages.{loOf, extentOf, vertices, areas, links, sectors, pages}
-use Rattle.pages.specs.Checks.{Verdict, fine, when, first, at, cornerFault, cornersFault, polygonFault, polygonsVerdict, leafFault, leavesVerdict, cellVerdict}
+use Rattle.pages.specs.Checks.{Verdict, fine, faultIf, firstFault, at, cornerFault, cornersFault, polygonFault, polygonsVerdict, leafFault, leavesVerdict, cellVerdict}
 use Rattle.pages.specs.Accepted.{Checked, AllChecked, FewIn, Accepted}
 
 -- ---- a check, checks in order, and what comes after a place
 
-when-fine : (b : Bool) (n : ℕ) → (when b (suc n) ≡ 0) ↔ (b ≡ false)
+when-fine : (b : Bool) (n : ℕ) → (faultIf b (suc n) ≡ 0) ↔ (b ≡ false)
 when-fine true n = (λ e. absurd (omega arith), λ e. absurd (true≢false e))
 when-fine false n = (λ e. refl, λ e. refl)
 
-not-fine : (b : Bool) (n : ℕ) → (when (not b) (suc n) ≡ 0) ↔ (b ≡ true)
+not-fine : (b : Bool) (n : ℕ) → (faultIf (not b) (suc n) ≡ 0) ↔ (b ≡ true)
 not-fine true n = (λ e. refl, λ e. refl)
 not-fine false n = (λ e. absurd (omega arith), λ e. absurd (true≢false (sym e)))
 
-over-fine : (a b n : ℕ) → (when (ltb a b) (suc n) ≡ 0) ↔ (b ≤ a)
+over-fine : (a b n : ℕ) → (faultIf (ltb a b) (suc n) ≡ 0) ↔ (b ≤ a)
 over-fine a b n = (λ e. ltb-false a b (when-fine (ltb a b) n .0 e), λ h. when-fine (ltb a b) n .1 (le-ltb a b h))
 
 pub or-false : (x y : Bool) → (x || y) ≡ false → (x ≡ false) × (y ≡ false)
@@ -39,20 +39,20 @@ or-false true y e = absurd (true≢false e)
 or-false false y e = (refl, e)
 
 -- 12, which has two sides
-outside-fine : (least most n k : ℕ) → (when (ltb n least || ltb most n) (suc k) ≡ 0) ↔ ((least ≤ n) × (n ≤ most))
+outside-fine : (least most n k : ℕ) → (faultIf (ltb n least || ltb most n) (suc k) ≡ 0) ↔ ((least ≤ n) × (n ≤ most))
 outside-fine least most n k =
     let w = when-fine (ltb n least || ltb most n) k in (
       λ e. let h = or-false (ltb n least) (ltb most n) (w .0 e) in (ltb-false n least (h .0), ltb-false most n (h .1)),
       λ h. w .1 (rw (le-ltb n least (h .0), le-ltb most n (h .1))),
     )
 
-one-fine : {A : Type 0} (a : ℕ) → (a ≡ 0) ↔ A → (first (a ∷ []) ≡ 0) ↔ A
-unfolding first
+one-fine : {A : Type 0} (a : ℕ) → (a ≡ 0) ↔ A → (firstFault (a ∷ []) ≡ 0) ↔ A
+unfolding firstFault
 one-fine zero f = (λ e. f .0 refl, λ h. refl)
 one-fine (suc a) f = (λ e. absurd (omega arith), λ h. absurd (omega (arith, f .1 h)))
 
-then-fine : {A B : Type 0} (a : ℕ) (rest : List ℕ) → (a ≡ 0) ↔ A → (first rest ≡ 0) ↔ B → (first (a ∷ rest) ≡ 0) ↔ (A × B)
-unfolding first
+then-fine : {A B : Type 0} (a : ℕ) (rest : List ℕ) → (a ≡ 0) ↔ A → (firstFault rest ≡ 0) ↔ B → (firstFault (a ∷ rest) ≡ 0) ↔ (A × B)
+unfolding firstFault
 then-fine zero rest f g = (λ e. (f .0 refl, g .0 e), λ h. g .1 (h .1))
 then-fine (suc a) rest f g = (λ e. absurd (omega arith), λ h. absurd (omega (arith, f .1 (h .0))))
 
@@ -110,7 +110,7 @@ corners-fine ts us (k ∷ ks) ht hu =
 -- ---- polygons
 
 module _ (lo size : Floats) where
-  polygon-fine : (ts us : List ℕ) (start : ℕ) (p : Polygon) → length ts ≤ 65536 → length us ≤ 32
+  polygon-fine : (ts us : List ℕ) (start : ℕ) (p : NavPoly) → length ts ≤ 65536 → length us ≤ 32
       → (polygonFault lo size ts us start p ≡ 0) ↔ (Checked start p × Few ts us (cornersIn lo size p))
   unfolding polygonFault
   polygon-fine ts us start p ht hu =
@@ -122,7 +122,7 @@ module _ (lo size : Floats) where
       (then-fine _ _ (corners-fine ts us (cornersIn lo size p) ht hu)
       (one-fine _ (over-fine 7 (length (p .links)) 15)))))
 
-  polygons-fine : {A : Type 0} (ts us : List ℕ) (start k : ℕ) (ps : List Polygon) (rest : Verdict) → length ts ≤ 65536 → length us ≤ 32 → (rest ≡ fine) ↔ A
+  polygons-fine : {A : Type 0} (ts us : List ℕ) (start k : ℕ) (ps : List NavPoly) (rest : Verdict) → length ts ≤ 65536 → length us ≤ 32 → (rest ≡ fine) ↔ A
       → (polygonsVerdict lo size ts us start k ps rest ≡ fine) ↔ (AllChecked start ps × (Few ts us (corners lo size ps) × A))
   unfolding polygonsVerdict gather distinctFrom named
   polygons-fine ts us start k [] rest ht hu f = renamed (λ a. (tt, ((ht, hu), a))) (λ h. h .1 .1) f

@@ -7,10 +7,10 @@ use lib.Ieee.{add, sub, mul, div, lt, le, eq, ofInt, ofBits, toBits, ofFields, r
 use Rattle.fields.specs.Bytes.{les, leBytes, cat}
 use Rattle.fields.specs.Rows.{rowBytes, pack}
 use Rattle.math.specs.MinMax.{lesser, greater}
-use Rattle.quantise.specs.Short.{short, fraction, clamped, nearest, coordinate}
+use Rattle.quantise.specs.Short.{short, fraction, clamped, nearestNumber, coordinate}
 use Rattle.quantise.specs.Quarter.{side}
 use Rattle.quantise.specs.Bounds.{fold}
-use Rattle.strip.specs.Cell.{Vec3, Half, Edge, Polygon, Portal, Cell, encode, encodeAs, each, vecWords, headWords, halfWords, edgeWords, polygonHeadAs, polygonWordsAs, portalWords, pointWords}
+use Rattle.strip.specs.Cell.{Vec3, NavEdgeEnd, NavEdge, NavPoly, NavPortal, Cell, encode, encodeAs, each, vecWords, headWords, halfWords, edgeWords, polygonHeadAs, polygonWordsAs, portalWords, pointWords}
 use Rattle.strip.specs.Box.{finiteBox}
 use Rattle.distinct.specs.Distinct.{indexOf, withNew, distinctFrom}
 use Rattle.areas.specs.EdgeHalf.{halfWord}
@@ -18,26 +18,26 @@ use Rattle.blocks.specs.Layout.{placeOf}
 use Rattle.blocks.specs.Lists.{tableBytes, frontBlocks, listBlocks}
 use Rattle.pages.specs.Items.{noEdge, gather, tripleIn, cornersOf, named, vertexItems, indexItems, edgeItems, boxOf, polygonItems}
 use Rattle.pages.specs.Sectors as Sectors
-use Rattle.pages.specs.Sectors.{middle, leaves, between, inside, leafOf, pointsOf, axisMeets, meets, idsOf, grown, treeOf, pointCount, byteCount, leafCounts, preorder, pointItems, leafBlocks, treeBlocks}
+use Rattle.pages.specs.Sectors.{middle, leaves, between, inside, leafOf, pointsOf, axisMeets, meets, leafIds, grown, treeOf, pointCount, byteCount, leafCounts, preorder, pointItems, leafBlocks, treeBlocks}
 use Rattle.pages.specs.Pages.{portalItems, padded, headerBytes, vertices, areas, links, sectors, counts, sizesOf, endHeader, endVertices, endIndices, endEdges, endPolygons, endSectors, endPortals, placesOf, sizes, header, blocks, pages}
-use Rattle.pages.specs.Checks.{Verdict, fine, refused, first, at, cornerFault, cornersFault, polygonFault, polygonsVerdict, leavesVerdict, cellVerdict}
+use Rattle.pages.specs.Checks.{Verdict, fine, refused, firstFault, at, cornerFault, cornersFault, polygonFault, polygonsVerdict, leavesVerdict, cellVerdict}
 use Rattle.pages.specs.Reread.{halfAgain, edgeAgain, positionAgain, polygonAgain, portalAgain, pointAgain, reread}
 
 abbrev pub vec : ℕ → ℕ → ℕ → Vec3
 vec x y z = record { x = x; y = y; z = z }
 
-abbrev pub half : (area poly unk2 unk3 : ℕ) → Half
+abbrev pub half : (area poly unk2 unk3 : ℕ) → NavEdgeEnd
 half area poly unk2 unk3 = record { area = area; poly = poly; unk3 = unk3; unk2 = unk2 }
 
-abbrev pub edge : Half → Half → Edge
+abbrev pub edge : NavEdgeEnd → NavEdgeEnd → NavEdge
 edge a b = record { a = a; b = b }
 
-abbrev pub both : Half → Edge
+abbrev pub both : NavEdgeEnd → NavEdge
 both a = edge a a
 
 -- what a cell is written as, how it is read again, and what is refused: an equation under `unfolding computed` computes
 unfoldable pub computed : (words work out : ℕ) → Cell → List ℕ × Cell × Verdict
-unfolding les leBytes cat rowBytes pack lesser greater short fraction clamped nearest coordinate side fold indexOf withNew distinctFrom halfWord placeOf tableBytes frontBlocks listBlocks gather tripleIn cornersOf named vertexItems indexItems edgeItems boxOf polygonItems middle leaves between inside leafOf pointsOf axisMeets meets idsOf grown treeOf pointCount byteCount leafCounts preorder pointItems leafBlocks treeBlocks Sectors.sizes portalItems padded headerBytes vertices areas links sectors counts sizesOf sizes endHeader endVertices endIndices endEdges endPolygons endSectors endPortals placesOf header blocks pages add sub mul div lt le eq ofInt ofBits toBits ofFields round units odd size climb span sum neg isNan halfAgain edgeAgain positionAgain polygonAgain portalAgain pointAgain reread encodeAs each vecWords headWords halfWords edgeWords polygonHeadAs polygonWordsAs portalWords pointWords first at cornerFault cornersFault polygonFault polygonsVerdict leavesVerdict finiteBox cellVerdict
+unfolding les leBytes cat rowBytes pack lesser greater short fraction clamped nearestNumber coordinate side fold indexOf withNew distinctFrom halfWord placeOf tableBytes frontBlocks listBlocks gather tripleIn cornersOf named vertexItems indexItems edgeItems boxOf polygonItems middle leaves between inside leafOf pointsOf axisMeets meets leafIds grown treeOf pointCount byteCount leafCounts preorder pointItems leafBlocks treeBlocks Sectors.sizes portalItems padded headerBytes vertices areas links sectors counts sizesOf sizes endHeader endVertices endIndices endEdges endPolygons endSectors endPortals placesOf header blocks pages add sub mul div lt le eq ofInt ofBits toBits ofFields round units odd size climb span sum neg isNan halfAgain edgeAgain positionAgain polygonAgain portalAgain pointAgain reread encodeAs each vecWords headWords halfWords edgeWords polygonHeadAs polygonWordsAs portalWords pointWords firstFault at cornerFault cornersFault polygonFault polygonsVerdict leavesVerdict finiteBox cellVerdict
 computed words work out c = (pages c, reread c, cellVerdict words work out c)
 
 -- A grid cell with a triangle, a portal and three points. A vertex has a NaN, the last edge is missing, a point lies on four leaves' borders and
@@ -172,7 +172,7 @@ unfolding computed grid
 grid-short = refl
 
 -- The order of the checks, where several fail. `plain` is a vehicle cell, whose box ends at a given height.
-abbrev pub plain : (height : ℕ) → List Polygon → List Portal → Cell
+abbrev pub plain : (height : ℕ) → List NavPoly → List NavPortal → Cell
 plain height polys portals = record {
   head = record { content = 4; area = 10000; version = 0; vft = 0; bb-min = vec 0 0 0; bb-max = vec 0 0 height; bb-size = vec 0 0 0 };
   polys = polys;
@@ -180,11 +180,11 @@ plain height polys portals = record {
   points = [];
 }
 
-abbrev pub flat : (vertices links : ℕ) → Polygon
+abbrev pub flat : (vertices links : ℕ) → NavPoly
 flat vertices links =
     record { flags0 = 0; flags1 = 0; flags2 = 0; links = replicate links 0; vertices = replicate vertices (vec 0 0 0); edges = [] }
 
-abbrev pub portal : Portal
+abbrev pub portal : NavPortal
 portal = record {
   kind = 0;
   angle = 0;

@@ -4,44 +4,44 @@ use native.Mathlib.Omega.{arith}
 use mathlib.Core.Path.{_≡_, refl, sym, _∙_}
 use mathlib.Core.Bool.{Bool, true, false, _||_, true≢false}
 use mathlib.Core.List.{List, [], _∷_}
-use Rattle.pages.specs.Checks.{Verdict, when, first, at}
+use Rattle.pages.specs.Checks.{Verdict, faultIf, firstFault, at}
 
 -- a fault is none, which it is not
 pub not-none : {P : Type 0} (k : ℕ) → suc k ≡ 0 → P
 not-none k e = absurd (omega arith)
 
-pub first-none : (m : ℕ) (rest : List ℕ) → m ≡ 0 → first (m ∷ rest) ≡ first rest
-unfolding first
+pub first-none : (m : ℕ) (rest : List ℕ) → m ≡ 0 → firstFault (m ∷ rest) ≡ firstFault rest
+unfolding firstFault
 first-none zero rest e = refl
 first-none (suc m) rest e = absurd (omega arith)
 
-pub first-some : (m : ℕ) (rest : List ℕ) → (m ≡ 0 → ⊥) → first (m ∷ rest) ≡ m
-unfolding first
+pub first-some : (m : ℕ) (rest : List ℕ) → (m ≡ 0 → ⊥) → firstFault (m ∷ rest) ≡ m
+unfolding firstFault
 first-some zero rest e = absurd (e refl)
 first-some (suc m) rest e = refl
 
-pub first-nothing : 0 ≡ first []
-unfolding first
+pub first-nothing : 0 ≡ firstFault []
+unfolding firstFault
 first-nothing = refl
 
-pub first-last : (m : ℕ) → first (m ∷ []) ≡ m
-unfolding first
+pub first-last : (m : ℕ) → firstFault (m ∷ []) ≡ m
+unfolding firstFault
 first-last zero = refl
 first-last (suc m) = refl
 
 -- a check that fails, and one that passes
-pub first-fails : (bad : Bool) (n : ℕ) (rest : List ℕ) → bad ≡ true → suc n ≡ first (when bad (suc n) ∷ rest)
-unfolding first
+pub first-fails : (bad : Bool) (n : ℕ) (rest : List ℕ) → bad ≡ true → suc n ≡ firstFault (faultIf bad (suc n) ∷ rest)
+unfolding firstFault
 first-fails true n rest e = refl
 first-fails false n rest e = absurd (true≢false (sym e))
 
-pub first-passes : (bad : Bool) (n m : ℕ) (rest : List ℕ) → bad ≡ false → m ≡ first rest → m ≡ first (when bad n ∷ rest)
-unfolding first
+pub first-passes : (bad : Bool) (n m : ℕ) (rest : List ℕ) → bad ≡ false → m ≡ firstFault rest → m ≡ firstFault (faultIf bad n ∷ rest)
+unfolding firstFault
 first-passes true n m rest e h = absurd (true≢false e)
 first-passes false n m rest e h = h
 
-pub passed : (bad : Bool) (n : ℕ) (rest : List ℕ) → first (when bad (suc n) ∷ rest) ≡ 0 → bad ≡ false
-unfolding first
+pub passed : (bad : Bool) (n : ℕ) (rest : List ℕ) → firstFault (faultIf bad (suc n) ∷ rest) ≡ 0 → bad ≡ false
+unfolding firstFault
 passed true n rest e = absurd (omega arith)
 passed false n rest e = refl
 
@@ -54,8 +54,8 @@ or-else true b r q e h k = absurd (true≢false (sym e ∙ h))
 or-else false b r q e h k = k
 
 -- two checks are one
-pub first-two : (a b : ℕ) (rest : List ℕ) → first (a ∷ b ∷ rest) ≡ first (first (a ∷ b ∷ []) ∷ rest)
-unfolding first
+pub first-two : (a b : ℕ) (rest : List ℕ) → firstFault (a ∷ b ∷ rest) ≡ firstFault (firstFault (a ∷ b ∷ []) ∷ rest)
+unfolding firstFault
 first-two zero zero rest = refl
 first-two zero (suc b) rest = refl
 first-two (suc a) b rest = refl

@@ -8,9 +8,9 @@ use lib.ListN.{length, length-append}
 use Rattle.quantise.specs.declared.quarter.QuarterBox.{QuarterBox}
 use Rattle.quantise.specs.declared.bounds.Aabb.{Aabb}
 use Rattle.math.specs.declared.vec3.Vec3.{Vec3 as Floats}
-use Rattle.strip.specs.Cell.{Vec3, Edge, Polygon, Point, Cell, All}
+use Rattle.strip.specs.Cell.{Vec3, NavEdge, NavPoly, NavPoint, Cell, All}
 use Rattle.blocks.specs.Lists as Lists
-use Rattle.blocks.specs.Lists.{perPart, partCount, counts, partSizes, offsetSizes, listSizes}
+use Rattle.blocks.specs.Lists.{perPart, partCount, partCounts, partSizes, offsetSizes, listSizes}
 use Rattle.blocks.specs.Placed.{Small, Placed}
 use Rattle.blocks.proofs.Layouts.{small-append, length-lengths}
 use Rattle.blocks.proofs.Lists.{list-small, length-counts}
@@ -28,14 +28,14 @@ use Rattle.pages.proofs.Sizes.{blocks-sizes}
 
 -- ---- corners
 
-pub length-corners : (lo size : Floats) (vs : List Vec3) (es : List Edge) → length (cornersOf lo size vs es) ≡ length vs
+pub length-corners : (lo size : Floats) (vs : List Vec3) (es : List NavEdge) → length (cornersOf lo size vs es) ≡ length vs
 unfolding cornersOf
 length-corners lo size [] es = refl
 length-corners lo size (v ∷ vs) [] = ap suc (length-corners lo size vs [])
 length-corners lo size (v ∷ vs) (e ∷ es) = ap suc (length-corners lo size vs es)
 
 -- the last run begins at 65535 at most, and has 2047 corners at most
-pub runs-end : (lo size : Floats) (start : ℕ) (ps : List Polygon) → start ≤ 67582 → AllChecked start ps → start + length (corners lo size ps) ≤ 67582
+pub runs-end : (lo size : Floats) (start : ℕ) (ps : List NavPoly) → start ≤ 67582 → AllChecked start ps → start + length (corners lo size ps) ≤ 67582
 unfolding gather
 runs-end lo size start [] few h = omega arith
 runs-end lo size start (p ∷ ps) few h =
@@ -78,7 +78,7 @@ abbrev most : ℕ → ℕ
 most zero = 4
 most (suc d) = 1 + 4 * most d
 
-few-blocks : (ids : QuarterBox → List ℕ) (stored : ℕ → List Point) (d k : ℕ) (b : Aabb) → length (Sectors.sizes (grown ids stored d k b)) ≤ most d
+few-blocks : (ids : QuarterBox → List ℕ) (stored : ℕ → List NavPoint) (d k : ℕ) (b : Aabb) → length (Sectors.sizes (grown ids stored d k b)) ≤ most d
 unfolding grown Sectors.sizes
 few-blocks ids stored zero k b =
     let m : ℕ = length (ids (Sectors.quarters b)) in
@@ -120,7 +120,7 @@ length-offsets (suc k) = omega arith
 few-list : (w n : ℕ) → length (listSizes w n) ≤ partCount w n + 3
 few-list w n =
     let k : ℕ = partCount w n in
-    let parts : length (partSizes w n) ≡ k = length-sizes w (counts k (perPart w) n) ∙ length-counts k (perPart w) n in
+    let parts : length (partSizes w n) ≡ k = length-sizes w (partCounts k (perPart w) n) ∙ length-counts k (perPart w) n in
     rw (length-append (partSizes w n) (offsetSizes k)) (omega (arith, length-offsets k))
 
 -- ---- all blocks

@@ -10,7 +10,7 @@ use Rattle.fields.proofs.Bytes.{length-les}
 use Rattle.fields.proofs.Rows.{length-rows}
 use Rattle.math.specs.declared.vec3.Vec3.{Vec3 as Floats}
 use Rattle.quantise.specs.declared.bounds.Aabb.{Aabb}
-use Rattle.strip.specs.Cell.{Polygon, Portal, Point, Head, Cell}
+use Rattle.strip.specs.Cell.{NavPoly, NavPortal, NavPoint, Head, Cell}
 use Rattle.blocks.specs.Layout.{endOf, lengths, pagesOf}
 use Rattle.blocks.specs.Lists.{Wide, listSizes, listBlocks}
 use Rattle.blocks.proofs.Layouts.{lengths-append, length-blocks}
@@ -21,6 +21,7 @@ use Rattle.pages.specs.Sectors as Sectors
 use Rattle.pages.specs.Sectors.{Sector, sectorRow, sectorAddress, from0, from1, from2, from3, pointCount, pointRow, pointItems, leafBlocks, treeBlocks}
 use Rattle.pages.specs.Sectors.Sector.{leaf, node}
 use Rattle.pages.specs.Pages.{Places, Counts, portalRow, portalItems, headerFirst, headerLast, padded, headerBytes, allCorners, loOf, extentOf, vertices, areas, links, sectors, counts, sizesOf, endHeader, endVertices, endIndices, endEdges, endPolygons, placesOf, sizes, header, blocks, pages}
+use Rattle.fields.specs.Sizes.{LIST-VFT-EDGES, LIST-VFT-INDICES, LIST-VFT-POLYS, LIST-VFT-VERTICES}
 
 -- ---- items
 
@@ -41,13 +42,13 @@ pub wide-edges : (us : List ℕ) (ks : List Corner) → Wide 8 (edgeItems us ks)
 unfolding edgeItems
 wide-edges us ks = wide-rows 8 (edgeRow us) (λ k. refl) ks
 
-pub wide-polygons : (own k start before : ℕ) (ps : List Polygon) → Wide 48 (polygonItems own k start before ps)
+pub wide-polygons : (own k start before : ℕ) (ps : List NavPoly) → Wide 48 (polygonItems own k start before ps)
 unfolding polygonItems
 wide-polygons own k start before [] = tt
 wide-polygons own k start before (p ∷ ps) =
     (length-rows (polygonRow own k start before p), wide-polygons own (k + 1) (start + length (p .vertices)) (before + length (p .links)) ps)
 
-pub length-polygons : (own k start before : ℕ) (ps : List Polygon) → length (polygonItems own k start before ps) ≡ length ps
+pub length-polygons : (own k start before : ℕ) (ps : List NavPoly) → length (polygonItems own k start before ps) ≡ length ps
 unfolding polygonItems
 length-polygons own k start before [] = refl
 length-polygons own k start before (p ∷ ps) = ap suc (length-polygons own (k + 1) (start + length (p .vertices)) (before + length (p .links)) ps)
@@ -64,11 +65,11 @@ pub length-edges : (us : List ℕ) (ks : List Corner) → length (edgeItems us k
 unfolding edgeItems
 length-edges us ks = length-map ks _
 
-pub wide-points : (lo size : Floats) (ts : List Point) → Wide 8 (pointItems lo size ts)
+pub wide-points : (lo size : Floats) (ts : List NavPoint) → Wide 8 (pointItems lo size ts)
 unfolding pointItems
 wide-points lo size ts = wide-rows 8 (pointRow lo size) (λ t. refl) ts
 
-pub wide-portals : (lo size : Floats) (ps : List Portal) → Wide 28 (portalItems lo size ps)
+pub wide-portals : (lo size : Floats) (ps : List NavPortal) → Wide 28 (portalItems lo size ps)
 unfolding portalItems
 wide-portals lo size ps = wide-rows 28 (portalRow lo size) (λ p. refl) ps
 
@@ -82,24 +83,24 @@ block-lengths (b ∷ bs) = refl
 pub block-size : (n : ℕ) (bs : List ℕ) → length bs ≡ n → lengths (blockOf bs) ≡ sizeOf n
 block-size n bs e = block-lengths bs ∙ ap sizeOf e
 
-pub point-count : (lo size : Floats) (ts : List Point) → length (pointItems lo size ts) ≡ length ts
+pub point-count : (lo size : Floats) (ts : List NavPoint) → length (pointItems lo size ts) ≡ length ts
 unfolding pointItems
 point-count lo size ts = length-map ts _
 
-pub portal-count : (lo size : Floats) (ps : List Portal) → length (portalItems lo size ps) ≡ length ps
+pub portal-count : (lo size : Floats) (ps : List NavPortal) → length (portalItems lo size ps) ≡ length ps
 unfolding portalItems
 portal-count lo size ps = length-map ps _
 
-pub length-points : (lo size : Floats) (ts : List Point) → length (cat (pointItems lo size ts)) ≡ 8 * length ts
+pub length-points : (lo size : Floats) (ts : List NavPoint) → length (cat (pointItems lo size ts)) ≡ 8 * length ts
 length-points lo size ts = length-cat 8 (pointItems lo size ts) (wide-points lo size ts) ∙ ap (λ (n : ℕ). 8 * n) (point-count lo size ts)
 
-pub length-portals : (lo size : Floats) (ps : List Portal) → length (cat (portalItems lo size ps)) ≡ 28 * length ps
+pub length-portals : (lo size : Floats) (ps : List NavPortal) → length (cat (portalItems lo size ps)) ≡ 28 * length ps
 length-portals lo size ps = length-cat 28 (portalItems lo size ps) (wide-portals lo size ps) ∙ ap (λ (n : ℕ). 28 * n) (portal-count lo size ps)
 
 -- ---- the tree
 
 module _ (lo size : Floats) where
-  leaf-lengths : (end first : ℕ) (b : Aabb) (is : List ℕ) (ts : List Point)
+  leaf-lengths : (end first : ℕ) (b : Aabb) (is : List ℕ) (ts : List NavPoint)
       → lengths (leafBlocks lo size end first (length is) (length ts) b is ts) ≡ 96 ∷ (sizeOf (2 * length is) ++ (sizeOf (8 * length ts) ++ (32 ∷ [])))
   unfolding leafBlocks
   leaf-lengths end first b is ts =
@@ -151,10 +152,10 @@ unfolding blocks sizes sizesOf header counts
 blocks-sizes c =
     let n = counts c in
     let t = sectors c in
-    let vs = listBlocks (endHeader n t) 1080158456 6 (vertexItems (vertices c)) in
-    let is = listBlocks (endVertices n t) 1080158424 2 (indexItems (vertices c) (allCorners c)) in
-    let es = listBlocks (endIndices n t) 1080158440 8 (edgeItems (areas c) (allCorners c)) in
-    let ps = listBlocks (endEdges n t) 1080158408 48 (polygonItems (c .head .area) 0 0 0 (c .polys)) in
+    let vs = listBlocks (endHeader n t) LIST-VFT-VERTICES 6 (vertexItems (vertices c)) in
+    let is = listBlocks (endVertices n t) LIST-VFT-INDICES 2 (indexItems (vertices c) (allCorners c)) in
+    let es = listBlocks (endIndices n t) LIST-VFT-EDGES 8 (edgeItems (areas c) (allCorners c)) in
+    let ps = listBlocks (endEdges n t) LIST-VFT-POLYS 48 (polygonItems (c .head .area) 0 0 0 (c .polys)) in
     let ts = treeBlocks (loOf c) (extentOf c) (endPolygons n t) 0 t in
     let qs = blockOf (cat (portalItems (loOf c) (extentOf c) (c .portals))) in
     let ls = blockOf (les 2 (links c)) in
@@ -166,10 +167,10 @@ blocks-sizes c =
       lengths-append ps (ts ++ (qs ++ ls)),
       lengths-append ts (qs ++ ls),
       lengths-append qs ls,
-      list-size (endHeader n t) 1080158456 6 (length (vertices c)) (vertexItems (vertices c)) (wide-vertices (vertices c)) (length-vertices (vertices c)),
-      list-size (endVertices n t) 1080158424 2 (length (allCorners c)) (indexItems (vertices c) (allCorners c)) (wide-indices (vertices c) (allCorners c)) (length-indices (vertices c) (allCorners c)),
-      list-size (endIndices n t) 1080158440 8 (length (allCorners c)) (edgeItems (areas c) (allCorners c)) (wide-edges (areas c) (allCorners c)) (length-edges (areas c) (allCorners c)),
-      list-size (endEdges n t) 1080158408 48 (length (c .polys)) (polygonItems (c .head .area) 0 0 0 (c .polys)) (wide-polygons (c .head .area) 0 0 0 (c .polys)) (length-polygons (c .head .area) 0 0 0 (c .polys)),
+      list-size (endHeader n t) LIST-VFT-VERTICES 6 (length (vertices c)) (vertexItems (vertices c)) (wide-vertices (vertices c)) (length-vertices (vertices c)),
+      list-size (endVertices n t) LIST-VFT-INDICES 2 (length (allCorners c)) (indexItems (vertices c) (allCorners c)) (wide-indices (vertices c) (allCorners c)) (length-indices (vertices c) (allCorners c)),
+      list-size (endIndices n t) LIST-VFT-EDGES 8 (length (allCorners c)) (edgeItems (areas c) (allCorners c)) (wide-edges (areas c) (allCorners c)) (length-edges (areas c) (allCorners c)),
+      list-size (endEdges n t) LIST-VFT-POLYS 48 (length (c .polys)) (polygonItems (c .head .area) 0 0 0 (c .polys)) (wide-polygons (c .head .area) 0 0 0 (c .polys)) (length-polygons (c .head .area) 0 0 0 (c .polys)),
       tree-lengths (loOf c) (extentOf c) (endPolygons n t) 0 t,
       block-size (28 * length (c .portals)) (cat (portalItems (loOf c) (extentOf c) (c .portals))) (length-portals (loOf c) (extentOf c) (c .portals)),
       block-size (2 * length (links c)) (les 2 (links c)) (length-les 2 (links c)),

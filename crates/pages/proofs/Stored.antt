@@ -11,7 +11,7 @@ use lib.ListN.{length, length-append}
 use Rattle.math.specs.declared.vec3.Vec3.{Vec3 as Floats}
 use Rattle.quantise.specs.declared.quarter.QuarterBox.{QuarterBox}
 use Rattle.quantise.specs.declared.bounds.Aabb.{Aabb}
-use Rattle.strip.specs.Cell.{Point, Cell, All}
+use Rattle.strip.specs.Cell.{NavPoint, Cell, All}
 use Rattle.pages.specs.Items.{floats}
 use Rattle.pages.specs.Sectors.{Sector, inside, leafOf, pointsOf, leaves, grown, treeOf, pointCount, preorder, depthOf, rootBox, sub0, sub1, sub2, sub3}
 use Rattle.pages.specs.Sectors.Sector.{leaf, node}
@@ -66,7 +66,7 @@ leaf-most (b ∷ bs) p = by (inside b p) (leaf-most bs p)
     by true h = omega arith
     by false h = omega arith
 
-points-total : (boxes : List Aabb) (ts : List Point) → total (λ k. length (pointsOf boxes k ts)) 0 (length boxes + 1) ≡ length ts
+points-total : (boxes : List Aabb) (ts : List NavPoint) → total (λ k. length (pointsOf boxes k ts)) 0 (length boxes + 1) ≡ length ts
 unfolding pointsOf
 points-total boxes [] = total-none (λ k. 0) (λ k. refl) 0 (length boxes + 1)
 points-total boxes (t ∷ ts) =
@@ -92,7 +92,7 @@ boxes-length (suc d) b =
       pow-suc 4 d,
     ) (omega arith)
 
-tree-total : (ids : QuarterBox → List ℕ) (stored : ℕ → List Point) (d k : ℕ) (b : Aabb)
+tree-total : (ids : QuarterBox → List ℕ) (stored : ℕ → List NavPoint) (d k : ℕ) (b : Aabb)
     → pointCount (grown ids stored d k b) ≡ total (λ j. length (stored j)) k (4 ^ d)
 unfolding grown pointCount
 tree-total ids stored zero k b = omega arith
@@ -124,14 +124,14 @@ length-preorder (node b t0 t1 t2 t3) =
 
 -- ---- which leaf has which points
 
-numbered-parts : (stored : ℕ → List Point) (k : ℕ) (xs ys : List Aabb) → numbered stored k (xs ++ ys) ≡ numbered stored k xs ++ numbered stored (k + length xs) ys
+numbered-parts : (stored : ℕ → List NavPoint) (k : ℕ) (xs ys : List Aabb) → numbered stored k (xs ++ ys) ≡ numbered stored k xs ++ numbered stored (k + length xs) ys
 unfolding numbered
 numbered-parts stored k [] ys = let e : k + 0 ≡ k = omega arith in rw e
 numbered-parts stored k (x ∷ xs) ys =
     let e : k + suc (length xs) ≡ k + 1 + length xs = omega arith in
-    ap (λ (l : List (Aabb × List Point)). (x, stored k) ∷ l) (numbered-parts stored (k + 1) xs ys ∙ rw e)
+    ap (λ (l : List (Aabb × List NavPoint)). (x, stored k) ∷ l) (numbered-parts stored (k + 1) xs ys ∙ rw e)
 
-leaves-numbered : (ids : QuarterBox → List ℕ) (stored : ℕ → List Point) (d k : ℕ) (b : Aabb) → leafList (grown ids stored d k b) ≡ numbered stored k (leaves d b)
+leaves-numbered : (ids : QuarterBox → List ℕ) (stored : ℕ → List NavPoint) (d k : ℕ) (b : Aabb) → leafList (grown ids stored d k b) ≡ numbered stored k (leaves d b)
 unfolding grown leafList numbered leaves
 leaves-numbered ids stored zero k b = refl
 leaves-numbered ids stored (suc d) k b =
@@ -175,7 +175,7 @@ outside-all (b ∷ bs) p e = by (inside b p) refl e (outside-all bs p)
     by false s f rest = (s, rest (omega arith))
 
 -- what holds where `leafOf` answers k holds of the points of number k
-points-have : (P : Floats → Type 0) (boxes : List Aabb) (k : ℕ) → ((p : Floats) → leafOf boxes p ≡ k → P p) → (ts : List Point)
+points-have : (P : Floats → Type 0) (boxes : List Aabb) (k : ℕ) → ((p : Floats) → leafOf boxes p ≡ k → P p) → (ts : List NavPoint)
     → All (λ t. P (floats (t .position))) (pointsOf boxes k ts)
 unfolding pointsOf
 points-have P boxes k h [] = tt

@@ -4,19 +4,19 @@ use mathlib.Core.Path.{_≡_}
 use mathlib.Core.Bool.{true}
 use mathlib.Core.List.{List, [], _∷_}
 use lib.ListN.{length}
-use Rattle.strip.specs.Cell.{Polygon, Cell, All}
+use Rattle.strip.specs.Cell.{NavPoly, Cell, All}
 use Rattle.strip.specs.Box.{finiteBox}
 use Rattle.pages.specs.Sectors.{leafCounts}
 use Rattle.pages.specs.Pages.{vertices, areas, links, sectors}
 
 -- 12, 13 and 16, of a polygon whose run begins at `start`
-pub record Checked (start : ℕ) (p : Polygon) : Type 0 where
+pub record Checked (start : ℕ) (p : NavPoly) : Type 0 where
   pub least-vertices : 3 ≤ length (p .vertices)
   pub most-vertices : length (p .vertices) ≤ 2047
   pub start-fits : start ≤ 65535
   pub few-links : length (p .links) ≤ 7
 
-abbrev pub AllChecked : (start : ℕ) → List Polygon → Type 0
+abbrev pub AllChecked : (start : ℕ) → List NavPoly → Type 0
 AllChecked start [] = Unit
 AllChecked start (p ∷ ps) = Checked start p × AllChecked (start + length (p .vertices)) ps
 

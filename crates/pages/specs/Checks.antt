@@ -6,7 +6,7 @@ use mathlib.Core.List.{List, [], _∷_}
 use lib.ListN.{length}
 use lib.Dec.{ltb}
 use Rattle.math.specs.declared.vec3.Vec3.{Vec3 as Floats}
-use Rattle.strip.specs.Cell.{Polygon, Cell}
+use Rattle.strip.specs.Cell.{NavPoly, Cell}
 use Rattle.strip.specs.Box.{finiteBox}
 use Rattle.strip.specs.Scan.{scan}
 use Rattle.strip.specs.Outcome.{Outcome, done}
@@ -23,13 +23,13 @@ pub data Verdict : Type 0 where
   refused : ℕ → ℕ → Verdict
 
 -- A fault is a refusal's number, and 0 for none. One check, where `bad` says that it fails; and the first fault of checks in order.
-abbrev pub when : (bad : Bool) → ℕ → ℕ
-when bad number = cond bad number 0
+abbrev pub faultIf : (bad : Bool) → ℕ → ℕ
+faultIf bad number = cond bad number 0
 
-unfoldable pub first : List ℕ → ℕ
-first [] = 0
-first (zero ∷ rest) = first rest
-first (suc n ∷ rest) = suc n
+unfoldable pub firstFault : List ℕ → ℕ
+firstFault [] = 0
+firstFault (zero ∷ rest) = firstFault rest
+firstFault (suc n ∷ rest) = suc n
 
 -- a fault at a place, or what comes after it
 unfoldable pub at : (place fault : ℕ) → Verdict → Verdict
@@ -41,32 +41,32 @@ at place (suc n) rest = refused (suc n) place
 -- 14 a 65,537th vertex; 15 a 33rd area, by half a and then by half b
 unfoldable pub cornerFault : (ts us : List ℕ) → Corner → ℕ
 cornerFault ts us k =
-    first
-    (when (ltb 65536 (length (withNew ts (k .vertex)))) 14
-    ∷ when (ltb 32 (length (withNew us (k .edge .a .area)))) 15
-    ∷ when (ltb 32 (length (withNew (withNew us (k .edge .a .area)) (k .edge .b .area)))) 15
+    firstFault
+    (faultIf (ltb 65536 (length (withNew ts (k .vertex)))) 14
+    ∷ faultIf (ltb 32 (length (withNew us (k .edge .a .area)))) 15
+    ∷ faultIf (ltb 32 (length (withNew (withNew us (k .edge .a .area)) (k .edge .b .area)))) 15
     ∷ [])
 
 unfoldable pub cornersFault : (ts us : List ℕ) → List Corner → ℕ
 cornersFault ts us [] = 0
 cornersFault ts us (k ∷ ks) =
-    first
+    firstFault
     (cornerFault ts us k
     ∷ cornersFault (withNew ts (k .vertex)) (withNew (withNew us (k .edge .a .area)) (k .edge .b .area)) ks
     ∷ [])
 
 -- 12 under 3 or over 2047 vertices; 13 start above 65535; 14 and 15 by corner; 16 over 7 links
-unfoldable pub polygonFault : (lo size : Floats) → (ts us : List ℕ) → (start : ℕ) → Polygon → ℕ
+unfoldable pub polygonFault : (lo size : Floats) → (ts us : List ℕ) → (start : ℕ) → NavPoly → ℕ
 polygonFault lo size ts us start p =
-    first
-    (when (ltb (length (p .vertices)) 3 || ltb 2047 (length (p .vertices))) 12
-    ∷ when (ltb 65535 start) 13
+    firstFault
+    (faultIf (ltb (length (p .vertices)) 3 || ltb 2047 (length (p .vertices))) 12
+    ∷ faultIf (ltb 65535 start) 13
     ∷ cornersFault ts us (cornersIn lo size p)
-    ∷ when (ltb 7 (length (p .links))) 16
+    ∷ faultIf (ltb 7 (length (p .links))) 16
     ∷ [])
 
 -- the polygons from number k on, whose runs begin at `start`, then the rest
-unfoldable pub polygonsVerdict : (lo size : Floats) → (ts us : List ℕ) → (start k : ℕ) → List Polygon → Verdict → Verdict
+unfoldable pub polygonsVerdict : (lo size : Floats) → (ts us : List ℕ) → (start k : ℕ) → List NavPoly → Verdict → Verdict
 polygonsVerdict lo size ts us start k [] rest = rest
 polygonsVerdict lo size ts us start k (p ∷ ps) rest =
     at k (polygonFault lo size ts us start p)
@@ -79,7 +79,7 @@ polygonsVerdict lo size ts us start k (p ∷ ps) rest =
 
 -- 17 over 8,192 ids, 18 over 2,048 points
 abbrev pub leafFault : ℕ × ℕ → ℕ
-leafFault n = first (when (ltb 8192 (n .0)) 17 ∷ when (ltb 2048 (n .1)) 18 ∷ [])
+leafFault n = firstFault (faultIf (ltb 8192 (n .0)) 17 ∷ faultIf (ltb 2048 (n .1)) 18 ∷ [])
 
 -- the leaves from number k on, by their counts of ids and points, then the rest
 unfoldable pub leavesVerdict : (k : ℕ) → List (ℕ × ℕ) → Verdict → Verdict
@@ -91,10 +91,10 @@ leavesVerdict k (n ∷ ns) rest = at k (leafFault n) (leavesVerdict (k + 1) ns r
 -- the checks of a cell whose strip has so many words, with so many words of work and bytes of output. 10 box (min, max or size) not finite
 unfoldable pub cellVerdict : (words work out : ℕ) → Cell → Verdict
 cellVerdict words work out c =
-    at 0 (first (when (ltb (work / 4) words) 1 ∷ when (not (finiteBox (c .head))) 10 ∷ when (ltb 16383 (length (c .polys))) 11 ∷ []))
+    at 0 (firstFault (faultIf (ltb (work / 4) words) 1 ∷ faultIf (not (finiteBox (c .head))) 10 ∷ faultIf (ltb 16383 (length (c .polys))) 11 ∷ []))
     (polygonsVerdict (loOf c) (extentOf c) [] (seeded (c .head .area)) 0 0 (c .polys)
     (leavesVerdict 0 (leafCounts (sectors c))
-    (at 0 (first (when (ltb 585 (length (c .portals))) 19 ∷ when (ltb 8192 (length (links c))) 20 ∷ when (ltb out (length (pages c))) 2 ∷ []))
+    (at 0 (firstFault (faultIf (ltb 585 (length (c .portals))) 19 ∷ faultIf (ltb 8192 (length (links c))) 20 ∷ faultIf (ltb out (length (pages c))) 2 ∷ []))
     fine)))
 
 -- ---- the call: a strip that is badly formed is refused with 3, and an accepted one gives its pages. `values` are the answer's own

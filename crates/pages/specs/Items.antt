@@ -3,7 +3,6 @@
 use Prim.Native.Nat.{ℕ, _+_, _*_, _/_, _^_}
 use mathlib.Core.List.{List, [], _∷_, _++_, map}
 use lib.ListN.{length}
-use lib.Ieee.{binary32, ofBits, toBits}
 use Rattle.fields.specs.Rows.{rowBytes, pack}
 use Rattle.math.specs.declared.vec3.Vec3.{Vec3 as Floats}
 use Rattle.quantise.specs.Short.{shorts}
@@ -11,36 +10,30 @@ use Rattle.quantise.specs.Quarter.{bits16}
 use Rattle.quantise.specs.Bounds.{leastSide, greatestSide}
 use Rattle.quantise.specs.declared.short.Shorts.{Shorts}
 use Rattle.quantise.specs.declared.quarter.QuarterBox.{QuarterBox}
-use Rattle.strip.specs.Cell.{Vec3, Half, Edge, Polygon}
+use Rattle.strip.specs.Cell.{Vec3, NavEdgeEnd, NavEdge, NavPoly}
+pub use Rattle.cell_record.specs.Record.{floats}
 use Rattle.distinct.specs.Distinct.{indexOf, distinctFrom}
 use Rattle.areas.specs.Areas.{seeded}
 use Rattle.areas.specs.EdgeHalf.{halfWord, none}
-
--- three floats from their bits, and their bits
-abbrev pub floats : Vec3 → Floats
-floats v = record { x = ofBits binary32 (v .x); y = ofBits binary32 (v .y); z = ofBits binary32 (v .z) }
-
-abbrev pub bitsOf : Floats → Vec3
-bitsOf v = record { x = toBits binary32 (v .x); y = toBits binary32 (v .y); z = toBits binary32 (v .z) }
 
 -- three shorts as the one number x + 2^16 y + 2^32 z
 abbrev pub triple : Shorts → ℕ
 triple q = q .x + 2 ^ 16 * q .y + 2 ^ 32 * q .z
 
 -- NONE: area and poly 16383, unk2 and unk3 zero
-abbrev pub noHalf : Half
+abbrev pub noHalf : NavEdgeEnd
 noHalf = record { area = none; poly = none; unk3 = 0; unk2 = 0 }
 
-abbrev pub noEdge : Edge
+abbrev pub noEdge : NavEdge
 noEdge = record { a = noHalf; b = noHalf }
 
 -- a corner of a polygon: a vertex as its shorts, and the edge that leaves it
 pub record Corner : Type 0 where
   pub vertex : ℕ
-  pub edge : Edge
+  pub edge : NavEdge
 
 -- each polygon's own list, one after the other
-unfoldable pub gather : {A : Type 0} → (Polygon → List A) → List Polygon → List A
+unfoldable pub gather : {A : Type 0} → (NavPoly → List A) → List NavPoly → List A
 gather f [] = []
 gather f (p ∷ ps) = f p ++ gather f ps
 
@@ -50,15 +43,15 @@ module _ (lo size : Floats) where
   tripleIn v = triple (shorts (floats v) lo size)
 
   -- as many corners as vertices: a missing edge is NONE, surplus edges are ignored
-  unfoldable pub cornersOf : List Vec3 → List Edge → List Corner
+  unfoldable pub cornersOf : List Vec3 → List NavEdge → List Corner
   cornersOf [] es = []
   cornersOf (v ∷ vs) [] = record { vertex = tripleIn v; edge = noEdge } ∷ cornersOf vs []
   cornersOf (v ∷ vs) (e ∷ es) = record { vertex = tripleIn v; edge = e } ∷ cornersOf vs es
 
-  abbrev pub cornersIn : Polygon → List Corner
+  abbrev pub cornersIn : NavPoly → List Corner
   cornersIn p = cornersOf (p .vertices) (p .edges)
 
-  abbrev pub corners : List Polygon → List Corner
+  abbrev pub corners : List NavPoly → List Corner
   corners = gather cornersIn
 
 -- ---- tables
@@ -79,7 +72,7 @@ vertexTable ks = distinctFrom [] (triples ks)
 abbrev pub areaTable : ℕ → List Corner → List ℕ
 areaTable own ks = distinctFrom (seeded own) (named ks)
 
-abbrev pub linksOf : List Polygon → List ℕ
+abbrev pub linksOf : List NavPoly → List ℕ
 linksOf = gather (λ p. p .links)
 
 -- ---- items
@@ -93,7 +86,7 @@ abbrev pub indexRow : List ℕ → Corner → List (ℕ × ℕ)
 indexRow table k = (2, indexOf table (k .vertex)) ∷ []
 
 -- an edge, 8 bytes, by the area table
-abbrev pub halfOf : List ℕ → Half → ℕ
+abbrev pub halfOf : List ℕ → NavEdgeEnd → ℕ
 halfOf areas h = halfWord (indexOf areas (h .area)) (h .poly) (h .unk2) (h .unk3)
 
 abbrev pub edgeRow : List ℕ → Corner → List (ℕ × ℕ)
@@ -109,7 +102,7 @@ unfoldable pub edgeItems : List ℕ → List Corner → List (List ℕ)
 edgeItems areas ks = map (λ k. rowBytes (edgeRow areas k)) ks
 
 -- a polygon's quarter box, by the min and max of its vertices
-unfoldable pub boxOf : Polygon → QuarterBox
+unfoldable pub boxOf : NavPoly → QuarterBox
 boxOf p = record {
   «x_min» = leastSide (map (λ v. v .x) (p .vertices));
   «x_max» = greatestSide (map (λ v. v .x) (p .vertices));
@@ -124,7 +117,7 @@ abbrev pub partWord : (k links before : ℕ) → ℕ
 partWord k links before = pack ((4, 0) ∷ (8, k / 341) ∷ (3, links) ∷ (17, before) ∷ [])
 
 -- a polygon, 48 bytes. It is number k, `start` indices and `before` links come before its own, and own is the cell's area id
-abbrev pub polygonRow : (own k start before : ℕ) → Polygon → List (ℕ × ℕ)
+abbrev pub polygonRow : (own k start before : ℕ) → NavPoly → List (ℕ × ℕ)
 polygonRow own k start before p =
     (2, p .flags0) ∷ (2, pack ((5, 0) ∷ (11, length (p .vertices)) ∷ [])) ∷ (2, start) ∷ (2, own) ∷ (16, 0)
     ∷ (2, bits16 (boxOf p .«x_min»)) ∷ (2, bits16 (boxOf p .«x_max»))
@@ -133,7 +126,7 @@ polygonRow own k start before p =
     ∷ (4, p .flags1) ∷ (4, p .flags2) ∷ (4, partWord k (length (p .links)) before) ∷ []
 
 -- polygons from number k on
-unfoldable pub polygonItems : (own k start before : ℕ) → List Polygon → List (List ℕ)
+unfoldable pub polygonItems : (own k start before : ℕ) → List NavPoly → List (List ℕ)
 polygonItems own k start before [] = []
 polygonItems own k start before (p ∷ ps) =
     rowBytes (polygonRow own k start before p) ∷ polygonItems own (k + 1) (start + length (p .vertices)) (before + length (p .links)) ps

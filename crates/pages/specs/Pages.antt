@@ -7,19 +7,20 @@ use Rattle.fields.specs.Bytes.{les, cat}
 use Rattle.fields.specs.Rows.{rowBytes, pack}
 use Rattle.math.specs.declared.vec3.Vec3.{Vec3 as Floats}
 use Rattle.quantise.specs.Short.{shorts}
-use Rattle.strip.specs.Cell.{Portal, Head, Cell}
+use Rattle.strip.specs.Cell.{NavPortal, Head, Cell}
 use Rattle.blocks.specs.Layout.{placeOf, behind, endOf, address, pagesOf}
 use Rattle.blocks.specs.Lists.{listSizes, listBlocks}
 use Rattle.pages.specs.Items.{floats, Corner, corners, vertexTable, areaTable, linksOf, vertexItems, indexItems, edgeItems, polygonItems}
 use Rattle.pages.specs.Optional.{blockOf, sizeOf, addressOf}
 use Rattle.pages.specs.Sectors as Sectors
-use Rattle.pages.specs.Sectors.{Sector, treeOf, treeBlocks, pointCount, byteCount, nanBits}
+use Rattle.pages.specs.Sectors.{Sector, treeOf, treeBlocks, pointCount, byteCount, nanWord}
+use Rattle.fields.specs.Sizes.{EDGE-SIZE, INDEX-SIZE, LIST-SIZE, LIST-VFT-EDGES, LIST-VFT-INDICES, LIST-VFT-POLYS, LIST-VFT-VERTICES, NAVMESH-SIZE, POLY-SIZE, PORTAL-SIZE, SECTOR-SIZE, VERTEX-SIZE}
 
 -- ---- portals
 
 -- a portal, 28 bytes: kind, angle, flags_unk, six shorts, poly_from twice, poly_to twice, area_from (14 bits), area_to (14), area_unk (4)
 module _ (lo size : Floats) where
-  abbrev pub portalRow : Portal → List (ℕ × ℕ)
+  abbrev pub portalRow : NavPortal → List (ℕ × ℕ)
   portalRow p =
       (1, p .kind) ∷ (1, p .angle) ∷ (2, p .flags-unk)
       ∷ (2, shorts (floats (p .from)) lo size .x) ∷ (2, shorts (floats (p .from)) lo size .y) ∷ (2, shorts (floats (p .from)) lo size .z)
@@ -27,7 +28,7 @@ module _ (lo size : Floats) where
       ∷ (2, p .poly-from) ∷ (2, p .poly-from) ∷ (2, p .poly-to) ∷ (2, p .poly-to)
       ∷ (4, pack ((14, p .area-from) ∷ (14, p .area-to) ∷ (4, p .area-unk) ∷ [])) ∷ []
 
-  unfoldable pub portalItems : List Portal → List (List ℕ)
+  unfoldable pub portalItems : List NavPortal → List (List ℕ)
   portalItems ps = map (λ p. rowBytes (portalRow p)) ps
 
 -- ---- the header
@@ -58,7 +59,7 @@ oneBits = 0x3F80_0000
 
 -- a row of the matrix: column 3 is the NaN in every row
 abbrev pub matrixRow : ℕ → ℕ → ℕ → List (ℕ × ℕ)
-matrixRow x y z = (4, x) ∷ (4, y) ∷ (4, z) ∷ (4, nanBits) ∷ []
+matrixRow x y z = (4, x) ∷ (4, y) ∷ (4, z) ∷ (4, nanWord) ∷ []
 
 abbrev pub matrix : List (ℕ × ℕ)
 matrix = matrixRow oneBits 0 0 ++ (matrixRow 0 oneBits 0 ++ (matrixRow 0 0 oneBits ++ matrixRow 0 0 0))
@@ -122,7 +123,7 @@ module _ (c : Cell) where
     portals = length (c .portals);
     links = length links;
     -- 96 per sector, 32 per leaf, 2 per polygon id in a leaf, 8 per point stored, 28 per portal, and the four lists' items
-    total = byteCount sectors + 28 * length (c .portals) + 6 * length vertices + 2 * length allCorners + 8 * length allCorners + 48 * length (c .polys);
+    total = byteCount sectors + PORTAL-SIZE * length (c .portals) + VERTEX-SIZE * length vertices + INDEX-SIZE * length allCorners + EDGE-SIZE * length allCorners + POLY-SIZE * length (c .polys);
   }
 
 -- ---- sizes and positions, from the counts and the tree alone
@@ -130,46 +131,46 @@ module _ (c : Cell) where
 -- the blocks' sizes: header; lists in the order vertices, indices, edges, polygons; sectors; portals; links
 unfoldable pub sizesOf : Counts → Sector → List ℕ
 sizesOf n t =
-    368
-    ∷ (listSizes 6 (n .vertices)
-    ++ (listSizes 2 (n .indices)
-    ++ (listSizes 8 (n .indices)
-    ++ (listSizes 48 (n .polygons)
+    NAVMESH-SIZE
+    ∷ (listSizes VERTEX-SIZE (n .vertices)
+    ++ (listSizes INDEX-SIZE (n .indices)
+    ++ (listSizes EDGE-SIZE (n .indices)
+    ++ (listSizes POLY-SIZE (n .polygons)
     ++ (Sectors.sizes t
-    ++ (sizeOf (28 * n .portals)
+    ++ (sizeOf (PORTAL-SIZE * n .portals)
     ++ sizeOf (2 * n .links)))))))
 
 -- the end behind each part
 module _ (n : Counts) (t : Sector) where
   unfoldable pub endHeader : ℕ
-  endHeader = behind 0 368
+  endHeader = behind 0 NAVMESH-SIZE
 
   unfoldable pub endVertices : ℕ
-  endVertices = endOf endHeader (listSizes 6 (n .vertices))
+  endVertices = endOf endHeader (listSizes VERTEX-SIZE (n .vertices))
 
   unfoldable pub endIndices : ℕ
-  endIndices = endOf endVertices (listSizes 2 (n .indices))
+  endIndices = endOf endVertices (listSizes INDEX-SIZE (n .indices))
 
   unfoldable pub endEdges : ℕ
-  endEdges = endOf endIndices (listSizes 8 (n .indices))
+  endEdges = endOf endIndices (listSizes EDGE-SIZE (n .indices))
 
   unfoldable pub endPolygons : ℕ
-  endPolygons = endOf endEdges (listSizes 48 (n .polygons))
+  endPolygons = endOf endEdges (listSizes POLY-SIZE (n .polygons))
 
   unfoldable pub endSectors : ℕ
   endSectors = endOf endPolygons (Sectors.sizes t)
 
   unfoldable pub endPortals : ℕ
-  endPortals = endOf endSectors (sizeOf (28 * n .portals))
+  endPortals = endOf endSectors (sizeOf (PORTAL-SIZE * n .portals))
 
   unfoldable pub placesOf : Places
   placesOf = record {
-    vertices = address (placeOf endHeader 48);
-    indices = address (placeOf endVertices 48);
-    edges = address (placeOf endIndices 48);
-    polygons = address (placeOf endEdges 48);
-    root = address (placeOf endPolygons 96);
-    portals = addressOf endSectors (28 * n .portals);
+    vertices = address (placeOf endHeader LIST-SIZE);
+    indices = address (placeOf endVertices LIST-SIZE);
+    edges = address (placeOf endIndices LIST-SIZE);
+    polygons = address (placeOf endEdges LIST-SIZE);
+    root = address (placeOf endPolygons SECTOR-SIZE);
+    portals = addressOf endSectors (PORTAL-SIZE * n .portals);
     links = addressOf endPortals (2 * n .links);
   }
 
@@ -185,10 +186,10 @@ module _ (c : Cell) where
   unfoldable pub blocks : List (List ℕ)
   blocks =
       header
-      ∷ (listBlocks (endHeader (counts c) (sectors c)) 1080158456 6 (vertexItems (vertices c))
-      ++ (listBlocks (endVertices (counts c) (sectors c)) 1080158424 2 (indexItems (vertices c) (allCorners c))
-      ++ (listBlocks (endIndices (counts c) (sectors c)) 1080158440 8 (edgeItems (areas c) (allCorners c))
-      ++ (listBlocks (endEdges (counts c) (sectors c)) 1080158408 48 (polygonItems (c .head .area) 0 0 0 (c .polys))
+      ∷ (listBlocks (endHeader (counts c) (sectors c)) LIST-VFT-VERTICES VERTEX-SIZE (vertexItems (vertices c))
+      ++ (listBlocks (endVertices (counts c) (sectors c)) LIST-VFT-INDICES INDEX-SIZE (indexItems (vertices c) (allCorners c))
+      ++ (listBlocks (endIndices (counts c) (sectors c)) LIST-VFT-EDGES EDGE-SIZE (edgeItems (areas c) (allCorners c))
+      ++ (listBlocks (endEdges (counts c) (sectors c)) LIST-VFT-POLYS POLY-SIZE (polygonItems (c .head .area) 0 0 0 (c .polys))
       ++ (treeBlocks (loOf c) (extentOf c) (endPolygons (counts c) (sectors c)) 0 (sectors c)
       ++ (blockOf (cat (portalItems (loOf c) (extentOf c) (c .portals)))
       ++ blockOf (les 2 (links c))))))))

@@ -3,25 +3,26 @@ use Prim.Native.Nat.{_%_, _^_}
 use mathlib.Core.List.{map}
 use Rattle.math.specs.declared.vec3.Vec3.{Vec3 as Floats}
 use Rattle.quantise.specs.Short.{shorts, coordinates}
-use Rattle.strip.specs.Cell.{Vec3, Half, Edge, Polygon, Portal, Point, Cell}
-use Rattle.pages.specs.Items.{floats, bitsOf, cornersIn}
+use Rattle.strip.specs.Cell.{Vec3, NavEdgeEnd, NavEdge, NavPoly, NavPortal, NavPoint, Cell}
+use Rattle.cell_record.specs.Record.{bits}
+use Rattle.pages.specs.Items.{floats, cornersIn}
 use Rattle.pages.specs.Sectors.{preorder}
 use Rattle.pages.specs.Pages.{loOf, extentOf, sectors}
 
 -- areas are kept in full; poly, unk2 and unk3 are cut to their bits
-unfoldable pub halfAgain : Half → Half
+unfoldable pub halfAgain : NavEdgeEnd → NavEdgeEnd
 halfAgain h = record { area = h .area; poly = h .poly % 2 ^ 14; unk3 = h .unk3 % 2 ^ 11; unk2 = h .unk2 % 2 ^ 2 }
 
-unfoldable pub edgeAgain : Edge → Edge
+unfoldable pub edgeAgain : NavEdge → NavEdge
 edgeAgain e = record { a = halfAgain (e .a); b = halfAgain (e .b) }
 
 module _ (lo size : Floats) where
   -- shorts turned back
   unfoldable pub positionAgain : Vec3 → Vec3
-  positionAgain v = bitsOf (coordinates (shorts (floats v) lo size) lo size)
+  positionAgain v = bits (coordinates (shorts (floats v) lo size) lo size)
 
   -- reading makes as many edges as vertices
-  unfoldable pub polygonAgain : Polygon → Polygon
+  unfoldable pub polygonAgain : NavPoly → NavPoly
   polygonAgain p = record {
     flags0 = p .flags0;
     flags1 = p .flags1;
@@ -32,7 +33,7 @@ module _ (lo size : Floats) where
   }
 
   -- areas are cut to their bits
-  unfoldable pub portalAgain : Portal → Portal
+  unfoldable pub portalAgain : NavPortal → NavPortal
   portalAgain p = record {
     kind = p .kind;
     angle = p .angle;
@@ -46,7 +47,7 @@ module _ (lo size : Floats) where
     area-unk = p .area-unk % 2 ^ 4;
   }
 
-  unfoldable pub pointAgain : Point → Point
+  unfoldable pub pointAgain : NavPoint → NavPoint
   pointAgain t = record { angle = t .angle; kind = t .kind; position = positionAgain (t .position) }
 
 -- the points that are stored come leaf by leaf, in preorder

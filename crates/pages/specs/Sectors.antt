@@ -15,10 +15,11 @@ use Rattle.quantise.specs.Short.{nought, shorts}
 use Rattle.quantise.specs.Quarter.{quarterBox, bits16}
 use Rattle.quantise.specs.declared.quarter.QuarterBox.{QuarterBox}
 use Rattle.quantise.specs.declared.bounds.Aabb.{Aabb}
-use Rattle.strip.specs.Cell.{Polygon, Point, Head}
+use Rattle.strip.specs.Cell.{NavPoly, NavPoint, Head}
 use Rattle.blocks.specs.Layout.{placeOf, behind, endOf, address}
 use Rattle.pages.specs.Items.{floats, boxOf}
 use Rattle.pages.specs.Optional.{blockOf, sizeOf, addressOf}
+use Rattle.fields.specs.Sizes.{POINT-SIZE, SECTOR-DATA-SIZE, SECTOR-SIZE}
 
 -- ---- boxes
 
@@ -83,7 +84,7 @@ leafOf [] p = 0
 leafOf (b ∷ bs) p = cond (inside b p) 0 (suc (leafOf bs p))
 
 -- the points that leaf k of these boxes stores, in the strip's order
-unfoldable pub pointsOf : List Aabb → ℕ → List Point → List Point
+unfoldable pub pointsOf : List Aabb → ℕ → List NavPoint → List NavPoint
 pointsOf boxes k [] = []
 pointsOf boxes k (p ∷ ps) = cond (eqb (leafOf boxes (floats (p .position))) k) (p ∷ pointsOf boxes k ps) (pointsOf boxes k ps)
 
@@ -100,22 +101,22 @@ meets leaf q =
     && axisMeets (leaf .«y_min») (leaf .«y_max») (q .«y_min») (q .«y_max»)
 
 -- of the polygons from number k on, by their quarter boxes, the numbers of those that meet a leaf's
-unfoldable pub idsOf : QuarterBox → ℕ → List QuarterBox → List ℕ
-idsOf leaf k [] = []
-idsOf leaf k (q ∷ qs) = cond (meets leaf q) (k ∷ idsOf leaf (k + 1) qs) (idsOf leaf (k + 1) qs)
+unfoldable pub leafIds : QuarterBox → ℕ → List QuarterBox → List ℕ
+leafIds leaf k [] = []
+leafIds leaf k (q ∷ qs) = cond (meets leaf q) (k ∷ leafIds leaf (k + 1) qs) (leafIds leaf (k + 1) qs)
 
 -- ---- the tree
 
 -- a leaf with its polygon ids and its points, or a sector with its subs
 pub data Sector : Type 0 where
-  leaf : Aabb → List ℕ → List Point → Sector
+  leaf : Aabb → List ℕ → List NavPoint → Sector
   node : Aabb → Sector → Sector → Sector → Sector → Sector
 
 abbrev pub quarters : Aabb → QuarterBox
 quarters b = quarterBox (b .min) (b .max)
 
 -- d splits below b; the leaves are numbered from k on, in writing order; `ids` gives a leaf's polygons by its quarter box, `stored` its points by its number
-module _ (ids : QuarterBox → List ℕ) (stored : ℕ → List Point) where
+module _ (ids : QuarterBox → List ℕ) (stored : ℕ → List NavPoint) where
   unfoldable pub grown : ℕ → ℕ → Aabb → Sector
   grown zero k b = leaf b (ids (quarters b)) (stored k)
   grown (suc d) k b =
@@ -126,9 +127,9 @@ module _ (ids : QuarterBox → List ℕ) (stored : ℕ → List Point) where
       (grown d (k + 3 * 4 ^ d) (sub3 b))
 
 -- the tree of a cell's box, polygons and points
-unfoldable pub treeOf : Head → List Polygon → List Point → Sector
+unfoldable pub treeOf : Head → List NavPoly → List NavPoint → Sector
 treeOf h ps ts =
-    grown (λ q. idsOf q 0 (map boxOf ps)) (λ k. pointsOf (leaves (depthOf h) (rootBox h)) k ts) (depthOf h) 0 (rootBox h)
+    grown (λ q. leafIds q 0 (map boxOf ps)) (λ k. pointsOf (leaves (depthOf h) (rootBox h)) k ts) (depthOf h) 0 (rootBox h)
 
 -- how many sectors there are, how many points are stored, and how many bytes count for the total: 96 for a sector, 32 for a leaf, 2 for an id, 8 for
 -- a point
@@ -141,8 +142,8 @@ pointCount (leaf b is ts) = length ts
 pointCount (node b t0 t1 t2 t3) = pointCount t0 + (pointCount t1 + (pointCount t2 + pointCount t3))
 
 unfoldable pub byteCount : Sector → ℕ
-byteCount (leaf b is ts) = 96 + 32 + 2 * length is + 8 * length ts
-byteCount (node b t0 t1 t2 t3) = 96 + (byteCount t0 + (byteCount t1 + (byteCount t2 + byteCount t3)))
+byteCount (leaf b is ts) = SECTOR-SIZE + SECTOR-DATA-SIZE + 2 * length is + POINT-SIZE * length ts
+byteCount (node b t0 t1 t2 t3) = SECTOR-SIZE + (byteCount t0 + (byteCount t1 + (byteCount t2 + byteCount t3)))
 
 -- each leaf's count of ids and of points, in writing order
 unfoldable pub leafCounts : Sector → List (ℕ × ℕ)
@@ -150,19 +151,19 @@ leafCounts (leaf b is ts) = (length is, length ts) ∷ []
 leafCounts (node b t0 t1 t2 t3) = leafCounts t0 ++ (leafCounts t1 ++ (leafCounts t2 ++ leafCounts t3))
 
 -- the points as they are read: preorder goes over subs 3, 2, 1, 0
-unfoldable pub preorder : Sector → List Point
+unfoldable pub preorder : Sector → List NavPoint
 preorder (leaf b is ts) = ts
 preorder (node b t0 t1 t2 t3) = preorder t3 ++ (preorder t2 ++ (preorder t1 ++ preorder t0))
 
 -- ---- records
 
 -- the Rust's f32::NAN
-abbrev pub nanBits : ℕ
-nanBits = 0x7FC0_0000
+abbrev pub nanWord : ℕ
+nanWord = 0x7FC0_0000
 
 -- three floats and the NaN
 abbrev pub line : Floats → List (ℕ × ℕ)
-line v = (4, toBits binary32 (v .x)) ∷ (4, toBits binary32 (v .y)) ∷ (4, toBits binary32 (v .z)) ∷ (4, nanBits) ∷ []
+line v = (4, toBits binary32 (v .x)) ∷ (4, toBits binary32 (v .y)) ∷ (4, toBits binary32 (v .z)) ∷ (4, nanWord) ∷ []
 
 abbrev pub quarterRow : QuarterBox → List (ℕ × ℕ)
 quarterRow q =
@@ -182,12 +183,12 @@ dataRow first ids points idCount pointCount =
 -- ---- sizes, and the ends before the blocks of a tree that is laid out behind `end`
 
 unfoldable pub sizes : Sector → List ℕ
-sizes (leaf b is ts) = 96 ∷ (sizeOf (2 * length is) ++ (sizeOf (8 * length ts) ++ (32 ∷ [])))
-sizes (node b t0 t1 t2 t3) = 96 ∷ (sizes t0 ++ (sizes t1 ++ (sizes t2 ++ sizes t3)))
+sizes (leaf b is ts) = SECTOR-SIZE ∷ (sizeOf (2 * length is) ++ (sizeOf (POINT-SIZE * length ts) ++ (SECTOR-DATA-SIZE ∷ [])))
+sizes (node b t0 t1 t2 t3) = SECTOR-SIZE ∷ (sizes t0 ++ (sizes t1 ++ (sizes t2 ++ sizes t3)))
 
 -- before m ids, n points and the data of a leaf
 abbrev pub idsFrom : ℕ → ℕ
-idsFrom end = behind end 96
+idsFrom end = behind end SECTOR-SIZE
 
 abbrev pub pointsFrom : (end m : ℕ) → ℕ
 pointsFrom end m = endOf (idsFrom end) (sizeOf (2 * m))
@@ -197,7 +198,7 @@ dataFrom end m n = endOf (pointsFrom end m) (sizeOf (8 * n))
 
 -- before the subs of a sector
 abbrev pub from0 : ℕ → ℕ
-from0 end = behind end 96
+from0 end = behind end SECTOR-SIZE
 
 abbrev pub from1 : ℕ → Sector → ℕ
 from1 end t0 = endOf (from0 end) (sizes t0)
@@ -210,24 +211,24 @@ from3 end t0 t1 t2 = endOf (from2 end t0 t1) (sizes t2)
 
 -- the address of a sector that is laid out behind `end`
 abbrev pub sectorAddress : ℕ → ℕ
-sectorAddress end = address (placeOf end 96)
+sectorAddress end = address (placeOf end SECTOR-SIZE)
 
 -- ---- blocks
 
 module _ (lo size : Floats) where
   -- a point, 8 bytes: shorts, angle, kind
-  abbrev pub pointRow : Point → List (ℕ × ℕ)
+  abbrev pub pointRow : NavPoint → List (ℕ × ℕ)
   pointRow p =
       (2, shorts (floats (p .position)) lo size .x) ∷ (2, shorts (floats (p .position)) lo size .y) ∷ (2, shorts (floats (p .position)) lo size .z)
       ∷ (1, p .angle) ∷ (1, p .kind) ∷ []
 
-  unfoldable pub pointItems : List Point → List (List ℕ)
+  unfoldable pub pointItems : List NavPoint → List (List ℕ)
   pointItems ts = map (λ t. rowBytes (pointRow t)) ts
 
   -- a leaf's, whose first point has the number `first`, and which has m ids and n points: its sector before its ids, points, data
-  unfoldable pub leafBlocks : (end first m n : ℕ) → Aabb → List ℕ → List Point → List (List ℕ)
+  unfoldable pub leafBlocks : (end first m n : ℕ) → Aabb → List ℕ → List NavPoint → List (List ℕ)
   leafBlocks end first m n b is ts =
-      rowBytes (sectorRow b (address (placeOf (dataFrom end m n) 32)) 0 0 0 0)
+      rowBytes (sectorRow b (address (placeOf (dataFrom end m n) SECTOR-DATA-SIZE)) 0 0 0 0)
       ∷ (blockOf (les 2 is) ++ (blockOf (cat (pointItems ts))
       ++ (rowBytes (dataRow first (addressOf (idsFrom end) (2 * m)) (addressOf (pointsFrom end m) (8 * n)) m n) ∷ [])))
 

@@ -6,7 +6,7 @@ use mathlib.Core.List.{List, [], _∷_, _++_}
 use lib.ListN.{length}
 use Rattle.math.specs.declared.vec3.Vec3.{Vec3 as Floats}
 use Rattle.quantise.specs.declared.bounds.Aabb.{Aabb}
-use Rattle.strip.specs.Cell.{Point, Cell}
+use Rattle.strip.specs.Cell.{NavPoint, Cell}
 use Rattle.pages.specs.Sectors.{Sector, leaves, depthOf, rootBox, inside, pointsOf}
 use Rattle.pages.specs.Sectors.Sector.{leaf, node}
 
@@ -25,15 +25,15 @@ Outside [] p = Unit
 Outside (b ∷ bs) p = (inside b p ≡ false) × Outside bs p
 
 -- the points that lie in no leaf: `leafOf` answers the count of the boxes
-unfoldable pub dropped : Cell → List Point
+unfoldable pub dropped : Cell → List NavPoint
 dropped c = pointsOf (leafBoxes c) (length (leafBoxes c)) (c .points)
 
 -- a tree's leaves in writing order, each with its box and its points
-unfoldable pub leafList : Sector → List (Aabb × List Point)
+unfoldable pub leafList : Sector → List (Aabb × List NavPoint)
 leafList (leaf b is ts) = (b, ts) ∷ []
 leafList (node b t0 t1 t2 t3) = leafList t0 ++ (leafList t1 ++ (leafList t2 ++ leafList t3))
 
 -- boxes from number k on, each with the points of its number
-unfoldable pub numbered : (ℕ → List Point) → ℕ → List Aabb → List (Aabb × List Point)
+unfoldable pub numbered : (ℕ → List NavPoint) → ℕ → List Aabb → List (Aabb × List NavPoint)
 numbered stored k [] = []
 numbered stored k (b ∷ bs) = (b, stored k) ∷ numbered stored (k + 1) bs

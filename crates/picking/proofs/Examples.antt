@@ -4,7 +4,7 @@ use mathlib.Core.Path.{_≡_, refl}
 use mathlib.Core.Bool.{Bool, true, false}
 use mathlib.Core.List.{List, [], _∷_, _++_}
 use lib.Ieee.{binary32, ofBits, sub, div, mul, lt}
-use Rattle.quantise.specs.Short.{short, fraction, clamped, nearest}
+use Rattle.quantise.specs.Short.{short, fraction, clamped, nearestNumber}
 use Rattle.strip.specs.Reading.{itemsAt, headAt, polyAt, polygonOf}
 use Rattle.strip.specs.Box.{finiteBox}
 use Rattle.strip.specs.Scan.{firstGood, allBelow, edgesFit, polyFits, cellRecord, polygonRecord, portalRecord, endRecord, recordOf, recordAt, restFrom, restAt, scan}
@@ -71,7 +71,7 @@ second = refl
 
 -- Strips of a box from 0 to 65535, whose upper x is a word (that float is 65535, 0x477fff00, or infinite), and polygons of three vertices.
 answer : List ℕ → Spot → Paper Found
-unfolding scan restAt restFrom recordAt recordOf firstGood cellRecord polygonRecord portalRecord endRecord headAt polyAt polyFits polygonOf allBelow edgesFit itemsAt finiteBox firstFrom inside crossings lastOf crossed leftOf short fraction clamped nearest sub div mul lt ofBits
+unfolding scan restAt restFrom recordAt recordOf firstGood cellRecord polygonRecord portalRecord endRecord headAt polyAt polyFits polygonOf allBelow edgesFit itemsAt finiteBox firstFrom inside crossings lastOf crossed leftOf short fraction clamped nearestNumber sub div mul lt ofBits
 answer strip s = shown (pickOutcome strip s)
 
 abbrev box : ℕ → List ℕ
@@ -100,7 +100,7 @@ no-end = refl
 
 -- on a side that is 2 long, 1 is the middle, which the half goes up from, and 2 the end
 spotted : List ℕ → (x y : ℕ) → Paper Spot
-unfolding scan restAt restFrom recordAt recordOf firstGood cellRecord endRecord headAt finiteBox short fraction clamped nearest sub div mul lt ofBits
+unfolding scan restAt restFrom recordAt recordOf firstGood cellRecord endRecord headAt finiteBox short fraction clamped nearestNumber sub div mul lt ofBits
 spotted strip x y = shown (spotOutcome strip (ofBits binary32 x) (ofBits binary32 y))
 
 middle : spotted (0x10000000 ∷ 0 ∷ 500 ∷ 0 ∷ 0 ∷ 0 ∷ 0 ∷ 0 ∷ 0 ∷ 0 ∷ 0 ∷ 0x40000000 ∷ 0x40000000 ∷ 0 ∷ 0x50000000 ∷ []) 0x3f800000 0x40000000 ≡ values (at 32768 65535)

@@ -7,7 +7,7 @@ use native.Mathlib.Omega.{arith}
 use native.Mathlib.Nat.{mul-le-mul}
 use lib.Dec.{eqb, ltb}
 use Rattle.quantise.proofs.Ops.{ltb-same}
-use Rattle.strip.specs.Cell.{Vec3, Polygon}
+use Rattle.strip.specs.Cell.{Vec3, NavPoly}
 use Rattle.strip.specs.Reading.{vecAt, itemsAt, vecsAt, polyAt, polygonOf, polygonAt, polygonsAt}
 use Rattle.strip.specs.declared.Poly.{Poly}
 use Rattle.strip.proofs.Steps.{items-turn, items-done, polygons-turn}
@@ -58,7 +58,7 @@ module _ (spot : Vec3 → Spot) (ws : List ℕ) (s : Spot) where
       rw (l, c)
 
 -- a search among the polygons that are left, from number i on: the next one passes the test, or not, or there is none
-module _ (test : Polygon → Bool) (ws : List ℕ) (at i n : ℕ) where
+module _ (test : NavPoly → Bool) (ws : List ℕ) (at i n : ℕ) where
   module _ (k : i < n) (p : Poly) (e : p ≡ polyAt ws at) (b : Bool) (m : b ≡ test (polygonOf ws p)) where
     pub first-found : b ≡ true → firstFrom test i (polygonsAt ws at (n - i)) ≡ found i
     unfolding firstFrom

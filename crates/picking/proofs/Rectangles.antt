@@ -9,7 +9,7 @@ use native.Mathlib.Nat.{mul-le-mul-right, mul-lt-mul-of-pos-right, mul-add}
 use lib.Dec.{eqb, leb, ltb}
 use borrow.Author.Tests.{ltb-true, ltb-false, leb-true, leb-false, lt-ltb, le-ltb, le-leb, lt-leb}
 use Rattle.quantise.proofs.Ops.{ltb-same}
-use Rattle.strip.specs.Cell.{Polygon, Head}
+use Rattle.strip.specs.Cell.{NavPoly, Head}
 use Rattle.picking.specs.declared.Spot.{Spot}
 use Rattle.picking.specs.Picking.{spotOf, leftOf, crossed, one, crossings, lastOf, inside, contains}
 use Rattle.picking.proofs.Whole.{not-crossed}
@@ -127,15 +127,15 @@ one-above-the-other l r b m t i h k s =
     (halves-and (between l (s .x) r) (between b (s .y) t) (between b (s .y) m) (between m (s .y) t) (halves b m t (s .y) h k))
 
 -- of polygons whose vertices have these spots: what each contains, and two that share an upright side or a level one
-abbrev pub IsRectangle : Head → Polygon → (l b r t : ℕ) → Type 0
+abbrev pub IsRectangle : Head → NavPoly → (l b r t : ℕ) → Type 0
 IsRectangle h p l b r t = map (spotOf h) (p .vertices) ≡ rectangle l b r t
 
 module _ (h : Head) (s : Spot) where
-  pub rectangle-contains : (p : Polygon) (l b r t : ℕ) → IsRectangle h p l b r t → l ≤ r → b ≤ t
+  pub rectangle-contains : (p : NavPoly) (l b r t : ℕ) → IsRectangle h p l b r t → l ≤ r → b ≤ t
       → contains h s p ≡ ((leb l (s .x) && ltb (s .x) r) && (leb b (s .y) && ltb (s .y) t))
   rectangle-contains p l b r t e i k = rw e (in-rectangle s l b r t i k)
 
-  module _ (whole p q : Polygon) where
+  module _ (whole p q : NavPoly) where
     pub neighbours : (l m r b t : ℕ) → IsRectangle h whole l b r t → IsRectangle h p l b m t → IsRectangle h q m b r t → l ≤ m → m ≤ r → b ≤ t
         → Halves (contains h s whole) (contains h s p) (contains h s q)
     neighbours l m r b t e f g i j k = rw (e, f, g) (side-by-side l m r b t i j k s)

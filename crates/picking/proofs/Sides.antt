@@ -11,7 +11,7 @@ use lib.Dec.{leb}
 use lib.Ieee.{binary32, ofBits}
 use borrow.Author.Tests.{le-ltb, le-leb, leb-true, leb-false}
 use Rattle.quantise.proofs.Capped.{short-lt}
-use Rattle.strip.specs.Cell.{All, Polygon, Head}
+use Rattle.strip.specs.Cell.{All, NavPoly, Head}
 use Rattle.strip.proofs.Alls.{all-images}
 use Rattle.picking.specs.declared.Spot.{Spot}
 use Rattle.picking.specs.Picking.{spotOf, leftOf, crossed, one, crossings, lastOf, inside, contains}
@@ -72,7 +72,7 @@ few-sides s (a ∷ b ∷ []) h = rw (either-way s b a) (twice (crossed s a b))
 few-sides s (a ∷ b ∷ c ∷ vs) h = absurd (omega arith)
 
 -- so fewer than 3 vertices contain nothing
-pub few-vertices : (h : Head) (s : Spot) (p : Polygon) → length (p .vertices) < 3 → contains h s p ≡ false
+pub few-vertices : (h : Head) (s : Spot) (p : NavPoly) → length (p .vertices) < 3 → contains h s p ≡ false
 unfolding inside
 few-vertices h s p k = rw (few-sides s (map (spotOf h) (p .vertices)) (rw (length-map (p .vertices) (spotOf h)) k))
 
@@ -116,7 +116,7 @@ module _ (s : Spot) where
   passed-above a b h k = not-crossed s a b (rw (le-leb (a .y) (s .y) h, le-leb (b .y) (s .y) k))
 
 -- so what lies on the far sides of the cell's box, where shorts are 65535, is in none of its polygons
-module _ (h : Head) (s : Spot) (p : Polygon) where
+module _ (h : Head) (s : Spot) (p : NavPoly) where
   pub far-right : 65535 ≤ s .x → contains h s p ≡ false
   far-right k =
       not-inside s (λ v. v .x ≤ s .x) (passed-right s) (map (spotOf h) (p .vertices)) (omega arith)

@@ -10,7 +10,7 @@ use lib.ListN.{length}
 use lib.Dec.{ltb}
 use lib.Ieee.{Float, binary32, ofBits}
 use borrow.Author.Tests.{ltb-true, ltb-false}
-use Rattle.strip.specs.Cell.{All, Vec3, Polygon, Head, Cell}
+use Rattle.strip.specs.Cell.{All, Vec3, NavPoly, Head, Cell}
 use Rattle.strip.specs.Box.{finiteBox}
 use Rattle.strip.specs.Scan.{ok, scan}
 use Rattle.strip.specs.Outcome.{Paper, refusal, values, shown}
@@ -25,22 +25,22 @@ use Rattle.picking.proofs.Sides.{few-vertices, far-right, far-above}
 use Rattle.picking.proofs.Checks.{OnCell, ThreeOrTen, says-value, says-refusal}
 
 -- the polygon of number k passes a test, and none before it does
-pub record Lowest (test : Polygon → Bool) (k : ℕ) (ps : List Polygon) : Type 0 where
-  pub before : List Polygon
-  pub polygon : Polygon
-  pub behind : List Polygon
+pub record Lowest (test : NavPoly → Bool) (k : ℕ) (ps : List NavPoly) : Type 0 where
+  pub before : List NavPoly
+  pub polygon : NavPoly
+  pub behind : List NavPoly
   pub all : ps ≡ before ++ (polygon ∷ behind)
   pub number : length before ≡ k
   pub passes : test polygon ≡ true
   pub none-before : All (λ p. test p ≡ false) before
 
-module _ (test : Polygon → Bool) where
+module _ (test : NavPoly → Bool) where
   -- counted from i on
-  abbrev From : ℕ → Found → List Polygon → Type 0
+  abbrev From : ℕ → Found → List NavPoly → Type 0
   From i (found k) ps = (n : ℕ) × (k ≡ n + i) × Lowest test n ps
   From i none ps = All (λ p. test p ≡ false) ps
 
-  later : (p : Polygon) (i : ℕ) (f : Found) (ps : List Polygon) → test p ≡ false → From (i + 1) f ps → From i f (p ∷ ps)
+  later : (p : NavPoly) (i : ℕ) (f : Found) (ps : List NavPoly) → test p ≡ false → From (i + 1) f ps → From i f (p ∷ ps)
   later p i (found k) ps e (n, g, l) = (
     suc n,
     omega arith,
@@ -48,7 +48,7 @@ module _ (test : Polygon → Bool) where
       before = p ∷ l .before;
       polygon = l .polygon;
       behind = l .behind;
-      all = ap (λ (x : List Polygon). p ∷ x) (l .all);
+      all = ap (λ (x : List NavPoly). p ∷ x) (l .all);
       number = ap suc (l .number);
       passes = l .passes;
       none-before = (e, l .none-before);
@@ -56,7 +56,7 @@ module _ (test : Polygon → Bool) where
   )
   later p i none ps e l = (e, l)
 
-  searched : (i : ℕ) (ps : List Polygon) → From i (firstFrom test i ps) ps
+  searched : (i : ℕ) (ps : List NavPoly) → From i (firstFrom test i ps) ps
   unfolding firstFrom
   searched i [] = tt
   searched i (p ∷ ps) = by (test p) refl (searched (i + 1) ps)
@@ -67,12 +67,12 @@ module _ (test : Polygon → Bool) where
       by false e l = later p i (firstFrom test (i + 1) ps) ps e l
 
   -- and back
-  passed-by : (i : ℕ) (before ps : List Polygon) → All (λ p. test p ≡ false) before → firstFrom test i (before ++ ps) ≡ firstFrom test (length before + i) ps
+  passed-by : (i : ℕ) (before ps : List NavPoly) → All (λ p. test p ≡ false) before → firstFrom test i (before ++ ps) ≡ firstFrom test (length before + i) ps
   unfolding firstFrom
   passed-by i [] ps h = ap (λ (n : ℕ). firstFrom test n ps) (omega arith)
   passed-by i (p ∷ before) ps (e, h) = rw e (passed-by (i + 1) before ps h ∙ ap (λ (n : ℕ). firstFrom test n ps) (omega arith))
 
-  pub first-lowest : (k : ℕ) (ps : List Polygon) → (firstFrom test 0 ps ≡ found k) ↔ Lowest test k ps
+  pub first-lowest : (k : ℕ) (ps : List NavPoly) → (firstFrom test 0 ps ≡ found k) ↔ Lowest test k ps
   unfolding firstFrom
   first-lowest k ps = (there, back)
     where
@@ -82,11 +82,11 @@ module _ (test : Polygon → Bool) where
       back : Lowest test k ps → firstFrom test 0 ps ≡ found k
       back l = rw (l .all, passed-by 0 (l .before) (l .polygon ∷ l .behind) (l .none-before), l .passes) (ap found (omega arith))
 
-  pub first-none : (ps : List Polygon) → (firstFrom test 0 ps ≡ none) ↔ All (λ p. test p ≡ false) ps
+  pub first-none : (ps : List NavPoly) → (firstFrom test 0 ps ≡ none) ↔ All (λ p. test p ≡ false) ps
   unfolding firstFrom
   first-none ps = (λ e. rw e at (searched 0 ps), back 0 ps)
     where
-      back : (i : ℕ) (ps : List Polygon) → All (λ p. test p ≡ false) ps → firstFrom test i ps ≡ none
+      back : (i : ℕ) (ps : List NavPoly) → All (λ p. test p ≡ false) ps → firstFrom test i ps ≡ none
       back i [] h = refl
       back i (p ∷ ps) (e, h) = rw e (back (i + 1) ps h)
 
@@ -99,7 +99,7 @@ unless a b f = by (ltb a b) refl
     by false e = ltb-false a b e
 
 -- what is contained is contained in a polygon of 3 vertices or more, and lies before the far sides of the box
-module _ (h : Head) (s : Spot) (p : Polygon) (holds : contains h s p ≡ true) where
+module _ (h : Head) (s : Spot) (p : NavPoly) (holds : contains h s p ≡ true) where
   three : 3 ≤ length (p .vertices)
   three = unless (length (p .vertices)) 3 (λ few. false≢true (sym (few-vertices h s p few) ∙ holds))
 

@@ -6,7 +6,7 @@ use mathlib.Core.List.{List, [], _∷_, map}
 use lib.Dec.{eqb, leb, ltb}
 use lib.Ieee.{Float, binary32, ofBits}
 use Rattle.quantise.specs.Short.{short}
-use Rattle.strip.specs.Cell.{Vec3, Polygon, Head, Cell}
+use Rattle.strip.specs.Cell.{Vec3, NavPoly, Head, Cell}
 use Rattle.strip.specs.Box.{finiteBox}
 use Rattle.strip.specs.Scan.{scan}
 use Rattle.strip.specs.Outcome.{Outcome, refused, done, Paper, values, refusalOf}
@@ -58,7 +58,7 @@ lastOf from (v ∷ vs) = lastOf v vs
 unfoldable pub inside : (spot : Spot) → List Spot → Bool
 inside s vs = eqb (crossings s (lastOf s vs) vs % 2) 1
 
-abbrev pub contains : Head → Spot → Polygon → Bool
+abbrev pub contains : Head → Spot → NavPoly → Bool
 contains h s p = inside s (map (spotOf h) (p .vertices))
 
 -- the number of the first that passes a test, or none

@@ -1,6 +1,6 @@
 -- From what `plan` promises to what the writer needs: a plan without a refusal is ready for the pages, and any other is the call's refusal.
 -- Assumes nothing.
-use Prim.Native.Nat.{ℕ, zero, suc}
+use Prim.Native.Nat.{ℕ}
 use native.Mathlib.Omega.{arith}
 use mathlib.Core.Path.{_≡_, refl, ap, sym, _∙_}
 use mathlib.Core.Bool.{false}
@@ -10,12 +10,16 @@ use lib.Dec.{ltb}
 use borrow.Author.Tests.{le-ltb}
 use Rattle.strip.specs.Cell.{Cell}
 use Rattle.strip.specs.Outcome.{Outcome}
+use Rattle.strip.specs.declared.Refusal.{Refusal}
 use Rattle.strip.specs.Scan.{Scanned, ok, fault, scan}
 use Rattle.pages.specs.Pages.{pages}
-use Rattle.pages.specs.Checks.{Verdict, fine, refused, when, at, cellVerdict, onVerdict, writeOutcome}
+use Rattle.pages.specs.Checks.{Verdict, fine, refused, faultIf, at, cellVerdict, onVerdict, writeOutcome}
 use Rattle.pages.proofs.Accepted.{accepted}
 use Rattle.pages.proofs.Firsts.{at-none}
 use Rattle.decide.specs.Decide.{beforeLeaves, told}
+use Rattle.decide.specs.Steps.{says}
+use Rattle.decide.specs.declared.Verdict.{Verdict as Said}
+use Rattle.decide.specs.declared.Verdict.the-variants.{Fine, Refused}
 use Rattle.decide.specs.declared.Decision.{Decision}
 use Rattle.strip.proofs.Laid.{LaidOut, laid-out}
 use Rattle.plan.specs.Plan.{afterPolygonChecks, Planned}
@@ -24,7 +28,7 @@ use Rattle.plan.proofs.Verdicts.{whole-verdict, scanned-cell, cell-at}
 
 -- 2, where the pages are c's
 abbrev short : ℕ → Cell → Verdict
-short out c = at 0 (when (ltb out (length (pages c))) 2) fine
+short out c = at 0 (faultIf (ltb out (length (pages c))) 2) fine
 
 module _ (s w w' : List ℕ) (d : Decision) where
   -- the cell's verdict is what the answer says, and then 2
@@ -33,16 +37,16 @@ module _ (s w w' : List ℕ) (d : Decision) where
 
   -- ---- no refusal
 
-  scanned : Planned s w w' d → d .fault ≡ 0 → scan s ≡ ok (cellAt s (d .counts))
+  scanned : Planned s w w' d → d .verdict ≡ Fine → scan s ≡ ok (cellAt s (d .counts))
   scanned P z =
       let f = scanned-cell s d (λ c. beforeLeaves (length s) (length w) (afterPolygonChecks fine c) c) (P .verdict fine) z in
       f .1 ∙ ap ok (cell-at s (f .0) (d .counts) (f .1) (P .counts z (f .0) (f .1)))
 
-  pub verdict-of : (out : ℕ) → Planned s w w' d → d .fault ≡ 0
-      → cellVerdict (length s) (length w) out (cellAt s (d .counts)) ≡ at 0 (when (ltb out (length (pages (cellAt s (d .counts))))) 2) fine
-  verdict-of out P z = said out P _ (scanned P z) ∙ at-none (d .place) (d .fault) (short out (cellAt s (d .counts))) z
+  pub verdict-of : (out : ℕ) → Planned s w w' d → d .verdict ≡ Fine
+      → cellVerdict (length s) (length w) out (cellAt s (d .counts)) ≡ at 0 (faultIf (ltb out (length (pages (cellAt s (d .counts))))) 2) fine
+  verdict-of out P z = said out P _ (scanned P z) ∙ ap (λ (v : Said). says v (short out (cellAt s (d .counts)))) z
 
-  pub ready : Planned s w w' d → d .fault ≡ 0 → Ready s w' d
+  pub ready : Planned s w w' d → d .verdict ≡ Fine → Ready s w' d
   ready P z =
       let c = cellAt s (d .counts) in
       let n : ℕ = length (pages c) in
@@ -62,21 +66,13 @@ module _ (s w w' : List ℕ) (d : Decision) where
 
   -- ---- a refusal, whatever the answer's values and the lent output
 
-  refusal : (v : Verdict) → (d .fault ≡ 0 → ⊥) → told d v ≡ refused (d .fault) (d .place)
-  unfolding at
-  refusal v ne = by (d .fault) ne
+  pub refused-so : {A : Type 0} (values : Cell → A) (out : ℕ) → Planned s w w' d → (q : Refusal) → d .verdict ≡ Refused q
+      → writeOutcome values s (length w) out ≡ Outcome.refused (q .number) (q .place)
+  refused-so {A} values out P q bad = by (scan s) refl
     where
-      by : (n : ℕ) → (n ≡ 0 → ⊥) → at (d .place) n v ≡ refused n (d .place)
-      by zero h = absurd (h refl)
-      by (suc n) h = refl
-
-  pub refused-so : {A : Type 0} (values : Cell → A) (out : ℕ) → Planned s w w' d → (d .fault ≡ 0 → ⊥)
-      → writeOutcome values s (length w) out ≡ Outcome.refused (d .fault) (d .place)
-  refused-so {A} values out P ne = by (scan s) refl
-    where
-      by : (x : Scanned) → scan s ≡ x → writeOutcome values s (length w) out ≡ Outcome.refused (d .fault) (d .place)
-      by (ok c) e = rw (e, said out P c e, refusal (short out c) ne)
+      by : (x : Scanned) → scan s ≡ x → writeOutcome values s (length w) out ≡ Outcome.refused (q .number) (q .place)
+      by (ok c) e = rw (e, said out P c e, bad)
       by (fault n p) e =
-          let same : refused n p ≡ refused (d .fault) (d .place) = sym (rw e at (P .verdict fine)) ∙ refusal fine ne in
+          let same : refused n p ≡ refused (q .number) (q .place) = sym (rw (e, bad) at (P .verdict fine)) in
           let none : Outcome A = Outcome.refused 0 0 in
           rw e (ap (λ (v : Verdict). onVerdict v none) same)

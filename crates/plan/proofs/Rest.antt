@@ -9,16 +9,16 @@ use lib.Seq.{getD-append-add}
 use Rattle.fields.specs.Bytes.{put}
 use Rattle.fields.proofs.Puts.{put-next}
 use Rattle.quantise.specs.declared.bounds.Aabb.{Aabb}
-use Rattle.strip.specs.Cell.{Polygon, Point}
+use Rattle.strip.specs.Cell.{NavPoly, NavPoint}
 use Rattle.strip.specs.Reading.{word, after, polyAt, polygonAt, polygonsAt, afterPolygons, pointAt, pointsAt, headAt}
 use Rattle.strip.specs.declared.Counts.{Counts}
-use Rattle.strip.specs.declared.Refusal.{Refusal}
 use Rattle.strip.proofs.Steps.{items-length}
 use Rattle.strip.proofs.Judged.{poly-next}
 use Rattle.pages.specs.Items.{floats, boxOf, gather}
 use Rattle.pages.specs.Sectors.{Sector, leafOf, leaves, depthBy, depthOf, rootBox, leafCounts, treeOf}
-use Rattle.pages.specs.Checks.{Verdict, at, leavesVerdict}
-use Rattle.quadtree.specs.Work.{treeBy, Tells, BoxesHeld, LeavesHeld}
+use Rattle.pages.specs.Checks.{leavesVerdict}
+use Rattle.quadtree.specs.Work.{treeBy, FirstRefused, BoxesHeld, LeavesHeld}
+use Rattle.quadtree.specs.declared.leaves.LeafCheck.{LeafCheck}
 use Rattle.quadtree.proofs.Held.{tree-held}
 use Rattle.decide.specs.Decide.{tablesEnd}
 use Rattle.decide.proofs.Fronts.{trees-in}
@@ -35,12 +35,12 @@ pub rest-fits : (s : List ℕ) (n : Counts) → 14 ≤ length s → length s ≡
     → tablesEnd (length s) + 3 * n .polys + n .points ≤ 3 * length s
 rest-fits s n l e = omega (arith, trees-in (length s) l .2, polygons-long (n .polys) s 14)
 
-pub length-boxes : (ps : List Polygon) → length (boxes ps) ≡ 3 * length ps
+pub length-boxes : (ps : List NavPoly) → length (boxes ps) ≡ 3 * length ps
 unfolding gather boxWords
 length-boxes [] = refl
 length-boxes (p ∷ ps) = omega (arith, length-boxes ps)
 
-pub length-leaves : (bs : List Aabb) (ts : List Point) → length (leafWords bs ts) ≡ length ts
+pub length-leaves : (bs : List Aabb) (ts : List NavPoint) → length (leafWords bs ts) ≡ length ts
 unfolding leafWords
 length-leaves bs [] = refl
 length-leaves bs (t ∷ ts) = ap suc (length-leaves bs ts)
@@ -66,7 +66,7 @@ rest-stored s n w w1 w2 base first b eb ef er e1 e2 =
 got : (pre : List ℕ) (i : ℕ) (xs : List ℕ) → getD (pre ++ xs) (length pre + i) 0 ≡ getD xs i 0
 got pre i xs = getD-append-add pre xs i 0
 
-boxes-in : (pre : List ℕ) (ps : List Polygon) → BoxesHeld (pre ++ boxes ps) (length pre) ps
+boxes-in : (pre : List ℕ) (ps : List NavPoly) → BoxesHeld (pre ++ boxes ps) (length pre) ps
 unfolding gather boxWords
 boxes-in pre [] = tt
 boxes-in pre (p ∷ ps) =
@@ -76,7 +76,7 @@ boxes-in pre (p ∷ ps) =
     let rest : BoxesHeld ((pre ++ three) ++ boxes ps) (length (pre ++ three)) ps = boxes-in (pre ++ three) ps in
     (record { x = zero'; y = got pre 1 (three ++ boxes ps); z = got pre 2 (three ++ boxes ps) }, rw (append-assoc, next) at rest)
 
-leaves-in : (bs : List Aabb) (pre : List ℕ) (ts : List Point) → LeavesHeld bs (pre ++ leafWords bs ts) (length pre) ts
+leaves-in : (bs : List Aabb) (pre : List ℕ) (ts : List NavPoint) → LeavesHeld bs (pre ++ leafWords bs ts) (length pre) ts
 unfolding leafWords
 leaves-in bs pre [] = tt
 leaves-in bs pre (t ∷ ts) =
@@ -119,7 +119,9 @@ module _ (s w : List ℕ) (n : Counts) (held : WorkHeld s n w) (from : ℕ) (her
       let size : length boxPart ≡ 3 * length ps = rw box-part (length-boxes ps) in
       ap (λ (c : Aabb). treeBy boxPart leafPart ts (depthOf (headAt s 0)) 0 c) root ∙ tree-held (headAt s 0) ps ts boxPart leafPart size boxes-are leaves-are
 
-  pub leaf-told : (b : Aabb) (r : Refusal) → b ≡ rootBox (headAt s 0)
-      → ((ts : List Point) → length ts ≡ length leafPart → Tells r 0 (leafCounts (treeBy boxPart leafPart ts (depthBy (word s 1 / 2 ^ 2 % 2)) 0 b)))
-      → (rest : Verdict) → at (r .place) (r .number) rest ≡ leavesVerdict 0 (leafCounts (treeOf (headAt s 0) (polygonsAt s 14 (n .polys)) (pointsIn s n))) rest
-  leaf-told b r root tells rest = tells (pointsIn s n) part-long rest ∙ ap (λ (t : Sector). leavesVerdict 0 (leafCounts t) rest) (part-tree b root)
+  pub leaf-told : (b : Aabb) (d : ℕ) (r : LeafCheck) → b ≡ rootBox (headAt s 0) → d ≡ depthBy (word s 1 / 2 ^ 2 % 2)
+      → ((ts : List NavPoint) → length ts ≡ length leafPart → FirstRefused r 0 (leafCounts (treeBy boxPart leafPart ts d 0 b)))
+      → FirstRefused r 0 (leafCounts (treeOf (headAt s 0) (polygonsAt s 14 (n .polys)) (pointsIn s n)))
+  leaf-told b d r root deep tells rest =
+      let ts = pointsIn s n in
+      tells ts part-long rest ∙ ap (λ (t : Sector). leavesVerdict 0 (leafCounts t) rest) (ap (λ (k : ℕ). treeBy boxPart leafPart ts k 0 b) deep ∙ part-tree b root)

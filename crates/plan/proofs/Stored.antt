@@ -13,10 +13,10 @@ use mir.Val.{toZ, ofZ}
 use Rattle.quantise.proofs.Quarters.{side-read}
 use Rattle.fields.specs.Bytes.{put}
 use Rattle.fields.proofs.Puts.{length-put, put-nil, put-cons, put-one, put-next}
-use Rattle.quantise.specs.Bounds.{thirds, held, quarterBounds}
+use Rattle.quantise.specs.Bounds.{everyThird, held, quarterBounds}
 use Rattle.quantise.specs.declared.quarter.QuarterBox.{QuarterBox}
 use Rattle.quantise.specs.declared.bounds.Aabb.{Aabb}
-use Rattle.strip.specs.Cell.{Vec3, Polygon, Point}
+use Rattle.strip.specs.Cell.{Vec3, NavPoly, NavPoint}
 use Rattle.strip.specs.Reading.{word, itemsAt, vecAt, vecsAt, polyAt, polygonOf, polygonAt, polygonsAt, afterPolygons, pointAt, pointsAt}
 use Rattle.strip.specs.declared.Poly.{Poly}
 use Rattle.strip.proofs.Steps.{items-turn, items-done, polygons-turn, after-polygon, next-inside}
@@ -26,8 +26,8 @@ use Rattle.plan.specs.Plan.{sides, boxWords, boxes, leafWords}
 
 -- ---- a polygon's quarter box, read by axis
 
-axis : (s : List ℕ) (k : ℕ) (f : Vec3 → ℕ) → ((at : ℕ) → f (vecAt s at) ≡ word s (at + k)) → (n at : ℕ) → thirds s (at + k) n ≡ map f (vecsAt s at n)
-unfolding thirds itemsAt
+axis : (s : List ℕ) (k : ℕ) (f : Vec3 → ℕ) → ((at : ℕ) → f (vecAt s at) ≡ word s (at + k)) → (n at : ℕ) → everyThird s (at + k) n ≡ map f (vecsAt s at n)
+unfolding everyThird itemsAt
 axis s k f e zero at = refl
 axis s k f e (suc n) at =
     let next : at + k + 3 ≡ at + 3 + k = omega arith in
@@ -39,7 +39,7 @@ unfolding boxOf polygonOf
 box-read s p h =
     let v = p .«vertex_at» in
     let all : held s v (p .vertices) ≡ p .vertices = min-eq-left (omega arith) in
-    let x : thirds s v (p .vertices) ≡ map (λ q. q .x) (vecsAt s v (p .vertices)) = ap (λ (at : ℕ). thirds s at (p .vertices)) (sym (add-zero v)) ∙ axis s 0 (λ q. q .x) (λ at. ap (word s) (sym (add-zero at))) (p .vertices) v in
+    let x : everyThird s v (p .vertices) ≡ map (λ q. q .x) (vecsAt s v (p .vertices)) = ap (λ (at : ℕ). everyThird s at (p .vertices)) (sym (add-zero v)) ∙ axis s 0 (λ q. q .x) (λ at. ap (word s) (sym (add-zero at))) (p .vertices) v in
     rw (all, x, axis s 1 (λ q. q .y) (λ at. refl) (p .vertices) v, axis s 2 (λ q. q .z) (λ at. refl) (p .vertices) v)
 
 -- three words one after the other
@@ -55,7 +55,7 @@ sides-word m n m' n' r e em en = e ∙ ap (λ (k : ℤ). sides k n) em ∙ ap (�
 abbrev read : ℤ → ℤ
 read z = toZ w16 (ofZ w16 z)
 
-module _ (q : QuarterBox) (p : Polygon) (e : q ≡ boxOf p) (w : List ℕ) (at x y z : ℕ)
+module _ (q : QuarterBox) (p : NavPoly) (e : q ≡ boxOf p) (w : List ℕ) (at x y z : ℕ)
     (ex : x ≡ sides (read (q .«x_min»)) (read (q .«x_max»))) (ey : y ≡ sides (read (q .«y_min»)) (read (q .«y_max»))) (ez : z ≡ sides (read (q .«z_min»)) (read (q .«z_max»))) where
   pub box-stored : set (set (set w at x) (at + 1) y) (at + 2) z ≡ put at (boxWords (boxOf p)) w
   unfolding boxWords boxOf
@@ -94,12 +94,12 @@ module _ (s : List ℕ) (n base : ℕ) (w₀ : List ℕ) where
         here = omega (arith, g .here);
         long = rw ew (length-put place (boxWords (boxOf (polygonOf s p))) w) ∙ g .long;
         left = rw ew (put-next 3 place (boxWords (boxOf (polygonOf s p))) (boxes (polygonsAt s (p .next) (n - (i + 1)))) w (length-box (boxOf (polygonOf s p))))
-            ∙ ap (λ (ps : List Polygon). put place (boxes ps) w) (sym (polygons-turn s at i n h p e)) ∙ g .left;
+            ∙ ap (λ (ps : List NavPoly). put place (boxes ps) w) (sym (polygons-turn s at i n h p e)) ∙ g .left;
       }
 
     pub boxing-done : n ≤ i → w ≡ put base (boxes (polygonsAt s 14 n)) w₀
     unfolding gather
-    boxing-done h = sym (put-nil place w) ∙ ap (λ (ps : List Polygon). put place (boxes ps) w) (sym (items-done (polygonAt s) (λ x. polyAt s x .next) at i n h)) ∙ g .left
+    boxing-done h = sym (put-nil place w) ∙ ap (λ (ps : List NavPoly). put place (boxes ps) w) (sym (items-done (polygonAt s) (λ x. polyAt s x .next) at i n h)) ∙ g .left
 
 -- ---- points
 
@@ -124,9 +124,9 @@ module _ (s : List ℕ) (bs : List Aabb) (first n base : ℕ) (w₀ : List ℕ) 
           here = omega (arith, g .here);
           long = rw (← put-one (base + i) k w) (length-put (base + i) (k ∷ []) w) ∙ g .long;
           left = rw (sum, ek) (sym (put-cons (base + i) (leafOf bs (floats (vecAt s (at + 1)))) (leafWords bs (pointsAt s (at + 4) (n - (i + 1)))) w))
-              ∙ ap (λ (ts : List Point). put (base + i) (leafWords bs ts) w) (sym (items-turn (pointAt s) (λ x. x + 4) at i n h)) ∙ g .left;
+              ∙ ap (λ (ts : List NavPoint). put (base + i) (leafWords bs ts) w) (sym (items-turn (pointAt s) (λ x. x + 4) at i n h)) ∙ g .left;
         }
 
     pub leafing-done : n ≤ i → w ≡ put base (leafWords bs (pointsAt s first n)) w₀
     unfolding leafWords
-    leafing-done h = sym (put-nil (base + i) w) ∙ ap (λ (ts : List Point). put (base + i) (leafWords bs ts) w) (sym (items-done (pointAt s) (λ x. x + 4) at i n h)) ∙ g .left
+    leafing-done h = sym (put-nil (base + i) w) ∙ ap (λ (ts : List NavPoint). put (base + i) (leafWords bs ts) w) (sym (items-done (pointAt s) (λ x. x + 4) at i n h)) ∙ g .left

@@ -11,22 +11,29 @@ use borrow.Author.Tests.{ltb-false}
 use Rattle.fields.specs.Bytes.{put}
 use Rattle.fields.proofs.Puts.{length-put, before, after}
 use Rattle.fields.proofs.Holds.{Holds, put-held, held-first, held-second, held-taken}
-use Rattle.strip.specs.Cell.{Cell, Head, Polygon}
+use Rattle.strip.specs.Cell.{Cell, Head, NavPoly}
 use Rattle.strip.specs.Reading.{headAt, polygonsAt}
 use Rattle.strip.specs.Scan.{Scanned, ok, fault, scan}
 use Rattle.strip.specs.declared.Counts.{Counts}
 use Rattle.strip.specs.declared.Refusal.{Refusal}
 use Rattle.strip.proofs.Laid.{LaidOut, laid-out}
+use Rattle.cell_record.specs.Record.{recordOf}
 use Rattle.vertices.specs.Table.{tripleAt, met}
 use Rattle.vertices.proofs.Triples.{met-ext}
 use Rattle.pages.specs.Sectors.{leaves, depthOf, rootBox, leafCounts, treeOf}
 use Rattle.pages.specs.Pages.{links, sectors}
-use Rattle.pages.specs.Checks.{Verdict, fine, when, first, at, leavesVerdict}
-use Rattle.pages.proofs.Firsts.{at-none, at-some, passed}
+use Rattle.pages.specs.Checks.{Verdict, fine, faultIf, firstFault, at, leavesVerdict}
+use Rattle.pages.proofs.Firsts.{at-none, passed}
+use Rattle.quadtree.specs.Work.{FirstRefused, after as after-leaves}
+use Rattle.quadtree.specs.declared.leaves.LeafCheck.{LeafCheck}
 use Rattle.decide.specs.Decide.{beforeLeaves, onScan, told, trees, indicesAt, tablesEnd, Tabled, DecideDone}
+use Rattle.decide.specs.Steps.{says, said}
+use Rattle.decide.specs.declared.Verdict.{Verdict as Said}
+use Rattle.decide.specs.declared.Verdict.the-variants.{Fine, Refused}
 use Rattle.decide.specs.declared.Decision.{Decision}
+use Rattle.decide.proofs.Said.{never-both, said-says, at-refused}
 use Rattle.decide.proofs.Fronts.{trees-in}
-use Rattle.plan.specs.Plan.{boxes, leafWords, portalsEnd, pointsIn, restWords, WorkHeld, afterPolygonChecks, faulted, Planned}
+use Rattle.plan.specs.Plan.{boxes, leafWords, portalsEnd, pointsIn, restWords, WorkHeld, afterPolygonChecks, judged, Planned}
 use Rattle.plan.proofs.Verdicts.{scanned-cell, cell-at}
 use Rattle.plan.proofs.Rest.{length-boxes, length-leaves, poly-count, point-count}
 
@@ -52,8 +59,8 @@ module _ (p : ℕ) (bs xs : List ℕ) where
   unfolding tripleAt
   met-before b n h = met-ext xs (put p bs xs) b n (λ i l. rw (before p bs xs (b + 2 * i) (omega arith), before p bs xs (b + 2 * i + 1) (omega arith)))
 
-tabled-kept : (words : ℕ) (h : Head) (ps : List Polygon) (w bs : List ℕ) (d : Decision) (f k : ℕ) → Tabled words h ps w d → Tabled words h ps (put (tablesEnd words) bs w) (faulted d f k)
-tabled-kept words h ps w bs d f k t = record {
+tabled-kept : (words : ℕ) (h : Head) (ps : List NavPoly) (w bs : List ℕ) (d : Decision) (v : Said) → Tabled words h ps w d → Tabled words h ps (put (tablesEnd words) bs w) (judged d v)
+tabled-kept words h ps w bs d v t = record {
   vertices = met-before (tablesEnd words) bs w (trees words) (d .vertices) (omega (arith, t .few-vertices, t .few-corners)) ∙ t .vertices;
   indices = part-before (tablesEnd words) bs w (indicesAt words) (d .corners) (omega (arith, t .few-corners)) ∙ t .indices;
   areas = t .areas;
@@ -62,6 +69,7 @@ tabled-kept words h ps w bs d f k t = record {
   few-vertices = t .few-vertices;
   few-corners = t .few-corners;
   few-polys = t .few-polys;
+  cell = t .cell;
 }
 
 -- ---- what a decision without a refusal tells
@@ -73,21 +81,21 @@ refused-not (suc n) place v e = let z : _≡_ {A = ℕ} 0 1 = cc in absurd (omeg
 
 module _ (s w w' : List ℕ) (d : Decision) (D : DecideDone s w w' d) where
   -- a refusal before the leaves
-  pub early : (d .fault ≡ 0 → ⊥) → Planned s w w' d
-  early ne = record {
+  pub early : (q : Refusal) → d .verdict ≡ Refused q → Planned s w w' d
+  early q bad = record {
     verdict = λ rest. by rest (scan s) refl;
     long = D .long;
     beyond = D .beyond;
-    tabled = λ z. absurd (ne z);
-    held = λ z. absurd (ne z);
-    counts = λ z. absurd (ne z);
+    tabled = λ z. never-both (d .verdict) q bad z;
+    held = λ z. never-both (d .verdict) q bad z;
+    counts = λ z. never-both (d .verdict) q bad z;
   }
     where
       by : (rest : Verdict) (x : Scanned) → scan s ≡ x → told d rest ≡ onScan (λ c. beforeLeaves (length s) (length w) (afterPolygonChecks rest c) c) x
-      by rest (ok c) e = at-some (d .place) (d .fault) rest (afterPolygonChecks rest c) ne ∙ (rw e at (D .verdict (afterPolygonChecks rest c)))
+      by rest (ok c) e = rw bad (rw (bad, e) at (D .verdict (afterPolygonChecks rest c)))
       by rest (fault n p) e = rw e at (D .verdict rest)
 
-  module _ (z : d .fault ≡ 0) where
+  module _ (z : d .verdict ≡ Fine) where
     found : (c : Cell) × (scan s ≡ Scanned.ok c)
     found = scanned-cell s d (beforeLeaves (length s) (length w) fine) (D .verdict fine) z
 
@@ -104,13 +112,16 @@ module _ (s w w' : List ℕ) (d : Decision) (D : DecideDone s w w' d) where
     pub long : 14 ≤ length s
     long = laid .long
 
+    pub record-is : d .cell ≡ recordOf (headAt s 0)
+    record-is = D .tabled z cell is .cell ∙ ap recordOf (laid .head)
+
     pub whole : length s ≡ portalsEnd s (d .counts) + 4 * d .counts .points + 1
     whole = rw (D .counts z cell is) (laid .body .whole)
 
     pub room : 4 * length s ≤ length w'
     unfolding beforeLeaves
     room =
-        let said : fine ≡ beforeLeaves (length s) (length w) fine cell = sym (at-none (d .place) (d .fault) fine z) ∙ (rw is at (D .verdict fine)) in
+        let said : fine ≡ beforeLeaves (length s) (length w) fine cell = rw (z, is) at (D .verdict fine) in
         let none = refused-not _ 0 _ said in
         omega (arith, ltb-false (length w / 4) (length s) (passed (ltb (length w / 4) (length s)) 0 _ none), D .long)
 
@@ -146,33 +157,36 @@ module _ (s w w' : List ℕ) (d : Decision) (D : DecideDone s w w' d) where
       sectors-are = ap sectors (cell-at s cell (d .counts) is (D .counts z cell is))
 
       front-said : (rest : Verdict) → onScan (λ c. beforeLeaves (length s) (length w) (afterPolygonChecks rest c) c) (scan s) ≡ afterPolygonChecks rest cell
-      front-said rest = rw is (sym (sym (at-none (d .place) (d .fault) (afterPolygonChecks rest cell) z) ∙ (rw is at (D .verdict (afterPolygonChecks rest cell)))))
+      front-said rest =
+          let passes : told d (afterPolygonChecks rest cell) ≡ afterPolygonChecks rest cell = ap (λ (v : Said). says v (afterPolygonChecks rest cell)) z in
+          rw is (sym (sym passes ∙ (rw is at (D .verdict (afterPolygonChecks rest cell)))))
 
-      planned : (f k : ℕ) → ((rest : Verdict) → at k f rest ≡ afterPolygonChecks rest cell) → (q : Decision) → q ≡ faulted d f k → Planned s w w2 q
-      planned f k said q eq = record {
-        verdict = λ rest. rw eq (said rest ∙ sym (front-said rest));
+      planned : (v : Said) → ((rest : Verdict) → says v rest ≡ afterPolygonChecks rest cell) → (q : Decision) → q ≡ judged d v → Planned s w w2 q
+      planned v tells q eq = record {
+        verdict = λ rest. rw eq (tells rest ∙ sym (front-said rest));
         long = rw e2 (length-put (tablesEnd (length s)) (restWords s (d .counts)) w') ∙ D .long;
         beyond = rw e2 (drop-behind (tablesEnd (length s)) (restWords s (d .counts)) w' (2 * length s) fits) ∙ D .beyond;
-        tabled = λ y c e. rw (eq, e2) (tabled-kept (length s) (c .head) (c .polys) w' (restWords s (d .counts)) d f k (D .tabled z c e));
+        tabled = λ y c e. rw (eq, e2) (tabled-kept (length s) (c .head) (c .polys) w' (restWords s (d .counts)) d v (D .tabled z c e));
         held = λ y. rw eq held;
         counts = λ y c e. rw eq (D .counts z c e);
       }
 
-      module _ (r : Refusal) (told-leaves : (rest : Verdict) → at (r .place) (r .number) rest
-          ≡ leavesVerdict 0 (leafCounts (treeOf (headAt s 0) (polygonsAt s 14 (d .counts .polys)) (pointsIn s (d .counts)))) rest) where
-        pub bad-leaf : (r .number ≡ 0 → ⊥) → (q : Decision) → q ≡ faulted d (r .number) (r .place) → Planned s w w2 q
+      module _ (r : LeafCheck) (told-leaves : FirstRefused r 0 (leafCounts (treeOf (headAt s 0) (polygonsAt s 14 (d .counts .polys)) (pointsIn s (d .counts))))) where
+        pub bad-leaf : (p : Refusal) → r ≡ LeafCheck.Refused p → (q : Decision) → q ≡ judged d (Refused p) → Planned s w w2 q
         unfolding afterPolygonChecks
-        bad-leaf ne q eq =
-            planned (r .number) (r .place)
+        bad-leaf p er q eq =
+            planned (Refused p)
             (λ rest.
-            let v = at 0 (first (when (ltb 585 (length (cell .portals))) 19 ∷ when (ltb 8192 (length (links cell))) 20 ∷ [])) rest in
-            at-some (r .place) (r .number) rest v ne ∙ told-leaves v ∙ rw sectors-are)
+            let v = at 0 (firstFault (faultIf (ltb 585 (length (cell .portals))) 19 ∷ faultIf (ltb 8192 (length (links cell))) 20 ∷ [])) rest in
+            ap (λ (x : LeafCheck). after-leaves x v) (sym er) ∙ told-leaves v ∙ rw sectors-are)
             q eq
 
-        pub at-last : r .number ≡ 0 → (f : ℕ) → f ≡ first (when (ltb 585 (d .counts .portals)) 19 ∷ when (ltb 8192 (d .links)) 20 ∷ []) → (q : Decision) → q ≡ faulted d f 0 → Planned s w w2 q
+        pub at-last : r ≡ LeafCheck.Passed → (f : ℕ) → f ≡ firstFault (faultIf (ltb 585 (d .counts .portals)) 19 ∷ faultIf (ltb 8192 (d .links)) 20 ∷ [])
+            → (v : Said) → v ≡ said 0 f → (q : Decision) → q ≡ judged d v → Planned s w w2 q
         unfolding afterPolygonChecks links
-        at-last none f ef q eq =
+        at-last passed f ef v ev q eq =
             let n : d .counts .portals ≡ length (cell .portals) = ap (λ (k : Counts). k .portals) (D .counts z cell is) in
             let l : d .links ≡ length (links cell) = D .tabled z cell is .link-count in
-            let same : f ≡ first (when (ltb 585 (length (cell .portals))) 19 ∷ when (ltb 8192 (length (links cell))) 20 ∷ []) = rw (← n, ← l) ef in
-            planned f 0 (λ rest. sym (at-none (r .place) (r .number) (at 0 f rest) none) ∙ told-leaves (at 0 f rest) ∙ rw (sectors-are, same)) q eq
+            let same : f ≡ firstFault (faultIf (ltb 585 (length (cell .portals))) 19 ∷ faultIf (ltb 8192 (length (links cell))) 20 ∷ []) = rw (← n, ← l) ef in
+            planned v
+            (λ rest. ap (λ (u : Said). says u rest) ev ∙ said-says 0 f rest ∙ ap (λ (x : LeafCheck). after-leaves x (at 0 f rest)) (sym passed) ∙ told-leaves (at 0 f rest) ∙ rw (sectors-are, same)) q eq

@@ -8,15 +8,17 @@ use lib.IntN.{ℤ}
 use Rattle.quantise.specs.Quarter.{bits16}
 use Rattle.quantise.specs.declared.quarter.QuarterBox.{QuarterBox}
 use Rattle.quantise.specs.declared.bounds.Aabb.{Aabb}
-use Rattle.strip.specs.Cell.{Cell, Polygon, Point}
+use Rattle.strip.specs.Cell.{Cell, NavPoly, NavPoint}
 use Rattle.strip.specs.Reading.{headAt, polygonsAt, afterPolygons, pointsAt}
 use Rattle.strip.specs.Scan.{ok, scan}
 use Rattle.strip.specs.declared.Counts.{Counts}
 use Rattle.pages.specs.Items.{floats, boxOf, gather}
 use Rattle.pages.specs.Sectors.{leafOf, leaves, depthOf, rootBox, leafCounts}
 use Rattle.pages.specs.Pages.{links, sectors}
-use Rattle.pages.specs.Checks.{Verdict, when, first, at, leavesVerdict}
+use Rattle.pages.specs.Checks.{Verdict, faultIf, firstFault, at, leavesVerdict}
 use Rattle.decide.specs.Decide.{beforeLeaves, onScan, told, tablesEnd, Tabled}
+use Rattle.decide.specs.declared.Verdict.{Verdict as Said}
+use Rattle.decide.specs.declared.Verdict.the-variants.{Fine}
 use Rattle.decide.specs.declared.Decision.{Decision}
 
 -- two sides in one word, the min below
@@ -27,11 +29,11 @@ unfoldable pub boxWords : QuarterBox → List ℕ
 boxWords q = sides (q .«x_min») (q .«x_max») ∷ sides (q .«y_min») (q .«y_max») ∷ sides (q .«z_min») (q .«z_max») ∷ []
 
 -- of all polygons
-abbrev pub boxes : List Polygon → List ℕ
+abbrev pub boxes : List NavPoly → List ℕ
 boxes = gather (λ p. boxWords (boxOf p))
 
 -- the leaf of each point, of leaves with these boxes
-unfoldable pub leafWords : List Aabb → List Point → List ℕ
+unfoldable pub leafWords : List Aabb → List NavPoint → List ℕ
 leafWords bs ts = map (λ t. leafOf bs (floats (t .position))) ts
 
 -- ---- of a strip s with these counts
@@ -40,7 +42,7 @@ leafWords bs ts = map (λ t. leafOf bs (floats (t .position))) ts
 abbrev pub portalsEnd : List ℕ → Counts → ℕ
 portalsEnd s n = afterPolygons s 14 (n .polys) + 11 * n .portals
 
-abbrev pub pointsIn : List ℕ → Counts → List Point
+abbrev pub pointsIn : List ℕ → Counts → List NavPoint
 pointsIn s n = pointsAt s (portalsEnd s n) (n .points)
 
 -- what stands behind the tables
@@ -58,17 +60,18 @@ pub record WorkHeld (s : List ℕ) (n : Counts) (w : List ℕ) : Type 0 where
 -- 17 and 18 by leaf, 19, 20, then the rest
 unfoldable pub afterPolygonChecks : Verdict → Cell → Verdict
 afterPolygonChecks rest c =
-    leavesVerdict 0 (leafCounts (sectors c)) (at 0 (first (when (ltb 585 (length (c .portals))) 19 ∷ when (ltb 8192 (length (links c))) 20 ∷ [])) rest)
+    leavesVerdict 0 (leafCounts (sectors c)) (at 0 (firstFault (faultIf (ltb 585 (length (c .portals))) 19 ∷ faultIf (ltb 8192 (length (links c))) 20 ∷ [])) rest)
 
-abbrev pub faulted : Decision → ℕ → ℕ → Decision
-faulted d number place = record {
+-- the decision with another verdict
+abbrev pub judged : Decision → Said → Decision
+judged d v = record {
+  cell = d .cell;
   counts = d .counts;
   areas = d .areas;
   vertices = d .vertices;
   corners = d .corners;
   links = d .links;
-  fault = number;
-  place = place;
+  verdict = v;
 }
 
 -- what `plan` promises
@@ -76,6 +79,6 @@ pub record Planned (s w w' : List ℕ) (r : Decision) : Type 0 where
   pub verdict : (rest : Verdict) → told r rest ≡ onScan (λ c. beforeLeaves (length s) (length w) (afterPolygonChecks rest c) c) (scan s)
   pub long : length w' ≡ length w
   pub beyond : drop (2 * length s) w' ≡ drop (2 * length s) w
-  pub tabled : r .fault ≡ 0 → (c : Cell) → scan s ≡ ok c → Tabled (length s) (c .head) (c .polys) w' r
-  pub held : r .fault ≡ 0 → WorkHeld s (r .counts) w'
-  pub counts : r .fault ≡ 0 → (c : Cell) → scan s ≡ ok c → r .counts ≡ record { polys = length (c .polys); portals = length (c .portals); points = length (c .points) }
+  pub tabled : r .verdict ≡ Fine → (c : Cell) → scan s ≡ ok c → Tabled (length s) (c .head) (c .polys) w' r
+  pub held : r .verdict ≡ Fine → WorkHeld s (r .counts) w'
+  pub counts : r .verdict ≡ Fine → (c : Cell) → scan s ≡ ok c → r .counts ≡ record { polys = length (c .polys); portals = length (c .portals); points = length (c .points) }

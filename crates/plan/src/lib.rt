@@ -2,17 +2,23 @@
 ghost use mathlib.Core.Path.{_≡_};
 ghost use mathlib.Core.List.{[], _∷_};
 ghost use lib.Dec.{ltb};
-ghost use Rattle.pages.specs.Checks.{Verdict, when, first, at, leavesVerdict};
+ghost use Rattle.pages.specs.Checks.{Verdict as Saying, faultIf, firstFault, at, leavesVerdict};
 ghost use Rattle.decide.specs.Decide.{tablesEnd};
+ghost use Rattle.decide.specs.Steps.{said};
 ghost use Prim.Native.Nat.{_+_, _*_, _/_, _%_, _^_, _≤_};
 ghost use lib.ListN.{length};
 ghost use Rattle.fields.specs.Bytes.{put};
 ghost use Rattle.strip.specs.Reading.{headAt, polygonOf, polygonsAt, afterPolygons, pointsAt};
+ghost use Rattle.cell_record.specs.Record.{recordOf};
 ghost use Rattle.pages.specs.Items.{boxOf};
-ghost use Rattle.pages.specs.Sectors.{leaves, depthBy, rootBox, leafCounts, treeOf};
-ghost use Rattle.plan.specs.Plan.{sides, boxWords, boxes, leafWords, portalsEnd, pointsIn, restWords, WorkHeld, faulted, Planned};
+ghost use Rattle.pages.specs.Sectors.{leaves, depthBy, leafCounts, treeOf};
+ghost use Rattle.quadtree.specs.Work.{FirstRefused};
+ghost use Rattle.plan.specs.Plan.{sides, boxWords, boxes, leafWords, portalsEnd, pointsIn, restWords, WorkHeld, judged, Planned};
+use cell_record::CellRecord;
 use decide::Decision;
+use decide::Verdict;
 use math::vec3::floats_at;
+use quadtree::leaves::LeafCheck;
 use quantise::bounds::Aabb;
 use quantise::quarter::bits16_of;
 use strip::Counts;
@@ -67,81 +73,87 @@ fn put_leaves(
     requires { ⌜ (first + 4 * n ≤ length (now strip)) × (base + n ≤ length (now work)) ⌝ }
     ensures { λ _. ⌜ now (work .exit) ≡ put base (leafWords (leaves (depthBy (content / 2 ^ 2 % 2)) b) (pointsAt (now (strip .entry)) first n)) (now (work .entry)) ⌝ }
 {
+    let depth = quadtree::boxes::depth_of(content);
     let lines = quadtree::boxes::lines_of(b);
     let mut at = first;
     let mut i: usize = 0;
     while i < n {
         let p = floats_at(strip, at + 1);
-        work[base + i] = quadtree::boxes::leaf_of(content, b, lines, p);
+        work[base + i] = quadtree::boxes::leaf_of(depth, b, lines, p);
         at += 4;
         i += 1;
     }
 }
 
-// The box that splits into leaves: bb_min to bb_max.
-pub fn root_box(strip: &[u32]) -> Aabb
-    requires { ⌜ 14 ≤ length (now strip) ⌝ }
-    ensures { λ r. ⌜ r ≡ rootBox (headAt (now (strip .entry)) 0) ⌝ }
-{
-    let min = floats_at(strip, 5);
-    let max = floats_at(strip, 8);
-    Aabb { min, max }
-}
-
 // The quarter boxes, then the points' leaves, behind the tables.
-fn put_rest(strip: &[u32], counts: Counts, work: &mut [u32])
-    requires { ⌜ (14 ≤ length (now strip)) × (length (now strip) ≡ portalsEnd (now strip) counts + 4 * counts .points + 1) × (4 * length (now strip) ≤ length (now work)) ⌝ }
+fn put_rest(strip: &[u32], cell: CellRecord, counts: Counts, work: &mut [u32])
+    requires { ⌜ (14 ≤ length (now strip)) × (cell ≡ recordOf (headAt (now strip) 0)) × (length (now strip) ≡ portalsEnd (now strip) counts + 4 * counts .points + 1) × (4 * length (now strip) ≤ length (now work)) ⌝ }
     ensures { λ _. ⌜ now (work .exit) ≡ put (tablesEnd (length (now (strip .entry)))) (restWords (now (strip .entry)) counts) (now (work .entry)) ⌝ }
 {
     let at = decide::tables_end(strip);
     let n = counts.polys;
     let points = counts.points;
     put_boxes(strip, n, work, at);
-    let b = root_box(strip);
+    let b = cell.root_box();
     let first = strip.len() - 1 - 4 * points;
-    put_leaves(strip, first, points, strip[1], b, work, at + 3 * n);
+    put_leaves(
+        strip,
+        first,
+        points,
+        cell.content_flags,
+        b,
+        work,
+        at + 3 * n,
+    );
 }
 
 // 17 and 18, by the words behind the tables.
-fn leaf_fault(strip: &[u32], counts: Counts, work: &[u32]) -> Refusal
-    requires { ⌜ (14 ≤ length (now strip)) × WorkHeld (now strip) counts (now work) ⌝ }
-    ensures { λ r. ⌜ ((rest : Verdict) → at (r .place) (r .number) rest
-        ≡ leavesVerdict 0 (leafCounts (treeOf (headAt (now (strip .entry)) 0) (polygonsAt (now (strip .entry)) 14 (counts .polys)) (pointsIn (now (strip .entry)) counts))) rest) ⌝ }
+fn check_leaves(strip: &[u32], cell: CellRecord, counts: Counts, work: &[u32]) -> LeafCheck
+    requires { ⌜ (cell ≡ recordOf (headAt (now strip) 0)) × WorkHeld (now strip) counts (now work) ⌝ }
+    ensures { λ r. ⌜ FirstRefused r 0 (leafCounts (treeOf (headAt (now (strip .entry)) 0) (polygonsAt (now (strip .entry)) 14 (counts .polys)) (pointsIn (now (strip .entry)) counts))) ⌝ }
 {
     let at = decide::tables_end(strip);
     let mid = at + 3 * counts.polys;
     let end = mid + counts.points;
-    let b = root_box(strip);
-    quadtree::leaves::check_leaves(strip[1], b, &work[at..mid], &work[mid..end])
+    let b = cell.root_box();
+    let depth = quadtree::boxes::depth_of(cell.content_flags);
+    quadtree::leaves::check_leaves(depth, b, &work[at..mid], &work[mid..end])
 }
 
 // 19 and 20.
-fn count_fault(portals: usize, links: usize) -> u32
-    ensures { λ r. ⌜ r ≡ first (when (ltb 585 portals) 19 ∷ when (ltb 8192 links) 20 ∷ []) ⌝ }
+fn count_verdict(portals: usize, links: usize) -> Verdict
+    ensures { λ r. ⌜ r ≡ said 0 (firstFault (faultIf (ltb 585 portals) 19 ∷ faultIf (ltb 8192 links) 20 ∷ [])) ⌝ }
 {
     if 585 < portals {
-        return 19;
+        return Verdict::Refused(Refusal {
+            number: 19,
+            place: 0,
+        });
     }
     if 8192 < links {
-        return 20;
+        return Verdict::Refused(Refusal {
+            number: 20,
+            place: 0,
+        });
     }
-    0
+    Verdict::Fine
 }
 
-// The decision with another refusal.
-fn with_fault(d: Decision, fault: u32, place: usize) -> Decision
-    ensures { λ r. ⌜ r ≡ faulted d fault place ⌝ }
+// The decision with another verdict.
+fn with_verdict(d: Decision, verdict: Verdict) -> Decision
+    ensures { λ r. ⌜ r ≡ judged d verdict ⌝ }
 {
+    let cell = d.cell;
     let counts = d.counts;
     let areas = d.areas;
     Decision {
+        cell,
         counts,
         areas,
         vertices: d.vertices,
         corners: d.corners,
         links: d.links,
-        fault,
-        place,
+        verdict,
     }
 }
 
@@ -151,15 +163,20 @@ pub fn plan(strip: &[u32], work: &mut [u32]) -> Decision
     ensures { λ r. ⌜ Planned (now (strip .entry)) (now (work .entry)) (now (work .exit)) r ⌝ }
 {
     let d = decide::decide(strip, work);
-    if d.fault != 0 {
-        return d;
+    let verdict = d.verdict;
+    match verdict {
+        Verdict::Fine => {
+            let cell = d.cell;
+            let counts = d.counts;
+            put_rest(strip, cell, counts, work);
+            match check_leaves(strip, cell, counts, work) {
+                LeafCheck::Refused(r) => with_verdict(d, Verdict::Refused(r)),
+                LeafCheck::Passed => {
+                    let last = count_verdict(counts.portals, d.links);
+                    with_verdict(d, last)
+                }
+            }
+        }
+        Verdict::Refused(_) => d,
     }
-    let counts = d.counts;
-    put_rest(strip, counts, work);
-    let leaf = leaf_fault(strip, counts, work);
-    if leaf.number != 0 {
-        return with_fault(d, leaf.number, leaf.place);
-    }
-    let fault = count_fault(counts.portals, d.links);
-    with_fault(d, fault, 0)
 }

@@ -10,14 +10,14 @@ use lib.Dec.{leb, ltb}
 use lib.ListN.{length, take, drop, getD, set, length-take, length-drop, List·getD-map, drop-of-length-le}
 use lib.Seq.{drop-cons, getD-take, getD-drop}
 use borrow.Author.Tests.{leb-true, ltb-true, le-leb, lt-leb, lt-ltb, le-ltb}
-use Rattle.fields.specs.Bytes.{le, put, cut}
+use Rattle.fields.specs.Bytes.{leAt, put, cut}
 use Rattle.fields.specs.Rows.{pack}
 use Rattle.fields.proofs.Bytes.{past}
 use Rattle.fields.proofs.Puts.{put-next, put-one, put-append, put-cons, put-nil}
 use Rattle.resource.specs.Section.{resolved}
 use Rattle.areas.specs.declared.edge.RawEnd.{RawEnd}
-use Rattle.areas.specs.EdgeHalf.{endOf}
-use Rattle.strip.specs.Cell.{Vec3, Half, Edge, vecWords, halfWords, edgeWords}
+use Rattle.areas.specs.EdgeHalf.{decodedEnd}
+use Rattle.strip.specs.Cell.{Vec3, NavEdgeEnd, NavEdge, vecWords, halfWords, edgeWords}
 use Rattle.grammar.specs.Polygons.{halfOf, edgeOf, linkRun, linksAt, countOf}
 use Rattle.grammar.specs.Derives.{areaOf}
 use Rattle.lists.specs.Lists.{item}
@@ -37,11 +37,11 @@ pub vec-three : (v : Vec3) → length (vecWords v) ≡ 3
 unfolding vecWords
 vec-three v = refl
 
-half-three : (h : Half) → length (halfWords h) ≡ 3
+half-three : (h : NavEdgeEnd) → length (halfWords h) ≡ 3
 unfolding halfWords
 half-three h = refl
 
-pub edge-six : (e : Edge) → length (edgeWords e) ≡ 6
+pub edge-six : (e : NavEdge) → length (edgeWords e) ≡ 6
 unfolding edgeWords halfWords
 edge-six e = refl
 
@@ -52,15 +52,15 @@ put-four at a b c d xs = sym (put-one (at + 3) d (put at (a ∷ b ∷ c ∷ []) 
 
 -- ---- edges
 
-pub area-in : (header : List ℕ) {i n r : ℕ} → n ≡ le 4 header 0x94 → i < n → r ≡ le 4 header (0x98 + 4 * i) → r ≡ areaOf header i
+pub area-in : (header : List ℕ) {i n r : ℕ} → n ≡ leAt 4 header 0x94 → i < n → r ≡ leAt 4 header (0x98 + 4 * i) → r ≡ areaOf header i
 unfolding areaOf
 area-in header {i} {n} en l er = er ∙ rw (← en, lt-ltb i n l)
 
-pub area-none : (header : List ℕ) {i n : ℕ} → n ≡ le 4 header 0x94 → n ≤ i → 16383 ≡ areaOf header i
+pub area-none : (header : List ℕ) {i n : ℕ} → n ≡ leAt 4 header 0x94 → n ≤ i → 16383 ≡ areaOf header i
 unfolding areaOf
 area-none header {i} {n} en l = rw (← en, le-ltb i n l)
 
-pub half-words : (area : ℕ → ℕ) (raw : ℕ) {e : RawEnd} {a : ℕ} → e ≡ endOf raw → a ≡ area (e .index)
+pub half-words : (area : ℕ → ℕ) (raw : ℕ) {e : RawEnd} {a : ℕ} → e ≡ decodedEnd raw → a ≡ area (e .index)
     → (a ∷ e .poly ∷ (e .unk3 % 2048 + 65536 * (e .unk2 % 4)) ∷ []) ≡ halfWords (halfOf area raw)
 unfolding halfWords halfOf
 half-words area raw ee ea =
@@ -68,25 +68,25 @@ half-words area raw ee ea =
     let n : raw / 524288 % 4 % 4 ≡ raw / 524288 % 4 = omega arith in
     rw (ea, ee, m, n)
 
-pub edge-put : (area : ℕ → ℕ) (b : List ℕ) (at : ℕ) (out : List ℕ) → put (at + 3) (halfWords (halfOf area (le 4 b 4))) (put at (halfWords (halfOf area (le 4 b 0))) out) ≡ put at (edgeWords (edgeOf area b)) out
+pub edge-put : (area : ℕ → ℕ) (b : List ℕ) (at : ℕ) (out : List ℕ) → put (at + 3) (halfWords (halfOf area (leAt 4 b 4))) (put at (halfWords (halfOf area (leAt 4 b 0))) out) ≡ put at (edgeWords (edgeOf area b)) out
 unfolding edgeWords edgeOf
-edge-put area b at out = put-next 3 at (halfWords (halfOf area (le 4 b 0))) (halfWords (halfOf area (le 4 b 4))) out (half-three (halfOf area (le 4 b 0)))
+edge-put area b at out = put-next 3 at (halfWords (halfOf area (leAt 4 b 0))) (halfWords (halfOf area (leAt 4 b 4))) out (half-three (halfOf area (leAt 4 b 0)))
 
 -- ---- indices
 
 -- an index read from its own two bytes
-pub own-bytes : (run : List ℕ) (k : ℕ) {x : ℕ} → x ≡ le 2 (take (2 * k + 2 - 2 * k) (drop (2 * k) run)) 0 → x ≡ le 2 run (2 * k)
+pub own-bytes : (run : List ℕ) (k : ℕ) {x : ℕ} → x ≡ leAt 2 (take (2 * k + 2 - 2 * k) (drop (2 * k) run)) 0 → x ≡ leAt 2 run (2 * k)
 unfolding item
 own-bytes run k e =
     let two : 2 * k + 2 - 2 * k ≡ 2 = omega arith in
-    rw two at e ∙ item-field 2 run k 2 0 (omega arith) ∙ ap (le 2 run) (add-zero (2 * k))
+    rw two at e ∙ item-field 2 run k 2 0 (omega arith) ∙ ap (leAt 2 run) (add-zero (2 * k))
 
 module _ (run : List ℕ) (n limit : ℕ) where
   pub below-begin : allBelow limit (cut 2 (n - 0) (drop (2 * 0) run)) ≡ allBelow limit (cut 2 n run)
   below-begin = rw (sub-zero n)
 
-  module _ (k : ℕ) (l : k < n) {x : ℕ} (ex : x ≡ le 2 run (2 * k)) where
-    first : le 2 (take 2 (drop (2 * k) run)) 0 ≡ x
+  module _ (k : ℕ) (l : k < n) {x : ℕ} (ex : x ≡ leAt 2 run (2 * k)) where
+    first : leAt 2 (take 2 (drop (2 * k) run)) 0 ≡ x
     unfolding item
     first = item-field 2 run k 2 0 (omega arith) ∙ rw (add-zero (2 * k), ex)
 
@@ -114,7 +114,7 @@ module _ (run : List ℕ) (n limit : ℕ) where
 
 -- ---- links
 
-module _ (rec : List ℕ) (n : ℕ) {w : ℕ} (ew : w ≡ le 4 rec 0x2C) where
+module _ (rec : List ℕ) (n : ℕ) {w : ℕ} (ew : w ≡ leAt 4 rec 0x2C) where
   pub links-all : w / 32768 % 131072 + w / 4096 % 8 ≤ n → w / 4096 % 8 ≡ linkCount n rec
   unfolding linkCount
   links-all h = rw (← ew, le-leb (w / 32768 % 131072 + w / 4096 % 8) n h)
@@ -125,17 +125,17 @@ module _ (rec : List ℕ) (n : ℕ) {w : ℕ} (ew : w ≡ le 4 rec 0x2C) where
 
 pub length-links : (bytes : List ℕ) → length (linksOf bytes) ≡ length bytes / 2
 unfolding linksOf
-length-links bytes = length-map (λ b. le 2 b 0) (cut 2 (length bytes / 2) bytes) ∙ cut-length 2 (length bytes / 2) bytes
+length-links bytes = length-map (λ b. leAt 2 b 0) (cut 2 (length bytes / 2) bytes) ∙ cut-length 2 (length bytes / 2) bytes
   where
     length-map : (f : List ℕ → ℕ) (xs : List (List ℕ)) → length (map f xs) ≡ length xs
     length-map f [] = refl
     length-map f (x ∷ xs) = ap suc (length-map f xs)
 
-link-of : (bytes : List ℕ) (i : ℕ) → i < length bytes / 2 → getD (linksOf bytes) i 0 ≡ le 2 bytes (2 * i)
+link-of : (bytes : List ℕ) (i : ℕ) → i < length bytes / 2 → getD (linksOf bytes) i 0 ≡ leAt 2 bytes (2 * i)
 unfolding linksOf
 link-of bytes i h =
-    ap (getD (linksOf bytes) i) (sym (past 2 [] 0 (omega arith))) ∙ List·getD-map (λ b. le 2 b 0) (cut 2 (length bytes / 2) bytes) i []
-    ∙ ap (λ (b : List ℕ). le 2 b 0) (cut-item 2 (length bytes / 2) bytes i h) ∙ item-field 2 bytes i 2 0 (omega arith) ∙ rw (add-zero (2 * i))
+    ap (getD (linksOf bytes) i) (sym (past 2 [] 0 (omega arith))) ∙ List·getD-map (λ b. leAt 2 b 0) (cut 2 (length bytes / 2) bytes) i []
+    ∙ ap (λ (b : List ℕ). leAt 2 b 0) (cut-item 2 (length bytes / 2) bytes i h) ∙ item-field 2 bytes i 2 0 (omega arith) ∙ rw (add-zero (2 * i))
 
 -- a polygon has as many links as its run
 module _ (table rec : List ℕ) where
@@ -164,7 +164,7 @@ module _ (table rec : List ℕ) where
 
 module _ (rec bytes : List ℕ) where
   -- one link more
-  pub link-step : (k at : ℕ) (out : List ℕ) {w v : ℕ} → w ≡ le 4 rec 0x2C → v ≡ le 2 bytes (2 * (w / 32768 % 131072 + k)) → k < linkCount (length (linksOf bytes)) rec
+  pub link-step : (k at : ℕ) (out : List ℕ) {w v : ℕ} → w ≡ leAt 4 rec 0x2C → v ≡ leAt 2 bytes (2 * (w / 32768 % 131072 + k)) → k < linkCount (length (linksOf bytes)) rec
       → put (at + (k + 1)) (drop (k + 1) (links (linksOf bytes) rec)) (set out (at + k) v) ≡ put (at + k) (drop k (links (linksOf bytes) rec)) out
   link-step k at out {w} {v} ew ev l =
       let ls : List ℕ = links (linksOf bytes) rec in
@@ -183,11 +183,11 @@ module _ (rec bytes : List ℕ) where
       rw (e, put-nil)
 
   pub front-put : {n count : ℕ} → n ≡ linkCount (length (linksOf bytes)) rec → n ≤ 7 → count ≡ countOf rec → (at : ℕ) (out : List ℕ)
-      → put (at + 4) (links (linksOf bytes) rec) (put at ((0x2000_0000 + (n * 0x100_0000 + (count * 0x1000 + count))) ∷ le 2 rec 0 ∷ le 4 rec 0x24 ∷ le 4 rec 0x28 ∷ []) out)
+      → put (at + 4) (links (linksOf bytes) rec) (put at ((0x2000_0000 + (n * 0x100_0000 + (count * 0x1000 + count))) ∷ leAt 2 rec 0 ∷ leAt 4 rec 0x24 ∷ leAt 4 rec 0x28 ∷ []) out)
       ≡ put at (frontOf (linksOf bytes) rec) out
   unfolding frontOf pack
   front-put {n} {count} en small ec at out =
       let low : count < 2048 = omega arith in
       let word : 0x2000_0000 + (n * 0x100_0000 + (count * 0x1000 + count)) ≡ count % 4096 + 4096 * (count % 4096 + 4096 * (n % 16 + 16 * (2 % 16 + 16 * 0))) = omega arith in
       rw (← en, ← ec, ← word)
-      (put-next 4 at ((0x2000_0000 + (n * 0x100_0000 + (count * 0x1000 + count))) ∷ le 2 rec 0 ∷ le 4 rec 0x24 ∷ le 4 rec 0x28 ∷ []) (links (linksOf bytes) rec) out refl)
+      (put-next 4 at ((0x2000_0000 + (n * 0x100_0000 + (count * 0x1000 + count))) ∷ leAt 2 rec 0 ∷ leAt 4 rec 0x24 ∷ leAt 4 rec 0x28 ∷ []) (links (linksOf bytes) rec) out refl)

@@ -3,7 +3,7 @@ ghost use mathlib.Core.Path.{_≡_};
 ghost use mathlib.Core.List.{[], _∷_, map};
 ghost use Prim.Native.Nat.{_+_, _*_, _/_, _≤_};
 ghost use lib.ListN.{length};
-ghost use Rattle.fields.specs.Bytes.{put, cut, le};
+ghost use Rattle.fields.specs.Bytes.{put, cut, leAt};
 ghost use Rattle.strip.specs.Cell.{vecWords, halfWords, edgeWords, each};
 ghost use Rattle.grammar.specs.Polygons.{vertexOf, halfOf, edgeOf, linkRun, countOf};
 ghost use Rattle.grammar.specs.Derives.{areaOf};
@@ -16,6 +16,7 @@ use fields::u32_le;
 use math::vec3::Vec3;
 use records::words::put_position;
 use records::words::put3;
+use records::words::shorts_at;
 
 fn put4(out: &mut [u32], at: usize, a: u32, b: u32, c: u32, d: u32)
     requires { ⌜ at + 4 ≤ length (now out) ⌝ }
@@ -30,7 +31,7 @@ pub fn put_vertex(v: &[u8], bb_min: Vec3, bb_size: Vec3, out: &mut [u32], at: us
     requires { ⌜ at + 3 ≤ length (now out) ⌝ }
     ensures { λ _. ⌜ now (out .exit) ≡ put at (vecWords (vertexOf (backBy «bb_min» «bb_size») (now (v .entry)))) (now (out .entry)) ⌝ }
 {
-    put_position(v, 0, bb_min, bb_size, out, at);
+    put_position(shorts_at(v, 0), bb_min, bb_size, out, at);
 }
 
 // The area of an index, by the header's table.
@@ -79,7 +80,7 @@ pub fn put_edge_run<'a>(header: &'a [u8], run: &'a [u8], n: usize, out: &mut [u3
 // Index k of `run`. Two bytes are lent to the reader of numbers, which then needs no look at the end.
 pub fn index_at(run: &[u8], k: usize) -> usize
     requires { ⌜ 2 * k + 2 ≤ length (now run) ⌝ }
-    ensures { λ r. ⌜ r ≡ le 2 (now (run .entry)) (2 * k) ⌝ }
+    ensures { λ r. ⌜ r ≡ leAt 2 (now (run .entry)) (2 * k) ⌝ }
 {
     let from = 2 * k;
     let to = from + 2;

@@ -14,8 +14,8 @@ use Rattle.grammar.specs.Polygons.{countOf, startOf, runOf}
 use Rattle.records.proofs.Items.{each-append}
 use Rattle.polygon_words.specs.Words.{linksOf, allBelow}
 use Rattle.polygons.specs.declared.Cursors.{Cursors}
-use Rattle.polygons.specs.declared.Spot.{Spot}
-use Rattle.polygons.specs.declared.Tally.the-variants.{Words}
+use Rattle.polygons.specs.declared.PolygonCursor.{PolygonCursor}
+use Rattle.strip.specs.Outcome.{Paper, values, refusal, refusalOf}
 use Rattle.polygons.specs.Polygons.{Source, limitsOf, polygonMade, sizeOf, tallyOf, tallyFrom}
 use Rattle.polygons.specs.Passes.{itemsIn, sourceOf, Ready, Inside, Put, Passed}
 use Rattle.polygons.proofs.Runs.{map-append}
@@ -27,11 +27,11 @@ use Rattle.polygons.proofs.Exact.{tally-made, made-tally}
 
 module _ (s : Source) where
   -- the words of polygons that passed don't depend on the number of the first
-  renumbered : (p q : ℕ) (bs : List (List ℕ)) {w : ℕ} → tallyFrom (limitsOf s) (s .indices) p bs ≡ Words w → tallyFrom (limitsOf s) (s .indices) q bs ≡ Words w
-  renumbered p q bs e = let (made, v) = tally-made s p bs e in made-tally s q made .0 ∙ ap Words (sym v)
+  renumbered : (p q : ℕ) (bs : List (List ℕ)) {w : ℕ} → tallyFrom (limitsOf s) (s .indices) p bs ≡ values w → tallyFrom (limitsOf s) (s .indices) q bs ≡ values w
+  renumbered p q bs e = let (made, v) = tally-made s p bs e in made-tally s q made .0 ∙ ap values (sym v)
 
   module _ (ys zs : List (List ℕ)) {xs : List (List ℕ)} (e : xs ≡ ys ++ zs) (at end : ℕ) (h : Passed (limitsOf s) (s .indices) 0 xs at end) where
-    both : (a b : ℕ) × (tallyFrom (limitsOf s) (s .indices) 0 ys ≡ Words a) × (tallyFrom (limitsOf s) (s .indices) (0 + length ys) zs ≡ Words b) × (h .words ≡ a + b)
+    both : (a b : ℕ) × (tallyFrom (limitsOf s) (s .indices) 0 ys ≡ values a) × (tallyFrom (limitsOf s) (s .indices) (0 + length ys) zs ≡ values b) × (h .words ≡ a + b)
     both = then-words (tallyFrom (limitsOf s) (s .indices) 0 ys) (tallyFrom (limitsOf s) (s .indices) (0 + length ys) zs) (sym (tally-append (limitsOf s) (s .indices) 0 ys zs) ∙ sym (ap (tallyFrom (limitsOf s) (s .indices) 0) e) ∙ h .is)
 
     passed-front : Passed (limitsOf s) (s .indices) 0 ys at end
@@ -75,7 +75,7 @@ module _ (system graphics vertices indices edges links header : List ℕ) (lo si
       pub run-asks : Passed (limitsOf source) (itemsIn system graphics 2 indices) 0 ys e (length out)
       run-asks = rw (g .same-length) (passed-front source ys zs er e (length old) (g .passed))
 
-      pub goes-on : {r : Spot} {new : List ℕ} → Put system graphics vertices indices edges (each polygonWords (map (polygonMade source) ys)) out e r new → Going new (r .cursors) (r .at) zs
+      pub goes-on : {r : PolygonCursor} {new : List ℕ} → Put system graphics vertices indices edges (each polygonWords (map (polygonMade source) ys)) out e r new → Going new (r .cursors) (r .at) zs
       goes-on {r} {new} w =
           let front : List ℕ = each polygonWords (map (polygonMade source) ys) in
           let behind : List ℕ = each polygonWords (map (polygonMade source) zs) in
@@ -95,7 +95,7 @@ module _ (system graphics vertices indices edges links header : List ℕ) (lo si
           let (x, y, z, room) = first-well source b zs er e (length old) (g .passed) in
           (g .ready, inside system graphics vertices indices edges (startOf b) (countOf b) x y z, omega (arith, room, g .same-length))
 
-      pub one-on : {r : Spot} {new : List ℕ} → Put system graphics vertices indices edges (polygonWords (polygonMade source b)) out e r new → Going new (r .cursors) (r .at) zs
+      pub one-on : {r : PolygonCursor} {new : List ℕ} → Put system graphics vertices indices edges (polygonWords (polygonMade source b)) out e r new → Going new (r .cursors) (r .at) zs
       unfolding each
       one-on w = goes-on (b ∷ []) zs er (rw (append-nil (polygonWords (polygonMade source b))) w)
 

@@ -7,7 +7,7 @@ use mathlib.Core.Bool.{true}
 use mathlib.Core.List.{List, [], map}
 use mathlib.Core.Logic.{_⊎_, ⊎-elim}
 use lib.ListN.{length, take, drop, getD, take-append-drop}
-use Rattle.fields.specs.Bytes.{le, put, cut}
+use Rattle.fields.specs.Bytes.{leAt, put, cut}
 use Rattle.fields.proofs.Cuts.{cut-drop}
 use Rattle.fields.proofs.Puts.{length-put}
 use Rattle.strip.specs.Cell.{Vec3, vecWords, each}
@@ -50,18 +50,18 @@ module _ {table : List ℕ} {i : ℕ} {c : Cursor} (h : Holds table i c) where
 -- ---- indices
 
 -- an index of a run that passed is below the limit
-pub index-below : (run : List ℕ) (n limit k : ℕ) → k < n → {x : ℕ} → x ≡ le 2 run (2 * k) → allBelow limit (cut 2 n run) ≡ true → x < limit
+pub index-below : (run : List ℕ) (n limit k : ℕ) → k < n → {x : ℕ} → x ≡ leAt 2 run (2 * k) → allBelow limit (cut 2 n run) ≡ true → x < limit
 index-below run n limit k l ex g =
     let rest : allBelow limit (drop k (cut 2 n run)) ≡ true = both-below limit (take k (cut 2 n run)) (drop k (cut 2 n run)) (sym (take-append-drop k (cut 2 n run))) g .1 in
     below-first run n limit k l ex (rw (cut-drop 2 k n run (omega arith)) at rest) .0
 
 -- an index that is not in the part isn't the first one
-pub gone-on : (run : List ℕ) (count : ℕ) {from k j first : ℕ} → from ≤ k → j ≡ le 2 run (2 * k) → first ≤ le 2 run (2 * from) → le 2 run (2 * from) < first + count → (j < first) ⊎ (first + count ≤ j) → from < k
+pub gone-on : (run : List ℕ) (count : ℕ) {from k j first : ℕ} → from ≤ k → j ≡ leAt 2 run (2 * k) → first ≤ leAt 2 run (2 * from) → leAt 2 run (2 * from) < first + count → (j < first) ⊎ (first + count ≤ j) → from < k
 gone-on run count {from} {k} {j} {first} l ej lo hi out = ⊎-elim here (λ m. m) (eq-or-lt-of-le l)
   where
     here : from ≡ k → from < k
     here e =
-        let same : le 2 run (2 * from) ≡ j = ap (λ (i : ℕ). le 2 run (2 * i)) e ∙ sym ej in
+        let same : leAt 2 run (2 * from) ≡ j = ap (λ (i : ℕ). leAt 2 run (2 * i)) e ∙ sym ej in
         ⊎-elim (λ a. absurd (omega arith)) (λ a. absurd (omega arith)) out
 
 -- ---- vertices
@@ -71,14 +71,14 @@ module _ (back : ℕ → ℕ → ℕ → Vec3) (part : List ℕ) (first count : 
   none-yet l = record { low = omega arith; most = omega arith; same-length = refl; strip = λ items h. refl }
 
   -- one vertex more
-  pub near-more : {k : ℕ} {out : List ℕ} → Near back part first count run from n at old k out → k < n → {j : ℕ} → j ≡ le 2 run (2 * k) → first ≤ j → j < first + count
+  pub near-more : {k : ℕ} {out : List ℕ} → Near back part first count run from n at old k out → k < n → {j : ℕ} → j ≡ leAt 2 run (2 * k) → first ≤ j → j < first + count
       → {new : List ℕ} → new ≡ put (at + 3 * k) (vecWords (vertexOf back (take (6 * (j - first) + 6 - 6 * (j - first)) (drop (6 * (j - first)) part)))) out
       → Near back part first count run from n at old (k + 1) new
   unfolding item
   near-more {k} {out} g l {j} ej lo hi {new} e =
       let six : 6 * (j - first) + 6 - 6 * (j - first) ≡ 6 = omega arith in
       let stored : new ≡ put (at + 3 * k) (vecWords (vertexOf back (take 6 (drop (6 * (j - first)) part)))) out = rw six at e in
-      let index : le 2 (take 2 (drop (2 * k) run)) 0 ≡ j = item-field 2 run k 2 0 (omega arith) ∙ ap (le 2 run) (add-zero (2 * k)) ∙ sym ej in
+      let index : leAt 2 (take 2 (drop (2 * k) run)) 0 ≡ j = item-field 2 run k 2 0 (omega arith) ∙ ap (leAt 2 run) (add-zero (2 * k)) ∙ sym ej in
       record {
         low = let a = g .low in omega arith;
         most = omega arith;

@@ -8,7 +8,7 @@ use mathlib.Core.List.{List, [], _∷_, _++_, map}
 use lib.Dec.{ltb}
 use lib.ListN.{length, take, drop, getD, take-append-drop, drop-of-length-le}
 use lib.Seq.{take-add, drop-drop, ext-getD}
-use Rattle.fields.specs.Bytes.{le, put, cut}
+use Rattle.fields.specs.Bytes.{leAt, put, cut}
 use Rattle.fields.proofs.Puts.{put-next, put-nil}
 use Rattle.strip.specs.Cell.{each}
 use Rattle.lists.specs.declared.Cursor.{Cursor}
@@ -135,7 +135,7 @@ and-true false b e = let z : _≡_ {A = Bool} false true = e in (cc, cc)
 pub below-append : (n : ℕ) (xs ys : List (List ℕ)) → allBelow n (xs ++ ys) ≡ (allBelow n xs && allBelow n ys)
 unfolding allBelow
 below-append n [] ys = refl
-below-append n (x ∷ xs) ys = rw (below-append n xs ys) (and-assoc (ltb (le 2 x 0) n) (allBelow n xs) (allBelow n ys))
+below-append n (x ∷ xs) ys = rw (below-append n xs ys) (and-assoc (ltb (leAt 2 x 0) n) (allBelow n xs) (allBelow n ys))
   where
     and-assoc : (a b c : Bool) → (a && (b && c)) ≡ (a && b && c)
     and-assoc true b c = refl

@@ -8,7 +8,7 @@ use lib.Dec.{leb}
 use lib.ListN.{length, take, drop, length-append, length-drop}
 use lib.Seq.{length-take-le}
 use borrow.Author.Tests.{leb-true}
-use Rattle.fields.specs.Bytes.{le, put}
+use Rattle.fields.specs.Bytes.{leAt, put}
 use Rattle.fields.proofs.Puts.{length-put, put-next, put-nil}
 use Rattle.math.specs.declared.vec3.Vec3.{Vec3 as Floats}
 use Rattle.strip.specs.Cell.{Vec3, vecWords, edgeWords, polygonHeadAs, polygonWordsAs, polygonWords, each}
@@ -23,35 +23,34 @@ use Rattle.polygon_words.proofs.Words.{vec-three, edge-six}
 use Rattle.polygon_words.proofs.Words as words
 use Rattle.polygons.specs.declared.Cursors.{Cursors}
 use Rattle.polygons.specs.declared.Limits.{Limits}
-use Rattle.polygons.specs.declared.Spot.{Spot}
-use Rattle.polygons.specs.declared.Tally.{Tally}
-use Rattle.polygons.specs.declared.Tally.the-variants.{Words, Refused}
+use Rattle.polygons.specs.declared.PolygonCursor.{PolygonCursor}
+use Rattle.strip.specs.Outcome.{Paper, values, refusal, refusalOf}
 use Rattle.polygons.specs.Polygons.{Source, limitsOf, corner, polygonMade, sizeOf, tallyOf, then, tallyFrom}
 use Rattle.polygons.specs.Passes.{itemsIn, sourceOf, sides, Ready, Inside, Put, Passed}
 use Rattle.polygons.proofs.Runs.{length-map, length-items}
 
 -- ---- what pass one accepted
 
-pub never : {r : Refusal} {w : ℕ} → Refused r ≡ Words w → ⊥
+pub never : {number place w : ℕ} → refusal number place ≡ values w → ⊥
 never e = let z : _≡_ {A = ℕ} 0 1 = cc in omega arith
 
-pub then-words : (t u : Tally) {w : ℕ} → then t u ≡ Words w → (a b : ℕ) × (t ≡ Words a) × (u ≡ Words b) × (w ≡ a + b)
-then-words (Refused r) u e = absurd (never e)
-then-words (Words a) (Refused r) e = absurd (never e)
-then-words (Words a) (Words b) e = (a, b, refl, refl, cc)
+pub then-words : (t u : Paper ℕ) {w : ℕ} → then t u ≡ values w → (a b : ℕ) × (t ≡ values a) × (u ≡ values b) × (w ≡ a + b)
+then-words (refusal number place) u e = absurd (never e)
+then-words (values a) (refusal number place) e = absurd (never e)
+then-words (values a) (values b) e = (a, b, refl, refl, cc)
 
-picked : (x y z : Bool) (r q : Refusal) (v w : ℕ) → cond (x && y) (cond z (Words w) (Refused r)) (Refused q) ≡ Words v → (x ≡ true) × (y ≡ true) × (z ≡ true) × (v ≡ w)
-picked false y z r q v w e = absurd (never e)
-picked true false z r q v w e = absurd (never e)
-picked true true false r q v w e = absurd (never e)
-picked true true true r q v w e = (refl, refl, refl, cc)
+picked : (x y z : Bool) (m p n q v w : ℕ) → cond (x && y) (cond z (values w) (refusal m p)) (refusal n q) ≡ values v → (x ≡ true) × (y ≡ true) × (z ≡ true) × (v ≡ w)
+picked false y z m p n q v w e = absurd (never e)
+picked true false z m p n q v w e = absurd (never e)
+picked true true false m p n q v w e = absurd (never e)
+picked true true true m p n q v w e = (refl, refl, refl, cc)
 
 module _ (l : Limits) (indices : List (List ℕ)) where
-  pub accepted : (p : ℕ) (b : List ℕ) {v : ℕ} → tallyOf l indices p b ≡ Words v
+  pub accepted : (p : ℕ) (b : List ℕ) {v : ℕ} → tallyOf l indices p b ≡ values v
       → (startOf b + countOf b ≤ l .indices) × (startOf b + countOf b ≤ l .edges) × (allBelow (l .vertices) (runOf b indices) ≡ true) × (v ≡ sizeOf (l .links) b)
   unfolding tallyOf
   accepted p b {v} e =
-      let (x, y, z, w) = picked (leb (startOf b + countOf b) (l .indices)) (leb (startOf b + countOf b) (l .edges)) (allBelow (l .vertices) (runOf b indices)) _ _ v (sizeOf (l .links) b) e in
+      let (x, y, z, w) = picked (leb (startOf b + countOf b) (l .indices)) (leb (startOf b + countOf b) (l .edges)) (allBelow (l .vertices) (runOf b indices)) _ _ _ _ v (sizeOf (l .links) b) e in
       (leb-true _ _ x, leb-true _ _ y, z, w)
 
 -- ---- the words of a polygon
@@ -114,7 +113,7 @@ module _ (s : Source) (b : List ℕ) (hi : startOf b + countOf b ≤ length (s .
 pub link-count-is : (links rec : List ℕ) {n : ℕ} → n ≡ linkCount (length links / 2) rec → n ≡ linkCount (length (linksOf links)) rec
 link-count-is links rec e = e ∙ ap (λ (m : ℕ). linkCount m rec) (sym (words.length-links links))
 
-pub size-of : (m : ℕ) (rec : List ℕ) {n a : ℕ} → n ≡ linkCount m rec → a ≡ le 2 rec 2 → sizeOf m rec ≡ 4 + n + 9 * (a / 32 % 2048)
+pub size-of : (m : ℕ) (rec : List ℕ) {n a : ℕ} → n ≡ linkCount m rec → a ≡ leAt 2 rec 2 → sizeOf m rec ≡ 4 + n + 9 * (a / 32 % 2048)
 unfolding sizeOf
 size-of m rec en ea = rw (← en, ← ea)
 

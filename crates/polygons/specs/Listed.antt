@@ -2,23 +2,27 @@
 use Prim.Native.Nat.{ℕ}
 use mathlib.Core.Path.{_≡_}
 use mathlib.Core.List.{List}
-use Rattle.lists.specs.declared.ListAnswer.{ListAnswer}
-use Rattle.lists.specs.declared.ListAnswer.the-variants.{Items, Refused}
+use Rattle.strip.specs.Outcome.{Paper, values, refusal, refusalOf}
 use Rattle.lists.specs.Lists.{total, tableOf, listed, Readable}
 use Rattle.polygons.specs.declared.Limits.{Limits}
 use Rattle.polygons.specs.declared.ListsAnswer.{ListsAnswer}
 use Rattle.polygons.specs.declared.ListsAnswer.the-variants.{Lists, Refused as Turned}
 
 -- a list's refusal, or what follows from its count
-abbrev pub onList : ListAnswer → (ℕ → ListsAnswer) → ListsAnswer
-onList (Items n) f = f n
-onList (Refused r) f = Turned r
+abbrev pub onList : Paper ℕ → (ℕ → Paper (Limits × ℕ)) → Paper (Limits × ℕ)
+onList (values n) f = f n
+onList (refusal number place) f = refusal number place
 
 -- vertices, indices, edges, polygons, by their addresses
-unfoldable pub listsOf : List ℕ → List ℕ → ℕ → ℕ → ℕ → ℕ → ℕ → ListsAnswer
+unfoldable pub listsOf : List ℕ → List ℕ → ℕ → ℕ → ℕ → ℕ → ℕ → Paper (Limits × ℕ)
 listsOf system graphics va ia ea pa links =
     onList (listed system graphics 6 va 1) (λ v. onList (listed system graphics 2 ia 2) (λ i. onList (listed system graphics 8 ea 3) (λ e. onList (listed system graphics 48 pa 4)
-    (λ p. Lists (record { vertices = v; indices = i; edges = e; links = links }) p))))
+    (λ p. values (record { vertices = v; indices = i; edges = e; links = links }, p)))))
+
+-- what each case of the answer says
+abbrev pub paper : ListsAnswer → Paper (Limits × ℕ)
+paper (Lists l n) = values (l, n)
+paper (Turned r) = refusalOf r
 
 -- the list at an address can be read by its part table, and has n items
 pub record Counted (system graphics : List ℕ) (size va n : ℕ) : Type 0 where

@@ -6,20 +6,21 @@ use mathlib.Core.List.{List, [], _++_, map}
 use lib.ListN.{length, take, drop, getD}
 use Rattle.fields.specs.Bytes.{put, cut}
 use Rattle.math.specs.declared.vec3.Vec3.{Vec3}
-use Rattle.strip.specs.Cell.{Vec3 as Point, vecWords, edgeWords, each}
+use Rattle.strip.specs.Cell.{Vec3 as Position, vecWords, edgeWords, each}
 use Rattle.grammar.specs.Polygons.{edgeOf}
 use Rattle.grammar.specs.Derives.{areaOf}
 use Rattle.lists.specs.Lists.{item, total, listBytes, Readable}
 use Rattle.lists.specs.Cursors.{Stands}
 use Rattle.records.specs.Back.{backBy}
 use Rattle.polygon_words.specs.Words.{linksOf, allBelow}
+use Rattle.strip.specs.Outcome.{Paper, values, refusalOf}
 use Rattle.polygons.specs.declared.Limits.{Limits}
 use Rattle.polygons.specs.declared.Cursors.{Cursors}
-use Rattle.polygons.specs.declared.Spot.{Spot}
+use Rattle.polygons.specs.declared.PolygonCursor.{PolygonCursor}
 use Rattle.polygons.specs.declared.Step.{Step}
 use Rattle.polygons.specs.declared.Step.the-variants.{Good, Bad}
-use Rattle.polygons.specs.declared.Tally.{Tally}
-use Rattle.polygons.specs.declared.Tally.the-variants.{Words, Refused}
+use Rattle.polygons.specs.declared.PolysAnswer.{PolysAnswer}
+use Rattle.polygons.specs.declared.PolysAnswer.the-variants.{Words, Refused}
 use Rattle.polygons.specs.Polygons.{Source, corner, tallyFrom}
 
 -- the items of a list that was read, by its part table
@@ -39,7 +40,7 @@ sourceOf system graphics vertices indices edges links header lo size =
     }
 
 -- the words of n vertices and of n edges, from `start` on
-unfoldable pub sides : (ℕ → ℕ) → (ℕ → ℕ → ℕ → Point) → (vertices indices edges : List (List ℕ)) → (start n : ℕ) → List ℕ
+unfoldable pub sides : (ℕ → ℕ) → (ℕ → ℕ → ℕ → Position) → (vertices indices edges : List (List ℕ)) → (start n : ℕ) → List ℕ
 sides area back vertices indices edges start n =
     each vecWords (map (corner back vertices) (take n (drop start indices))) ++ each edgeWords (map (edgeOf area) (take n (drop start edges)))
 
@@ -59,7 +60,7 @@ pub record Inside (system graphics vertices indices edges : List ℕ) (start n :
   pub below : allBelow (total vertices) (take n (drop start (itemsIn system graphics 2 indices))) ≡ true
 
 -- words that stand from `at` on, and the rest as it was; the next place, and the cursors
-pub record Put (system graphics vertices indices edges words old : List ℕ) (at : ℕ) (r : Spot) (new : List ℕ) : Type 0 where
+pub record Put (system graphics vertices indices edges words old : List ℕ) (at : ℕ) (r : PolygonCursor) (new : List ℕ) : Type 0 where
   pub next : r .at ≡ at + length words
   pub ready : Ready system graphics vertices indices edges (r .cursors)
   pub strip : new ≡ put at words old
@@ -69,7 +70,7 @@ pub record Held (w : ℕ) (items : List (List ℕ)) (first count : ℕ) (bytes :
   pub at : (j : ℕ) → first ≤ j → j < first + count → getD items j [] ≡ item w bytes (j - first)
 
 -- the vertices of indices `from` to r are stored: what is left, stored behind them, gives what it would have given before
-pub record Near (back : ℕ → ℕ → ℕ → Point) (part : List ℕ) (first count : ℕ) (run : List ℕ) (from n at : ℕ) (old : List ℕ) (r : ℕ) (new : List ℕ) : Type 0 where
+pub record Near (back : ℕ → ℕ → ℕ → Position) (part : List ℕ) (first count : ℕ) (run : List ℕ) (from n at : ℕ) (old : List ℕ) (r : ℕ) (new : List ℕ) : Type 0 where
   pub low : from ≤ r
   pub most : r ≤ n
   pub same-length : length new ≡ length old
@@ -80,15 +81,15 @@ pub record Near (back : ℕ → ℕ → ℕ → Point) (part : List ℕ) (first 
 -- pass one found no fault in polygons, the first of them number p, and their words have room from `at` on
 pub record Passed (l : Limits) (indices : List (List ℕ)) (p : ℕ) (polys : List (List ℕ)) (at end : ℕ) : Type 0 where
   pub words : ℕ
-  pub is : tallyFrom l indices p polys ≡ Words words
+  pub is : tallyFrom l indices p polys ≡ values words
   pub room : at + words ≤ end
 
 -- what a step over polygons answers: their words, at most so many, and where the cursor over the indices stands
-abbrev pub Stepped : List ℕ → ℕ → Tally → Step → Type 0
-Stepped table most t (Good w c) = (t ≡ Words w) × Stands table c × (w ≤ most)
-Stepped table most t (Bad r) = t ≡ Refused r
+abbrev pub Stepped : List ℕ → ℕ → Paper ℕ → Step → Type 0
+Stepped table most t (Good w c) = (t ≡ values w) × Stands table c × (w ≤ most)
+Stepped table most t (Bad r) = t ≡ refusalOf r
 
 -- words that are at most n
-abbrev pub Small : ℕ → Tally → Type 0
+abbrev pub Small : ℕ → PolysAnswer → Type 0
 Small n (Words w) = w ≤ n
 Small n (Refused r) = Unit {0}

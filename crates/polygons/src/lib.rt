@@ -4,7 +4,7 @@ ghost use mathlib.Core.Bool.{true};
 ghost use mathlib.Core.List.{map};
 ghost use Prim.Native.Nat.{_+_, _*_, _/_, _^_, _≤_, _<_};
 ghost use lib.ListN.{length, take, drop};
-ghost use Rattle.fields.specs.Bytes.{put, cut, le};
+ghost use Rattle.fields.specs.Bytes.{put, cut, leAt};
 ghost use Rattle.strip.specs.Cell.{vecWords, edgeWords, polygonWords, each};
 ghost use Rattle.grammar.specs.Polygons.{edgeOf, startOf, countOf};
 ghost use Rattle.grammar.specs.Derives.{areaOf};
@@ -12,10 +12,13 @@ ghost use Rattle.lists.specs.Lists.{total, Readable};
 ghost use Rattle.lists.specs.Cursors.{Stands};
 ghost use Rattle.records.specs.Back.{backBy};
 ghost use Rattle.polygon_words.specs.Words.{linksOf, allBelow};
-ghost use Rattle.polygons.specs.Polygons.{corner, limitsOf, polygonMade, sizeOf, tallyOf, tallyFrom};
+ghost use Rattle.polygons.specs.Polygons.{corner, limitsOf, polygonMade, sizeOf, tallyOf, tallyFrom, paper};
+ghost use Rattle.polygons.specs.Listed as Listed;
 ghost use Rattle.polygons.specs.Passes.{itemsIn, sourceOf, sides, Ready, Inside, Put, Passed, Stepped, Small, Near};
 ghost use Rattle.polygons.specs.Listed.{listsOf, ListsRead};
+use cell_record::CellRecord;
 use fields::least;
+use fields::sizes::POLY_SIZE;
 use fields::u16_le;
 use lists::Cursor;
 use lists::ListAnswer;
@@ -42,7 +45,7 @@ pub struct Limits {
 }
 
 // What pass one answers: how many words the polygons make.
-pub enum Tally {
+pub enum PolysAnswer {
     Words(usize),
     Refused(Refusal),
 }
@@ -73,7 +76,7 @@ pub struct Corners {
 }
 
 // Where a writer of polygons stands: the strip's next word, and the cursors.
-pub struct Spot {
+pub struct PolygonCursor {
     pub at: usize,
     pub cursors: Cursors,
 }
@@ -177,8 +180,8 @@ fn check_run<'a>(
     let mut c = from;
     let mut k = 0;
     while k < m {
-        let low = 48 * k;
-        let high = low + 48;
+        let low = POLY_SIZE * k;
+        let high = low + POLY_SIZE;
         match check_polygon(
             system,
             graphics,
@@ -209,9 +212,9 @@ pub fn check_polygons<'a>(
     n: usize,
     limits: Limits,
     table: &'a [u8],
-) -> Tally
+) -> PolysAnswer
     requires { ⌜ Readable (now system) (now graphics) 2 (now table) × Readable (now system) (now graphics) 48 (now polys) × (limits .indices ≡ total (now table)) × (n ≡ total (now polys)) ⌝ }
-    ensures { λ r. ⌜ (r ≡ tallyFrom limits (itemsIn (now (system .entry)) (now (graphics .entry)) 2 (now (table .entry))) 0 (itemsIn (now (system .entry)) (now (graphics .entry)) 48 (now (polys .entry)))) × Small (18434 * n) r ⌝ }
+    ensures { λ r. ⌜ (paper r ≡ tallyFrom limits (itemsIn (now (system .entry)) (now (graphics .entry)) 2 (now (table .entry))) 0 (itemsIn (now (system .entry)) (now (graphics .entry)) 48 (now (polys .entry)))) × Small (18434 * n) r ⌝ }
 {
     let mut words = 0;
     let mut p = list_start(polys);
@@ -219,11 +222,11 @@ pub fn check_polygons<'a>(
     let mut i = 0;
     while i < n {
         p = walk_to(polys, p, i);
-        let run = list_run(system, graphics, polys, 48, p, i);
-        let m = run.len() / 48;
+        let run = list_run(system, graphics, polys, POLY_SIZE, p, i);
+        let m = run.len() / POLY_SIZE;
         match check_run(system, graphics, run, m, i, limits, table, c) {
             Step::Bad(r) => {
-                return Tally::Refused(r);
+                return PolysAnswer::Refused(r);
             }
             Step::Good(w, next) => {
                 words += w;
@@ -232,7 +235,7 @@ pub fn check_polygons<'a>(
         }
         i += m;
     }
-    Tally::Words(words)
+    PolysAnswer::Words(words)
 }
 
 // Pass two.
@@ -277,7 +280,7 @@ fn put_near<'a>(
     out: &mut [u32],
     at: usize,
 ) -> usize
-    requires { ⌜ (6 * count ≤ length (now part)) × (2 * n ≤ length (now run)) × (at + 3 * n ≤ length (now out)) × (from < n) × (first ≤ le 2 (now run) (2 * from)) × (le 2 (now run) (2 * from) < first + count) ⌝ }
+    requires { ⌜ (6 * count ≤ length (now part)) × (2 * n ≤ length (now run)) × (at + 3 * n ≤ length (now out)) × (from < n) × (first ≤ leAt 2 (now run) (2 * from)) × (leAt 2 (now run) (2 * from) < first + count) ⌝ }
     ensures { λ r. ⌜ (from < r) × Near (backBy «bb_min» «bb_size») (now (part .entry)) first count (now (run .entry)) from n at (now (out .entry)) r (now (out .exit)) ⌝ }
 {
     let mut k = from;
@@ -447,7 +450,7 @@ fn put_polygon<'a>(
     from: Cursors,
     out: &mut [u32],
     at: usize,
-) -> Spot
+) -> PolygonCursor
     requires { ⌜ Ready (now system) (now graphics) (now vertices) (now indices) (now edges) from
         × Inside (now system) (now graphics) (now vertices) (now indices) (now edges) (startOf (now rec)) (countOf (now rec))
         × (at + sizeOf (length (linksOf (now links))) (now rec) ≤ length (now out)) ⌝ }
@@ -475,7 +478,7 @@ fn put_polygon<'a>(
         out,
         next,
     );
-    Spot {
+    PolygonCursor {
         at: next + 9 * count,
         cursors,
     }
@@ -497,7 +500,7 @@ fn put_run<'a>(
     from: Cursors,
     out: &mut [u32],
     at: usize,
-) -> Spot
+) -> PolygonCursor
     requires { ⌜ Ready (now system) (now graphics) (now vertices) (now indices) (now edges) from × (48 * m ≤ length (now run))
         × Passed (limitsOf (sourceOf (now system) (now graphics) (now vertices) (now indices) (now edges) (now links) (now header) «bb_min» «bb_size»)) (itemsIn (now system) (now graphics) 2 (now indices)) 0 (cut 48 m (now run)) at (length (now out)) ⌝ }
     ensures { λ r. ⌜ Put (now (system .entry)) (now (graphics .entry)) (now (vertices .entry)) (now (indices .entry)) (now (edges .entry))
@@ -508,8 +511,8 @@ fn put_run<'a>(
     let mut e = at;
     let mut k = 0;
     while k < m {
-        let low = 48 * k;
-        let high = low + 48;
+        let low = POLY_SIZE * k;
+        let high = low + POLY_SIZE;
         let r = put_polygon(
             system,
             graphics,
@@ -529,7 +532,7 @@ fn put_run<'a>(
         c = r.cursors;
         k += 1;
     }
-    Spot { at: e, cursors: c }
+    PolygonCursor { at: e, cursors: c }
 }
 
 // The n polygons of a list, from the strip's word `at` on; the word after them.
@@ -541,18 +544,19 @@ pub fn put_polygons<'a>(
     edges: &'a [u8],
     links: &'a [u8],
     header: &'a [u8],
-    bb_min: Vec3,
-    bb_size: Vec3,
+    cell: CellRecord,
     polys: &'a [u8],
     n: usize,
     out: &mut [u32],
     at: usize,
 ) -> usize
     requires { ⌜ Readable (now system) (now graphics) 6 (now vertices) × Readable (now system) (now graphics) 2 (now indices) × Readable (now system) (now graphics) 8 (now edges) × Readable (now system) (now graphics) 48 (now polys) × (n ≡ total (now polys)) ⌝ }
-    requires { ⌜ Passed (limitsOf (sourceOf (now system) (now graphics) (now vertices) (now indices) (now edges) (now links) (now header) «bb_min» «bb_size»)) (itemsIn (now system) (now graphics) 2 (now indices)) 0 (itemsIn (now system) (now graphics) 48 (now polys)) at (length (now out)) ⌝ }
-    ensures { λ r. ⌜ (r ≡ at + length (each polygonWords (map (polygonMade (sourceOf (now (system .entry)) (now (graphics .entry)) (now (vertices .entry)) (now (indices .entry)) (now (edges .entry)) (now (links .entry)) (now (header .entry)) «bb_min» «bb_size»)) (itemsIn (now (system .entry)) (now (graphics .entry)) 48 (now (polys .entry))))))
-        × (now (out .exit) ≡ put at (each polygonWords (map (polygonMade (sourceOf (now (system .entry)) (now (graphics .entry)) (now (vertices .entry)) (now (indices .entry)) (now (edges .entry)) (now (links .entry)) (now (header .entry)) «bb_min» «bb_size»)) (itemsIn (now (system .entry)) (now (graphics .entry)) 48 (now (polys .entry))))) (now (out .entry))) ⌝ }
+    requires { ⌜ Passed (limitsOf (sourceOf (now system) (now graphics) (now vertices) (now indices) (now edges) (now links) (now header) (cell .«bb_min») (cell .«bb_size»))) (itemsIn (now system) (now graphics) 2 (now indices)) 0 (itemsIn (now system) (now graphics) 48 (now polys)) at (length (now out)) ⌝ }
+    ensures { λ r. ⌜ (r ≡ at + length (each polygonWords (map (polygonMade (sourceOf (now (system .entry)) (now (graphics .entry)) (now (vertices .entry)) (now (indices .entry)) (now (edges .entry)) (now (links .entry)) (now (header .entry)) (cell .«bb_min») (cell .«bb_size»))) (itemsIn (now (system .entry)) (now (graphics .entry)) 48 (now (polys .entry))))))
+        × (now (out .exit) ≡ put at (each polygonWords (map (polygonMade (sourceOf (now (system .entry)) (now (graphics .entry)) (now (vertices .entry)) (now (indices .entry)) (now (edges .entry)) (now (links .entry)) (now (header .entry)) (cell .«bb_min») (cell .«bb_size»))) (itemsIn (now (system .entry)) (now (graphics .entry)) 48 (now (polys .entry))))) (now (out .entry))) ⌝ }
 {
+    let bb_min = cell.bb_min;
+    let bb_size = cell.bb_size;
     let cv = list_start(vertices);
     let ci = list_start(indices);
     let ce = list_start(edges);
@@ -566,8 +570,8 @@ pub fn put_polygons<'a>(
     let mut i = 0;
     while i < n {
         p = walk_to(polys, p, i);
-        let run = list_run(system, graphics, polys, 48, p, i);
-        let m = run.len() / 48;
+        let run = list_run(system, graphics, polys, POLY_SIZE, p, i);
+        let m = run.len() / POLY_SIZE;
         let r = put_run(
             system,
             graphics,
@@ -601,7 +605,7 @@ pub fn read_lists<'a>(
     pa: u64,
     links: usize,
 ) -> ListsAnswer
-    ensures { λ r. ⌜ (r ≡ listsOf (now (system .entry)) (now (graphics .entry)) va ia ea pa links) × ListsRead (now (system .entry)) (now (graphics .entry)) va ia ea pa links r ⌝ }
+    ensures { λ r. ⌜ (Listed.paper r ≡ listsOf (now (system .entry)) (now (graphics .entry)) va ia ea pa links) × ListsRead (now (system .entry)) (now (graphics .entry)) va ia ea pa links r ⌝ }
 {
     match read_list(system, graphics, va, 6, 1) {
         ListAnswer::Refused(r) => ListsAnswer::Refused(r),

@@ -1,5 +1,5 @@
 -- The proved examples of the scope document as one table of equations on the definitions. proofs/Table.antt computes it. Definitions only.
-use Prim.Native.Nat.{ℕ}
+use Prim.Native.Nat.{ℕ, _/_, _%_, _^_}
 use mathlib.Core.Path.{_≡_}
 use mathlib.Core.Bool.{true, false}
 use mathlib.Core.List.{List, [], _∷_}
@@ -26,13 +26,13 @@ power k = fin false 1 (pos k)
 abbrev pub part : ℕ → Float
 part k = fin false 1 (negsuc k)
 
-abbrev pub minus : ℕ → Float
-minus k = fin true 1 (pos k)
+abbrev pub negativeOf : ℕ → Float
+negativeOf k = fin true 1 (pos k)
 
 abbrev pub minus-three-eighths : Float
 minus-three-eighths = fin true 3 (negsuc 2)
 
--- a cell without polygons, portals and points, of a content (4 for a vehicle, 0 for a cell of the grid), an area id and a box
+-- a cell without polygons, portals and points, of a content (bit 2 is set in a vehicle's), an area id and a box
 abbrev pub empty : (content area : ℕ) → (min max size : Vec3) → Cell
 empty content area min max size = record {
   head = record { content = content; area = area; version = 0; vft = 0; bb-min = min; bb-max = max; bb-size = size };
@@ -59,15 +59,15 @@ pub record Table : Type 0 where
   pub p5-max : quarterCeil minus-three-eighths ≡ negsuc 0
   pub p6-min : quarterFloor (power 13) ≡ pos 32767
   pub p6-max : quarterCeil (power 13) ≡ pos 32767
-  pub p6-minus-min : quarterFloor (minus 13) ≡ negsuc 32767
-  pub p6-minus-max : quarterCeil (minus 13) ≡ negsuc 32767
+  pub p6-minus-min : quarterFloor (negativeOf 13) ≡ negsuc 32767
+  pub p6-minus-max : quarterCeil (negativeOf 13) ≡ negsuc 32767
   pub p7 : seeded 0 ≡ 0 ∷ 16383 ∷ 4294967196 ∷ 4294967295 ∷ 1 ∷ 100 ∷ []
   pub p8 : length (seeded 16384) ≡ 5
   pub p9 : halfWord 2 7 1 3 ≡ 0x006800E2
   pub p10 : noneWord 1 ≡ 0x0007FFE1
   pub p11-fits : placeOf 16288 96 ≡ 16288
   pub p11-next : placeOf 16288 112 ≡ 16384
-  -- whatever the box
-  pub p12-vehicle : (min max size : Vec3) → length (pages (empty 4 10000 min max size)) ≡ 688
-  pub p12-total : (min max size : Vec3) → counts (empty 4 10000 min max size) .total ≡ 128
-  pub p12-grid : (min max size : Vec3) → length (pages (empty 0 4040 min max size)) ≡ 3088
+  -- whatever the area and the box: the vehicle with every content that has bit 2, the grid cell with every content that lacks it
+  pub p12-vehicle : (content area : ℕ) (min max size : Vec3) → content / 2 ^ 2 % 2 ≡ 1 → length (pages (empty content area min max size)) ≡ 688
+  pub p12-total : (content area : ℕ) (min max size : Vec3) → content / 2 ^ 2 % 2 ≡ 1 → counts (empty content area min max size) .total ≡ 128
+  pub p12-grid : (content area : ℕ) (min max size : Vec3) → content / 2 ^ 2 % 2 ≡ 0 → length (pages (empty content area min max size)) ≡ 3088

@@ -154,12 +154,12 @@ fn p12_total() -> u32
     fields::u32_le(&pages, 0x144)
 }
 
-// the empty grid cell
+// the empty grid cell, with the content of the Rust's `new_cell`
 fn p12_grid() -> usize
     ensures { λ r. ⌜ r ≡ 3088 ⌝ }
 {
     let mut pages = [0; 3088];
-    save_empty(0, 4040, &mut pages)
+    save_empty(1, 4040, &mut pages)
 }
 
 fn print(text: &[u8]) {

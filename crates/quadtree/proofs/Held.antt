@@ -9,10 +9,10 @@ use lib.Signed.{mag}
 use Rattle.quantise.specs.declared.quarter.QuarterBox.{QuarterBox}
 use Rattle.quantise.specs.declared.bounds.Aabb.{Aabb}
 use Rattle.quantise.proofs.Quarters.{side-fits}
-use Rattle.strip.specs.Cell.{Polygon, Point, Head}
+use Rattle.strip.specs.Cell.{NavPoly, NavPoint, Head}
 use Rattle.strip.specs.Reading.{itemsAt}
 use Rattle.pages.specs.Items.{boxOf}
-use Rattle.pages.specs.Sectors.{Sector, leaves, pointsOf, idsOf, grown, treeOf, depthOf, rootBox, quarters, sub0, sub1, sub2, sub3}
+use Rattle.pages.specs.Sectors.{Sector, leaves, pointsOf, leafIds, grown, treeOf, depthOf, rootBox, quarters, sub0, sub1, sub2, sub3}
 use Rattle.quadtree.specs.Work.{boxAt, boxesAt, boxesIn, pickedFrom, treeBy, BoxHeld, BoxesHeld, LeavesHeld}
 use Rattle.quadtree.proofs.Picks.{low-side, high-side}
 
@@ -27,7 +27,7 @@ record Fits (q : QuarterBox) : Type 0 where
   z-min : mag (q .«z_min») < 32768
   z-max : mag (q .«z_max») < 32768
 
-polygon-fits : (p : Polygon) → Fits (boxOf p)
+polygon-fits : (p : NavPoly) → Fits (boxOf p)
 unfolding boxOf
 polygon-fits p =
     record {
@@ -50,21 +50,21 @@ box-held w at q f h =
       high-side (q .«z_min») (q .«z_max») (f .z-min) (f .z-max) (getD w (at + 2) 0) (h .z),
     )
 
-pub boxes-held : (w : List ℕ) (at : ℕ) (ps : List Polygon) → BoxesHeld w at ps → boxesAt w at (length ps) ≡ map boxOf ps
+pub boxes-held : (w : List ℕ) (at : ℕ) (ps : List NavPoly) → BoxesHeld w at ps → boxesAt w at (length ps) ≡ map boxOf ps
 unfolding itemsAt
 boxes-held w at [] h = refl
 boxes-held w at (p ∷ ps) h = rw (box-held w at (boxOf p) (polygon-fits p) (h .0), boxes-held w (at + 3) ps (h .1))
 
 -- ---- points
 
-pub points-held : (boxes : List Aabb) (w : List ℕ) (k i : ℕ) (ts : List Point) → LeavesHeld boxes w i ts → pickedFrom w k i ts ≡ pointsOf boxes k ts
+pub points-held : (boxes : List Aabb) (w : List ℕ) (k i : ℕ) (ts : List NavPoint) → LeavesHeld boxes w i ts → pickedFrom w k i ts ≡ pointsOf boxes k ts
 unfolding pickedFrom pointsOf
 points-held boxes w k i [] h = refl
 points-held boxes w k i (t ∷ ts) h = rw (h .0, points-held boxes w k (i + 1) ts (h .1))
 
 -- ---- the tree
 
-module _ (ids : QuarterBox → List ℕ) (stored also : ℕ → List Point) (same : (k : ℕ) → stored k ≡ also k) where
+module _ (ids : QuarterBox → List ℕ) (stored also : ℕ → List NavPoint) (same : (k : ℕ) → stored k ≡ also k) where
   pub grown-same : (d k : ℕ) (b : Aabb) → grown ids stored d k b ≡ grown ids also d k b
   unfolding grown
   grown-same zero k b = ap (Sector.leaf b (ids (quarters b))) (same k)
@@ -76,12 +76,12 @@ module _ (ids : QuarterBox → List ℕ) (stored also : ℕ → List Point) (sam
         grown-same d (k + 3 * 4 ^ d) (sub3 b),
       )
 
-pub tree-held : (h : Head) (ps : List Polygon) (ts : List Point) (boxes leafs : List ℕ) → length boxes ≡ 3 * length ps → BoxesHeld boxes 0 ps
-    → LeavesHeld (leaves (depthOf h) (rootBox h)) leafs 0 ts → treeBy boxes leafs ts (depthOf h) 0 (rootBox h) ≡ treeOf h ps ts
+pub tree-held : (h : Head) (ps : List NavPoly) (ts : List NavPoint) (boxes numbers : List ℕ) → length boxes ≡ 3 * length ps → BoxesHeld boxes 0 ps
+    → LeavesHeld (leaves (depthOf h) (rootBox h)) numbers 0 ts → treeBy boxes numbers ts (depthOf h) 0 (rootBox h) ≡ treeOf h ps ts
 unfolding treeOf
-tree-held h ps ts boxes leafs l b v =
+tree-held h ps ts boxes numbers l b v =
     let n : length boxes / 3 ≡ length ps = omega arith in
     let e : boxesIn boxes ≡ map boxOf ps = ap (boxesAt boxes 0) n ∙ boxes-held boxes 0 ps b in
-    grown-same (λ (q : QuarterBox). idsOf q 0 (boxesIn boxes)) (λ (k : ℕ). pickedFrom leafs k 0 ts) (λ (k : ℕ). pointsOf (leaves (depthOf h) (rootBox h)) k ts)
-    (λ k. points-held (leaves (depthOf h) (rootBox h)) leafs k 0 ts v) (depthOf h) 0 (rootBox h)
-    ∙ ap (λ (qs : List QuarterBox). grown (λ (q : QuarterBox). idsOf q 0 qs) (λ (k : ℕ). pointsOf (leaves (depthOf h) (rootBox h)) k ts) (depthOf h) 0 (rootBox h)) e
+    grown-same (λ (q : QuarterBox). leafIds q 0 (boxesIn boxes)) (λ (k : ℕ). pickedFrom numbers k 0 ts) (λ (k : ℕ). pointsOf (leaves (depthOf h) (rootBox h)) k ts)
+    (λ k. points-held (leaves (depthOf h) (rootBox h)) numbers k 0 ts v) (depthOf h) 0 (rootBox h)
+    ∙ ap (λ (qs : List QuarterBox). grown (λ (q : QuarterBox). leafIds q 0 qs) (λ (k : ℕ). pointsOf (leaves (depthOf h) (rootBox h)) k ts) (depthOf h) 0 (rootBox h)) e

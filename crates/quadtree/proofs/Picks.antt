@@ -1,23 +1,24 @@
 -- Counting by a test, one turn at a time, and the test of a leaf's quarter box on words. Assumes nothing.
-use Prim.Native.Nat.{ℕ, zero, suc, _+_, _-_, _*_, _/_, _%_, _^_, _≤_, _<_}
-use mathlib.Core.Path.{_≡_, refl, sym, ap, _∙_}
+use Prim.Native.Nat.{ℕ, zero, suc, _+_, _-_, _*_, _/_, _%_, _≤_, _<_}
+use mathlib.Core.Path.{_≡_, refl, ap, _∙_}
 use mathlib.Core.Bool.{Bool, true, false, cond}
 use mathlib.Core.List.{List, [], _∷_}
 use native.Mathlib.Omega.{arith}
 use lib.IntN.{ℤ, pos, negsuc}
 use lib.Signed.{leZ, mag}
-use lib.Dec.{eqb, leb, ltb}
+use lib.Dec.{eqb, ltb}
 use lib.ListN.{length, getD}
-use borrow.Author.Tests.{lt-ltb, le-ltb, le-leb, lt-leb, ltb-true, ltb-false, leb-true, leb-false}
-use Rattle.quantise.specs.Quarter.{quarterFloor, quarterCeil, bits16}
-use Rattle.quantise.specs.declared.bounds.Aabb.{Aabb}
-use Rattle.quantise.proofs.Quarters.{side-fits}
+use borrow.Author.Tests.{lt-ltb, le-ltb, ltb-true, ltb-false}
+use mir.Syntax.{w16}
+use mir.Val.{SFits, toZ, ofZ}
+use mir.ValLaws.{toZ-ofZ}
+use Rattle.quantise.specs.Quarter.{bits16, int16}
 use Rattle.quantise.specs.declared.quarter.QuarterBox.{QuarterBox}
-use Rattle.strip.specs.Cell.{Point}
+use Rattle.strip.specs.Cell.{NavPoint}
 use Rattle.strip.specs.Reading.{itemsAt}
-use Rattle.pages.specs.Sectors.{axisMeets, meets, idsOf, quarters}
+use Rattle.pages.specs.Sectors.{axisMeets, meets, leafIds}
 use Rattle.pages.proofs.Lists.{keep-length}
-use Rattle.quadtree.specs.Work.{int16, boxBy, boxAt, boxesAt, boxesIn, pickedFrom, countIn}
+use Rattle.quadtree.specs.Work.{boxAt, boxesAt, boxesIn, pickedFrom, countIn}
 
 -- ---- one turn
 
@@ -40,23 +41,23 @@ items-turn item size i n h =
 -- ---- ids
 
 module _ (w : List ℕ) (q : QuarterBox) where
-  pub ids-turn : (i n : ℕ) → i < n → idsOf q i (boxesAt w (3 * i) (n - i))
-      ≡ cond (meets q (boxAt w (3 * i))) (i ∷ idsOf q (i + 1) (boxesAt w (3 * (i + 1)) (n - (i + 1)))) (idsOf q (i + 1) (boxesAt w (3 * (i + 1)) (n - (i + 1))))
-  unfolding idsOf
+  pub ids-turn : (i n : ℕ) → i < n → leafIds q i (boxesAt w (3 * i) (n - i))
+      ≡ cond (meets q (boxAt w (3 * i))) (i ∷ leafIds q (i + 1) (boxesAt w (3 * (i + 1)) (n - (i + 1)))) (leafIds q (i + 1) (boxesAt w (3 * (i + 1)) (n - (i + 1))))
+  unfolding leafIds
   ids-turn i n h = rw (items-turn (boxAt w) 3 i n h)
 
-  pub ids-end : (i n : ℕ) → n ≤ i → idsOf q i (boxesAt w (3 * i) (n - i)) ≡ []
-  unfolding idsOf itemsAt
+  pub ids-end : (i n : ℕ) → n ≤ i → leafIds q i (boxesAt w (3 * i) (n - i)) ≡ []
+  unfolding leafIds itemsAt
   ids-end i n h = let e : n - i ≡ 0 = omega arith in rw e
 
-  pub ids-none : length w < 3 → idsOf q 0 (boxesIn w) ≡ []
-  unfolding idsOf itemsAt
+  pub ids-none : length w < 3 → leafIds q 0 (boxesIn w) ≡ []
+  unfolding leafIds itemsAt
   ids-none h = let e : length w / 3 ≡ 0 = omega arith in rw e
 
   -- counted
-  pub count-ids-turn : (i n : ℕ) → i < n → length (idsOf q i (boxesAt w (3 * i) (n - i)))
-      ≡ cond (meets q (boxAt w (3 * i))) 1 0 + length (idsOf q (i + 1) (boxesAt w (3 * (i + 1)) (n - (i + 1))))
-  count-ids-turn i n h = ap length (ids-turn i n h) ∙ keep-length (meets q (boxAt w (3 * i))) i (idsOf q (i + 1) (boxesAt w (3 * (i + 1)) (n - (i + 1))))
+  pub count-ids-turn : (i n : ℕ) → i < n → length (leafIds q i (boxesAt w (3 * i) (n - i)))
+      ≡ cond (meets q (boxAt w (3 * i))) 1 0 + length (leafIds q (i + 1) (boxesAt w (3 * (i + 1)) (n - (i + 1))))
+  count-ids-turn i n h = ap length (ids-turn i n h) ∙ keep-length (meets q (boxAt w (3 * i))) i (leafIds q (i + 1) (boxesAt w (3 * (i + 1)) (n - (i + 1))))
 
 -- ---- points
 
@@ -94,81 +95,44 @@ module _ (w : List ℕ) (k : ℕ) where
   count-few i (suc n) = omega (arith, keep-one (eqb (getD w i 0) k), count-few (i + 1) n)
 
   -- the count is that of the points, whatever they are
-  pub count-picked : (i : ℕ) (ts : List Point) → countIn w k i (length ts) ≡ length (pickedFrom w k i ts)
+  pub count-picked : (i : ℕ) (ts : List NavPoint) → countIn w k i (length ts) ≡ length (pickedFrom w k i ts)
   unfolding countIn pickedFrom
   count-picked i [] = refl
   count-picked i (t ∷ ts) = rw (count-picked (i + 1) ts, keep-length (eqb (getD w i 0) k) t (pickedFrom w k (i + 1) ts))
 
 -- ---- no leaf has more than the cell
 
-pub ids-few : (q : QuarterBox) (k : ℕ) (ps : List QuarterBox) → length (idsOf q k ps) ≤ length ps
-unfolding idsOf
+pub ids-few : (q : QuarterBox) (k : ℕ) (ps : List QuarterBox) → length (leafIds q k ps) ≤ length ps
+unfolding leafIds
 ids-few q k [] = omega arith
-ids-few q k (p ∷ ps) = keep-few (meets q p) k (idsOf q (k + 1) ps) (length ps) (ids-few q (k + 1) ps)
+ids-few q k (p ∷ ps) = keep-few (meets q p) k (leafIds q (k + 1) ps) (length ps) (ids-few q (k + 1) ps)
 
-pub picked-few : (w : List ℕ) (k i : ℕ) (ts : List Point) → length (pickedFrom w k i ts) ≤ length ts
+pub picked-few : (w : List ℕ) (k i : ℕ) (ts : List NavPoint) → length (pickedFrom w k i ts) ≤ length ts
 unfolding pickedFrom
 picked-few w k i [] = omega arith
 picked-few w k i (t ∷ ts) = keep-few (eqb (getD w i 0) k) t (pickedFrom w k (i + 1) ts) (length ts) (picked-few w k (i + 1) ts)
 
--- ---- 16 signed bits are compared with their sign turned round
+-- ---- the test of a polygon's box, axis by axis
 
-leb-at : (a b c d : ℕ) (s : Bool) → leb a b ≡ s → (a ≤ b → c ≤ d) → (c ≤ d → a ≤ b) → leb a b ≡ leb c d
-leb-at a b c d true e f g = e ∙ sym (le-leb c d (f (leb-true a b e)))
-leb-at a b c d false e f g = let h = leb-false a b e in e ∙ sym (lt-leb c d (not-le λ l. let k = g l in omega arith))
-  where
-    not-le : (c ≤ d → ⊥) → d < c
-    not-le n = omega arith
+-- a leaf's range and a polygon's, which a word holds
+abbrev pub axisOf : (min max : ℤ) → ℕ → Bool
+axisOf min max sides = axisMeets min max (int16 (sides % 65536)) (int16 (sides / 65536))
 
-leb-same : (a b c d : ℕ) → (a ≤ b → c ≤ d) → (c ≤ d → a ≤ b) → leb a b ≡ leb c d
-leb-same a b c d f g = leb-at a b c d (leb a b) refl f g
-
-abbrev pub turned : ℕ → ℕ
-turned a = (a + 32768) % 65536
-
-signed-at : (a b : ℕ) (s t : Bool) → ltb a 32768 ≡ s → ltb b 32768 ≡ t → a < 65536 → b < 65536
-    → leZ (cond s (pos a) (negsuc (65535 - a))) (cond t (pos b) (negsuc (65535 - b))) ≡ leb (turned a) (turned b)
-signed-at a b true true e f ha hb =
-    let x = ltb-true a 32768 e in
-    let y = ltb-true b 32768 f in
-    leb-same a b (turned a) (turned b) (λ h. omega arith) (λ h. omega arith)
-signed-at a b true false e f ha hb =
-    let x = ltb-true a 32768 e in
-    let y = ltb-false b 32768 f in
-    sym (lt-leb (turned a) (turned b) (omega arith))
-signed-at a b false true e f ha hb =
-    let x = ltb-false a 32768 e in
-    let y = ltb-true b 32768 f in
-    sym (le-leb (turned a) (turned b) (omega arith))
-signed-at a b false false e f ha hb =
-    let x = ltb-false a 32768 e in
-    let y = ltb-false b 32768 f in
-    leb-same (65535 - b) (65535 - a) (turned a) (turned b) (λ h. omega arith) (λ h. omega arith)
-
-signed-le : (a b : ℕ) → a < 65536 → b < 65536 → leZ (int16 a) (int16 b) ≡ leb (turned a) (turned b)
-signed-le a b ha hb = signed-at a b (ltb a 32768) (ltb b 32768) refl refl ha hb
-
--- an axis that two words hold, min below and max above
-abbrev pub axisOf : ℕ → ℕ → Bool
-axisOf q p = axisMeets (int16 (q % 65536)) (int16 (q / 65536)) (int16 (p % 65536)) (int16 (p / 65536))
-
-module _ (q p : ℕ) (hq : q < 2 ^ 32) (hp : p < 2 ^ 32) where
-  pub axis-no : turned (p / 65536) < turned (q % 65536) → axisOf q p ≡ false
+module _ (a b c d : ℤ) where
+  pub axis-yes : leZ a d ≡ true → axisMeets a b c d ≡ leZ c b
   unfolding axisMeets
-  axis-no h = rw (signed-le (q % 65536) (p / 65536) (omega arith) (omega arith), lt-leb (turned (q % 65536)) (turned (p / 65536)) h)
+  axis-yes h = rw h
 
-  pub axis-yes : turned (q % 65536) ≤ turned (p / 65536) → axisOf q p ≡ leb (turned (p % 65536)) (turned (q / 65536))
+  pub axis-no : leZ a d ≡ false → axisMeets a b c d ≡ false
   unfolding axisMeets
-  axis-yes h =
-      rw (signed-le (q % 65536) (p / 65536) (omega arith) (omega arith), le-leb (turned (q % 65536)) (turned (p / 65536)) h, signed-le (p % 65536) (q / 65536) (omega arith) (omega arith))
+  axis-no h = rw h
 
--- the test, axis by axis
-module _ (w : List ℕ) (at qx qy : ℕ) where
-  pub meets-yes : axisOf qx (getD w at 0) ≡ true → meets (boxBy qx qy 0) (boxAt w at) ≡ axisOf qy (getD w (at + 1) 0)
+module _ (w : List ℕ) (at : ℕ) (q : QuarterBox) where
+  pub meets-yes : axisOf (q .«x_min») (q .«x_max») (getD w at 0) ≡ true → meets q (boxAt w at) ≡ axisOf (q .«y_min») (q .«y_max») (getD w (at + 1) 0)
   unfolding meets
   meets-yes h = rw h
 
-  pub meets-no : axisOf qx (getD w at 0) ≡ false → meets (boxBy qx qy 0) (boxAt w at) ≡ false
+  pub meets-no : axisOf (q .«x_min») (q .«x_max») (getD w at 0) ≡ false → meets q (boxAt w at) ≡ false
   unfolding meets
   meets-no h = rw h
 
@@ -183,31 +147,17 @@ pub int-bits : (z : ℤ) → mag z < 32768 → int16 (bits16 z) ≡ z
 int-bits (pos n) h = rw (lt-ltb n 32768 h)
 int-bits (negsuc n) h = rw (le-ltb (65535 - n) 32768 (omega arith)) (ap negsuc (omega arith))
 
+-- the machine reads them back
+int-fits : (n : ℕ) (s : Bool) → ltb n 32768 ≡ s → n < 65536 → SFits w16 (cond s (pos n) (negsuc (65535 - n)))
+int-fits n true e h = record { sfits = ltb-true n 32768 e }
+int-fits n false e h = record { sfits = omega (arith, ltb-false n 32768 e) }
+
+pub int-read : (n : ℕ) (r : ℤ) → n < 65536 → r ≡ int16 n → toZ w16 (ofZ w16 r) ≡ int16 n
+int-read n r h e = ap (λ (z : ℤ). toZ w16 (ofZ w16 z)) e ∙ toZ-ofZ w16 (int16 n) (int-fits n (ltb n 32768) refl h)
+
 module _ (a b : ℤ) (ha : mag a < 32768) (hb : mag b < 32768) (x : ℕ) (e : x ≡ bits16 a + 65536 * bits16 b) where
   pub low-side : int16 (x % 65536) ≡ a
   low-side = let l : x % 65536 ≡ bits16 a = omega (arith, bits-below a ha) in ap int16 l ∙ int-bits a ha
 
   pub high-side : int16 (x / 65536) ≡ b
   high-side = let l : x / 65536 ≡ bits16 b = omega (arith, bits-below a ha) in ap int16 l ∙ int-bits b hb
-
--- so the words' ids are the box's
-module _ (q r : QuarterBox) (e0 : q .«x_min» ≡ r .«x_min») (e1 : q .«x_max» ≡ r .«x_max») (e2 : q .«y_min» ≡ r .«y_min») (e3 : q .«y_max» ≡ r .«y_max») where
-  meets-same : (p : QuarterBox) → meets q p ≡ meets r p
-  unfolding meets
-  meets-same p = rw (e0, e1, e2, e3)
-
-  pub ids-same : (k : ℕ) (ps : List QuarterBox) → idsOf q k ps ≡ idsOf r k ps
-  unfolding idsOf
-  ids-same k [] = refl
-  ids-same k (p ∷ ps) = rw (meets-same p, ids-same (k + 1) ps)
-
-module _ (b : Aabb) (qx qy : ℕ)
-    (ex : qx ≡ bits16 (quarterFloor (b .min .x)) + 65536 * bits16 (quarterCeil (b .max .x)))
-    (ey : qy ≡ bits16 (quarterFloor (b .min .y)) + 65536 * bits16 (quarterCeil (b .max .y))) where
-  pub ids-of : (k : ℕ) (ps : List QuarterBox) → idsOf (boxBy qx qy 0) k ps ≡ idsOf (quarters b) k ps
-  ids-of =
-      ids-same (boxBy qx qy 0) (quarters b)
-      (low-side (quarterFloor (b .min .x)) (quarterCeil (b .max .x)) (side-fits false (b .min .x)) (side-fits true (b .max .x)) qx ex)
-      (high-side (quarterFloor (b .min .x)) (quarterCeil (b .max .x)) (side-fits false (b .min .x)) (side-fits true (b .max .x)) qx ex)
-      (low-side (quarterFloor (b .min .y)) (quarterCeil (b .max .y)) (side-fits false (b .min .y)) (side-fits true (b .max .y)) qy ey)
-      (high-side (quarterFloor (b .min .y)) (quarterCeil (b .max .y)) (side-fits false (b .min .y)) (side-fits true (b .max .y)) qy ey)

@@ -1,8 +1,9 @@
 -- The depth of a cell's tree, and a quarter of the leaves, one split down. Assumes nothing.
-use Prim.Native.Nat.{ℕ, zero, suc, _+_, _-_, _*_, _/_, _^_, _<_}
+use Prim.Native.Nat.{ℕ, zero, suc, _+_, _-_, _*_, _/_, _%_, _^_, _≤_, _<_}
 use mathlib.Core.Path.{_≡_, refl, ap, _∙_}
 use native.Mathlib.Nat.{pow-suc}
 use native.Mathlib.Omega.{arith}
+use lib.Dec.{lit≤}
 use Rattle.pages.specs.Sectors.{depthBy}
 
 pub down : (n : ℕ) → (n ≡ 0 → ⊥) → n ≡ suc (n - 1)
@@ -16,6 +17,13 @@ depth-two n e = ap depthBy e
 pub depth-none : (n : ℕ) → (n ≡ 0 → ⊥) → depthBy n ≡ 0
 depth-none zero h = absurd (h refl)
 depth-none (suc n) h = refl
+
+-- how many leaves there are
+pub leaves-wide : (d : ℕ) → d ≤ 2 → (1 * 2 ^ (2 * d) % 2 ^ 32 ≡ 4 ^ d) × (1 * 2 ^ (2 * d) % 2 ^ 32 ≤ 16)
+leaves-wide zero h = (refl, lit≤ tt)
+leaves-wide (suc zero) h = (refl, lit≤ tt)
+leaves-wide (suc (suc zero)) h = (refl, lit≤ tt)
+leaves-wide (suc (suc (suc n))) h = absurd (omega arith)
 
 module _ (w n : ℕ) (wide : w ≡ 4 ^ n) (some : n ≡ 0 → ⊥) where
   four : 4 ^ n ≡ 4 ^ (n - 1) * 4

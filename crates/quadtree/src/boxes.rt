@@ -7,6 +7,9 @@ ghost use Rattle.quadtree.specs.Lines.{axisOf, linesOf, rangesOf, firstO
 use math::vec3::Vec3;
 use quantise::bounds::Aabb;
 
+// The bit of a cell's content flags that says a vehicle carries it.
+const CONTENT_VEHICLE: u32 = 4;
+
 fn middle_of(a: f32, b: f32) -> f32
     ensures { λ r. ⌜ r ≡ middle a b ⌝ }
 {
@@ -71,14 +74,22 @@ pub fn split(b: Aabb) -> Subs
     Subs { s0, s1, s2, s3 }
 }
 
-// How often a cell's box splits, by its content flags.
+// How often a cell's box splits, by its content flags: twice, and a vehicle's not at all.
 pub fn depth_of(content: u32) -> u32
-    ensures { λ r. ⌜ (r ≡ depthBy (content / 2 ^ 2 % 2)) × (r ≤ 2) ⌝ }
+    ensures { λ r. ⌜ (r ≡ depthBy (content / 2 ^ 2 % 2)) × (r ≤ 2) × (r % 2 ≡ 0) ⌝ }
 {
-    if content / 4 % 2 == 0 {
+    if content / CONTENT_VEHICLE % 2 == 0 {
         return 2;
     }
     0
+}
+
+// How many leaves a box has that splits so often.
+pub fn leaf_count(depth: u32) -> u32
+    requires { ⌜ depth ≤ 2 ⌝ }
+    ensures { λ r. ⌜ (r ≡ 4 ^ depth) × (r ≤ 16) ⌝ }
+{
+    1 << (2 * depth)
 }
 
 fn is_between(lo: f32, x: f32, hi: f32) -> bool
@@ -204,19 +215,26 @@ fn leaf_in(x: Ranges, y: Ranges) -> u32
     12 + sub_of(x.r0, x.r1, y.r2, y.r3)
 }
 
-// The leaf that takes a point of a cell with these content flags and this box, whose leaves have these sides: the first in writing order that the
-// point is inside, and the number of leaves where it is in none.
-pub fn leaf_of(content: u32, b: Aabb, l: Lines, p: Vec3) -> u32
-    requires { ⌜ l ≡ linesOf b ⌝ }
-    ensures { λ r. ⌜ r ≡ leafOf (leaves (depthBy (content / 2 ^ 2 % 2)) b) p ⌝ }
+// The same where the box itself is the only leaf.
+fn leaf_alone(b: Aabb, p: Vec3) -> u32
+    ensures { λ r. ⌜ r ≡ leafOf (leaves 0 b) p ⌝ }
 {
-    if content / 4 % 2 == 0 {
-        let x = l.x;
-        let y = l.y;
-        return leaf_in(ranges_of(x, p.x), ranges_of(y, p.y));
-    }
     if is_inside(b, p) {
         return 0;
     }
     1
+}
+
+// The leaf that takes a point of a cell with this depth and this box, whose leaves have these sides: the first in writing order that the point is
+// inside, and the number of leaves where it is in none.
+pub fn leaf_of(depth: u32, b: Aabb, l: Lines, p: Vec3) -> u32
+    requires { ⌜ (l ≡ linesOf b) × (depth ≤ 2) × (depth % 2 ≡ 0) ⌝ }
+    ensures { λ r. ⌜ r ≡ leafOf (leaves depth b) p ⌝ }
+{
+    if depth == 0 {
+        return leaf_alone(b, p);
+    }
+    let x = l.x;
+    let y = l.y;
+    leaf_in(ranges_of(x, p.x), ranges_of(y, p.y))
 }

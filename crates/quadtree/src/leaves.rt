@@ -4,42 +4,49 @@ ghost use mathlib.Core.Bool.{cond};
 ghost use mathlib.Core.List.{List};
 ghost use Prim.Native.Nat.{_+_, _-_, _*_, _/_, _%_, _^_, _≤_, _<_};
 ghost use lib.ListN.{length};
-ghost use Rattle.quantise.specs.Quarter.{quarterFloor, quarterCeil, bits16};
-ghost use Rattle.strip.specs.Cell.{Point};
-ghost use Rattle.pages.specs.Sectors.{axisMeets, meets, idsOf, quarters, leafCounts, depthBy};
-ghost use Rattle.quadtree.specs.Work.{int16, boxBy, boxAt, boxesIn, countIn, treeBy, Tells};
+ghost use Rattle.quantise.specs.Quarter.{bits16, int16};
+ghost use Rattle.strip.specs.Cell.{NavPoint};
+ghost use Rattle.pages.specs.Sectors.{axisMeets, meets, leafIds, quarters, leafCounts};
+ghost use Rattle.quadtree.specs.Work.{boxAt, boxesIn, countIn, treeBy, FirstRefused};
 use quantise::bounds::Aabb;
+use quantise::quarter::QuarterBox;
 use quantise::quarter::bits16_of;
-use quantise::quarter::quarter_ceil;
-use quantise::quarter::quarter_floor;
+use quantise::quarter::i16_of;
+use quantise::quarter::quarter_box;
 use strip::Refusal;
 
+// What the checks of leaves answer: nothing is refused, or the first refusal, with the leaf's number as its place.
+pub enum LeafCheck {
+    Passed,
+    Refused(Refusal),
+}
+
 // One axis of a quarter box as a word: min below, max above.
-pub fn quarter_pair(lo: f32, hi: f32) -> u32
-    ensures { λ r. ⌜ (r ≡ bits16 (quarterFloor lo) + 65536 * bits16 (quarterCeil hi)) × (bits16 (quarterFloor lo) < 65536) ⌝ }
+pub fn quarter_pair(min: i16, max: i16) -> u32
+    ensures { λ r. ⌜ (r ≡ bits16 min + 65536 * bits16 max) × (bits16 min < 65536) ⌝ }
 {
-    let a = bits16_of(quarter_floor(lo));
-    let b = bits16_of(quarter_ceil(hi));
-    a + 65536 * b
+    bits16_of(min) + 65536 * bits16_of(max)
 }
 
-// Whether two ranges meet, each a word with its min below and its max above: signed 16 bits, compared with their sign turned round.
-fn axis_meets(q: u32, p: u32) -> bool
-    ensures { λ r. ⌜ r ≡ axisMeets (int16 (q % 65536)) (int16 (q / 65536)) (int16 (p % 65536)) (int16 (p / 65536)) ⌝ }
+// Whether a leaf's range meets a polygon's, which is a word with its min below and its max above.
+fn axis_meets(leaf_min: i16, leaf_max: i16, sides: u32) -> bool
+    ensures { λ r. ⌜ r ≡ axisMeets «leaf_min» «leaf_max» (int16 (sides % 65536)) (int16 (sides / 65536)) ⌝ }
 {
-    if (q % 65536 + 32768) % 65536 > (p / 65536 + 32768) % 65536 {
-        return false;
+    let min = i16_of(sides);
+    let max = i16_of(sides / 65536);
+    if leaf_min <= max {
+        return min <= leaf_max;
     }
-    (p % 65536 + 32768) % 65536 <= (q / 65536 + 32768) % 65536
+    false
 }
 
-// Whether the polygon whose quarter box stands at `at` meets the leaf whose sides are qx and qy.
-pub fn meets_at(boxes: &[u32], at: usize, qx: u32, qy: u32) -> bool
+// Whether the polygon whose quarter box stands at `at` meets the leaf with the quarter box q.
+pub fn meets_at(boxes: &[u32], at: usize, q: QuarterBox) -> bool
     requires { ⌜ at + 3 ≤ length (now boxes) ⌝ }
-    ensures { λ r. ⌜ r ≡ meets (boxBy qx qy 0) (boxAt (now (boxes .entry)) at) ⌝ }
+    ensures { λ r. ⌜ r ≡ meets q (boxAt (now (boxes .entry)) at) ⌝ }
 {
-    if axis_meets(qx, boxes[at]) {
-        return axis_meets(qy, boxes[at + 1]);
+    if axis_meets(q.x_min, q.x_max, boxes[at]) {
+        return axis_meets(q.y_min, q.y_max, boxes[at + 1]);
     }
     false
 }
@@ -53,15 +60,15 @@ fn one_if(test: bool) -> u32
     0
 }
 
-// How many polygons meet the leaf whose sides are qx and qy.
-fn count_ids(boxes: &[u32], qx: u32, qy: u32) -> usize
-    ensures { λ r. ⌜ r ≡ length (idsOf (boxBy qx qy 0) 0 (boxesIn (now (boxes .entry)))) ⌝ }
+// How many polygons meet the leaf with the quarter box q.
+fn count_ids(boxes: &[u32], q: QuarterBox) -> usize
+    ensures { λ r. ⌜ r ≡ length (leafIds q 0 (boxesIn (now (boxes .entry)))) ⌝ }
 {
     let polys = boxes.len() / 3;
     let mut n = 0;
     let mut i = 0;
     while i < polys {
-        n = n + one_if(meets_at(boxes, 3 * i, qx, qy)) as usize;
+        n = n + one_if(meets_at(boxes, 3 * i, q)) as usize;
         i += 1;
     }
     n
@@ -69,25 +76,23 @@ fn count_ids(boxes: &[u32], qx: u32, qy: u32) -> usize
 
 // How many polygons meet the leaf with this box. Where there are none, its sides need no rounding.
 pub fn leaf_ids(boxes: &[u32], b: Aabb) -> usize
-    ensures { λ r. ⌜ r ≡ length (idsOf (quarters b) 0 (boxesIn (now (boxes .entry)))) ⌝ }
+    ensures { λ r. ⌜ r ≡ length (leafIds (quarters b) 0 (boxesIn (now (boxes .entry)))) ⌝ }
 {
     if boxes.len() < 3 {
         return 0;
     }
-    let qx = quarter_pair(b.min.x, b.max.x);
-    let qy = quarter_pair(b.min.y, b.max.y);
-    count_ids(boxes, qx, qy)
+    count_ids(boxes, quarter_box(b.min, b.max))
 }
 
 // How many points of numbers `from` to `to` have the leaf k: few enough for 32 bits, in which several are counted at a time.
-fn count_part(leafs: &[u32], k: u32, from: usize, to: usize) -> u32
-    requires { ⌜ (from ≤ to) × (to ≤ from + 65536) × (to ≤ length (now leafs)) ⌝ }
-    ensures { λ r. ⌜ r ≡ countIn (now (leafs .entry)) k from (to - from) ⌝ }
+fn count_part(leaf_numbers: &[u32], k: u32, from: usize, to: usize) -> u32
+    requires { ⌜ (from ≤ to) × (to ≤ from + 65536) × (to ≤ length (now «leaf_numbers»)) ⌝ }
+    ensures { λ r. ⌜ r ≡ countIn (now («leaf_numbers» .entry)) k from (to - from) ⌝ }
 {
     let mut n = 0;
     let mut i = from;
     while i < to {
-        n = n + one_if(leafs[i] == k);
+        n = n + one_if(leaf_numbers[i] == k);
         i += 1;
     }
     n
@@ -105,31 +110,31 @@ fn part_end(from: usize, end: usize) -> usize
 }
 
 // How many points have the leaf k.
-pub fn count_points(leafs: &[u32], k: u32) -> usize
-    ensures { λ r. ⌜ r ≡ countIn (now (leafs .entry)) k 0 (length (now (leafs .entry))) ⌝ }
+pub fn count_points(leaf_numbers: &[u32], k: u32) -> usize
+    ensures { λ r. ⌜ r ≡ countIn (now («leaf_numbers» .entry)) k 0 (length (now («leaf_numbers» .entry))) ⌝ }
 {
     let mut n = 0;
     let mut i = 0;
-    while i < leafs.len() {
-        let next = part_end(i, leafs.len());
-        n = n + count_part(leafs, k, i, next) as usize;
+    while i < leaf_numbers.len() {
+        let next = part_end(i, leaf_numbers.len());
+        n = n + count_part(leaf_numbers, k, i, next) as usize;
         i = next;
     }
     n
 }
 
-// 17 and 18 of the leaf with this box and this number; number 0 for neither.
-fn check_leaf<'a>(b: Aabb, leaf: u32, boxes: &'a [u32], leafs: &'a [u32]) -> Refusal
-    ensures { λ r. ⌜ ((ts : List Point) → length ts ≡ length (now (leafs .entry)) → Tells r leaf (leafCounts (treeBy (now (boxes .entry)) (now (leafs .entry)) ts 0 leaf b))) ⌝ }
+// 17 and 18 of the leaf with this box and this number.
+fn check_leaf<'a>(b: Aabb, leaf: u32, boxes: &'a [u32], leaf_numbers: &'a [u32]) -> LeafCheck
+    ensures { λ r. ⌜ ((ts : List NavPoint) → length ts ≡ length (now («leaf_numbers» .entry)) → FirstRefused r leaf (leafCounts (treeBy (now (boxes .entry)) (now («leaf_numbers» .entry)) ts 0 leaf b))) ⌝ }
 {
     let place = leaf as usize;
     if 8192 < leaf_ids(boxes, b) {
-        return Refusal { number: 17, place };
+        return LeafCheck::Refused(Refusal { number: 17, place });
     }
-    if 2048 < count_points(leafs, leaf) {
-        return Refusal { number: 18, place };
+    if 2048 < count_points(leaf_numbers, leaf) {
+        return LeafCheck::Refused(Refusal { number: 18, place });
     }
-    Refusal { number: 0, place }
+    LeafCheck::Passed
 }
 
 // The same of all leaves below a box, `depth` splits down, of which there are `width`, numbered from `leaf` on: the first refusal.
@@ -139,55 +144,43 @@ fn check_from<'a>(
     width: u32,
     leaf: u32,
     boxes: &'a [u32],
-    leafs: &'a [u32],
-) -> Refusal
+    leaf_numbers: &'a [u32],
+) -> LeafCheck
     requires { ⌜ (width ≡ 4 ^ depth) × (leaf + 4 ^ depth < 2 ^ 32) ⌝ }
-    ensures { λ r. ⌜ ((ts : List Point) → length ts ≡ length (now (leafs .entry)) → Tells r leaf (leafCounts (treeBy (now (boxes .entry)) (now (leafs .entry)) ts depth leaf b))) ⌝ }
+    ensures { λ r. ⌜ ((ts : List NavPoint) → length ts ≡ length (now («leaf_numbers» .entry)) → FirstRefused r leaf (leafCounts (treeBy (now (boxes .entry)) (now («leaf_numbers» .entry)) ts depth leaf b))) ⌝ }
 {
     if depth == 0 {
-        return check_leaf(b, leaf, boxes, leafs);
+        return check_leaf(b, leaf, boxes, leaf_numbers);
     }
     let d = depth - 1;
     let w = width / 4;
     let subs = super::boxes::split(b);
-    let r0 = check_from(subs.s0, d, w, leaf, boxes, leafs);
-    if r0.number != 0 {
-        return r0;
+    let r0 = check_from(subs.s0, d, w, leaf, boxes, leaf_numbers);
+    match r0 {
+        LeafCheck::Refused(r) => return LeafCheck::Refused(r),
+        LeafCheck::Passed => {}
     }
-    let r1 = check_from(subs.s1, d, w, leaf + w, boxes, leafs);
-    if r1.number != 0 {
-        return r1;
+    let r1 = check_from(subs.s1, d, w, leaf + w, boxes, leaf_numbers);
+    match r1 {
+        LeafCheck::Refused(r) => return LeafCheck::Refused(r),
+        LeafCheck::Passed => {}
     }
-    let r2 = check_from(subs.s2, d, w, leaf + 2 * w, boxes, leafs);
-    if r2.number != 0 {
-        return r2;
+    let r2 = check_from(subs.s2, d, w, leaf + 2 * w, boxes, leaf_numbers);
+    match r2 {
+        LeafCheck::Refused(r) => return LeafCheck::Refused(r),
+        LeafCheck::Passed => {}
     }
-    check_from(subs.s3, d, w, leaf + 3 * w, boxes, leafs)
+    check_from(subs.s3, d, w, leaf + 3 * w, boxes, leaf_numbers)
 }
 
-// The same of a cell's leaves in writing order.
-fn check_each<'a>(content: u32, b: Aabb, boxes: &'a [u32], leafs: &'a [u32]) -> Refusal
-    ensures { λ r. ⌜ ((ts : List Point) → length ts ≡ length (now (leafs .entry)) → Tells r 0 (leafCounts (treeBy (now (boxes .entry)) (now (leafs .entry)) ts (depthBy (content / 2 ^ 2 % 2)) 0 b))) ⌝ }
+// 17 and 18 of the leaves of a cell with this depth and this box, in writing order. Where the cell has no more than fits in a leaf, no leaf is looked at.
+pub fn check_leaves<'a>(depth: u32, b: Aabb, boxes: &'a [u32], leaf_numbers: &'a [u32]) -> LeafCheck
+    requires { ⌜ depth ≤ 2 ⌝ }
+    ensures { λ r. ⌜ ((ts : List NavPoint) → length ts ≡ length (now («leaf_numbers» .entry)) → FirstRefused r 0 (leafCounts (treeBy (now (boxes .entry)) (now («leaf_numbers» .entry)) ts depth 0 b))) ⌝ }
 {
-    if content / 4 % 2 == 0 {
-        return check_from(b, 2, 16, 0, boxes, leafs);
+    if boxes.len() <= 24576 && leaf_numbers.len() <= 2048 {
+        return LeafCheck::Passed;
     }
-    check_from(b, 0, 1, 0, boxes, leafs)
-}
-
-// 17 and 18 of a cell's leaves in writing order: the first refusal, with the leaf's number as its place; number 0 for none. Where the cell has no
-// more than fits in a leaf, no leaf is looked at.
-pub fn check_leaves<'a>(content: u32, b: Aabb, boxes: &'a [u32], leafs: &'a [u32]) -> Refusal
-    ensures { λ r. ⌜ ((ts : List Point) → length ts ≡ length (now (leafs .entry)) → Tells r 0 (leafCounts (treeBy (now (boxes .entry)) (now (leafs .entry)) ts (depthBy (content / 2 ^ 2 % 2)) 0 b))) ⌝ }
-{
-    if 24576 < boxes.len() {
-        return check_each(content, b, boxes, leafs);
-    }
-    if 2048 < leafs.len() {
-        return check_each(content, b, boxes, leafs);
-    }
-    Refusal {
-        number: 0,
-        place: 0,
-    }
+    let width = super::boxes::leaf_count(depth);
+    check_from(b, depth, width, 0, boxes, leaf_numbers)
 }

@@ -12,7 +12,7 @@ use lib.Ieee.{Float, nan, inf, fin, binary32, up, down, round, mul, lt, fits}
 use lib.Ieee.Fits.{down-pos, div-fits}
 use lib.Ieee.Scale.{round-same}
 use lib.Ieee.Exact.{HasValue}
-use Rattle.quantise.specs.Short.{short, fraction, clamped, nearest, magnitude, least, unit, nought, most}
+use Rattle.quantise.specs.Short.{short, fraction, clamped, nearestNumber, magnitude, least, unit, nought, most}
 use Rattle.quantise.specs.Steps.{roundedU16}
 use Rattle.quantise.proofs.Scaled as scaled
 use Rattle.quantise.proofs.Ops.{mul-at}
@@ -21,23 +21,23 @@ use Rattle.quantise.proofs.Units.{w, h, Rounded, rounded, rounded-value
 
 -- the cut changes nothing at t * 65535
 abbrev Plain : Float → Type 0
-Plain t = roundedU16 (mul binary32 t most) ≡ nearest (mul binary32 t most)
+Plain t = roundedU16 (mul binary32 t most) ≡ nearestNumber (mul binary32 t most)
 
 at-nought : Plain nought
-unfolding roundedU16 nearest mul
+unfolding roundedU16 nearestNumber mul
 at-nought = refl
 
 at-unit : Plain unit
-unfolding roundedU16 nearest mul
+unfolding roundedU16 nearestNumber mul
 at-unit = refl
 
 at-nan : Plain nan
-unfolding roundedU16 nearest mul
+unfolding roundedU16 nearestNumber mul
 at-nan = refl
 
 -- -0, as a product may write it
-minus-nought : roundedU16 (round binary32 true 0 1) ≡ nearest (round binary32 true 0 1)
-unfolding roundedU16 nearest round
+minus-nought : roundedU16 (round binary32 true 0 1) ≡ nearestNumber (round binary32 true 0 1)
+unfolding roundedU16 nearestNumber round
 minus-nought = refl
 
 below-nought : (m : ℕ) (e : ℤ) → Plain (clamped (fin true m e))
@@ -49,7 +49,7 @@ below-nought m e = go (lt (fin true m e) nought) refl
     go false p =
         let z = ltb-false 0 (m * up e * 1 + 0 * down e) p in
         let is : round binary32 true (m * up e * 65535) (down e * 1) ≡ round binary32 true 0 1 = round-same binary32 true (m * up e * 65535) (down e * 1) 0 1 (mul-pos (down-pos e) (lit< tt)) (lit< tt) (omega arith) in
-        ap roundedU16 is ∙ minus-nought ∙ ap nearest (sym is)
+        ap roundedU16 is ∙ minus-nought ∙ ap nearestNumber (sym is)
 
 -- t * 65535, for a t of n units
 pub product : (t : Float) (n : ℕ) → HasValue t false n w → n ≤ w → Rounded false (n * 65535) 141 (mul binary32 t most)
@@ -94,6 +94,6 @@ short-lt a lo extent = go (lt (magnitude extent) least)
     product : Float
     product = mul binary32 (clamped (fraction a lo extent)) most
 
-    go : (b : Bool) → cond b 0 (nearest product) < 65536
+    go : (b : Bool) → cond b 0 (nearestNumber product) < 65536
     go true = lit< tt
     go false = subst (λ (n : ℕ). n < 65536) (uncapped (fraction a lo extent) (div-fits binary32 _ _)) (roundedU16-lt product)

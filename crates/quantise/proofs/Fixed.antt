@@ -105,7 +105,7 @@ fixed (fin false m e) t g h =
 
 -- ---- to the nearest whole number, by which of the tests came out
 module _ (p : Float) (t : T (fits binary32 p)) where
-  pub rounds-inside : lt quarter p ≡ true → lt p most ≡ true → (read p + 2 ^ 24) / 2 ^ 25 ≡ roundedU16 p
+  pub rounds-inside : lt quarter p ≡ true → lt p most ≡ true → nearestWhole (read p) (2 ^ 25) ≡ roundedU16 p
   rounds-inside g h =
       let f = fixed p t g h in
       let is = rounded-value p (read p) (2 ^ 25) (pow-pos 25) (f .value) in

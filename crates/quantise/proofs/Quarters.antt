@@ -5,17 +5,17 @@ use Prim.Native.Nat.{ℕ, zero, suc, _+_, _-_, _*_, _/_, _^_, _≤_, _<_, min}
 use native.Mathlib.Nat.{mul-comm, suc-min-suc, le-trans, div-eq-of-lt, div-eq-of-lt-le, le-div-iff-mul-le, div-mul-le-self, lt-div-mul-add}
 use native.Mathlib.Omega.{arith}
 use lib.Dec.{T, lit≤, lit<}
-use mir.Syntax.{w16}
-use mir.Val.{toZ, ofZ}
-use mir.ValLaws.{toZ-ofZ}
-use lib.IntN.{ℤ, pos, negsuc, negℤ}
+use mir.Syntax.{Width, w16, w32}
+use mir.Val.{SFits, hbits, toZ, ofZ}
+use mir.ValLaws.{toZ-pos, toZ-ofZ}
+use lib.IntN.{ℤ, pos, negsuc, negℤ, _-ℤ_, +ℤ-idl}
 use lib.Signed.{mag}
-use borrow.Author.Tests.{ltb-true, ltb-false}
+use borrow.Author.Tests.{le-ltb, ltb-true, ltb-false}
 use lib.Ieee.{Float, nan, inf, fin, binary32, binary64, up, down, lt, neg, mul, fits, toUnsigned, ofInt, round}
 use lib.Ieee.Fits.{down-pos}
 use lib.Ieee.Exact.{HasValue}
 use lib.Ieee.Back.{round-whole}
-use Rattle.quantise.specs.Quarter.{rounded, whole, saturated, side}
+use Rattle.quantise.specs.Quarter.{rounded, wholeNumber, saturated, side, int16}
 use Rattle.quantise.specs.Steps.{quarters}
 use Rattle.math.specs.MinMax.{plain}
 use Rattle.math.proofs.Whole.{cut-value, cut-negative, lt-true, lt-false, not-below}
@@ -97,6 +97,11 @@ made ceil (fin false m e) t =
     some (fin false m e) k (down e) (toUnsigned 64 y) (down-pos e) v (cut-value 64 y k (down e) (down-pos e) v) ceil refl
 
 -- ---- the sign put back
+
+-- 0 - n at a signed width is -n
+pub minus : (w : Width) (n : ℕ) → n < 2 ^ hbits w → pos 0 -ℤ toZ w n ≡ negℤ (pos n)
+minus w n h = ap (λ (z : ℤ). pos 0 -ℤ z) (toZ-pos w n h) ∙ +ℤ-idl (negℤ (pos n))
+
 pub saturated-fits : (z : ℤ) → mag (saturated z) < 2 ^ 15
 saturated-fits (pos n) = omega arith
 saturated-fits (negsuc n) = omega arith
@@ -114,7 +119,7 @@ rounded-zero : (ceil : Bool) (n d : ℕ) → 0 < d → n ≡ 0 → rounded ceil 
 rounded-zero false n d p z = div-eq-of-lt {n = n} {m = d} (omega arith)
 rounded-zero true n d p z = div-eq-of-lt {n = n + (d - 1)} {m = d} (omega arith)
 
-whole-zero : (ceil s : Bool) (n d : ℕ) → 0 < d → n ≡ 0 → whole ceil s n d ≡ pos 0
+whole-zero : (ceil s : Bool) (n d : ℕ) → 0 < d → n ≡ 0 → wholeNumber ceil s n d ≡ pos 0
 whole-zero ceil false n d p z = ap pos (rounded-zero ceil n d p z)
 whole-zero true true n d p z = ap (λ (k : ℕ). negℤ (pos k)) (rounded-zero false n d p z)
 whole-zero false true n d p z = ap (λ (k : ℕ). negℤ (pos k)) (rounded-zero true n d p z)
@@ -138,13 +143,26 @@ side-positive ceil (fin true m e) h =
     ap saturated (sym (whole-zero ceil true (4 * (m * up e)) (down e) (down-pos e) (omega arith)))
 side-positive ceil (fin false m e) h = cut-pos (rounded ceil (4 * (m * up e)) (down e))
 
+-- ---- 16 signed bits from their distance below 0
+
+pub wide : (z : ℤ) → SFits w16 z → SFits w32 z
+wide z f = record { sfits = omega (arith, f .sfits) }
+
+pub below-fits : (n : ℕ) → n ≤ 32768 → SFits w16 (negℤ (pos n))
+below-fits zero h = record { sfits = omega arith }
+below-fits (suc n) h = record { sfits = omega arith }
+
+pub below-bits : (n bits : ℕ) → 32768 ≤ bits → bits < 65536 → n + bits ≡ 65536 → negℤ (pos n) ≡ int16 bits
+below-bits zero bits h l e = absurd (omega arith)
+below-bits (suc n) bits h l e = rw (le-ltb bits 32768 h) (ap negsuc (omega arith))
+
 -- ---- a side is a number of 16 signed bits, and the machine reads it back from its bits
 pub side-fits : (ceil : Bool) (x : Float) → mag (side ceil x) < 2 ^ 15
 unfolding side
 side-fits ceil nan = lit< tt
 side-fits ceil (inf true) = lit< tt
 side-fits ceil (inf false) = lit< tt
-side-fits ceil (fin s m e) = saturated-fits (whole ceil s (4 * (m * up e)) (down e))
+side-fits ceil (fin s m e) = saturated-fits (wholeNumber ceil s (4 * (m * up e)) (down e))
 
 pub side-read : (ceil : Bool) (x : Float) (r : ℤ) → r ≡ side ceil x → toZ w16 (ofZ w16 r) ≡ side ceil x
 side-read ceil x r e = toZ-ofZ w16 r (record { sfits = rw e (side-fits ceil x) }) ∙ e

@@ -10,13 +10,13 @@ use lib.IntN.{pos, negsuc}
 use lib.ListN.{getD, length}
 use lib.Ieee.{Float, nan, binary32, ofBits, fits, lt, isNan}
 use lib.Ieee.Bits.{ofBits-fits}
-use Rattle.math.specs.MinMax.{Picked, IsMin, IsMax, first, lesser, greater, plain}
+use Rattle.math.specs.MinMax.{Picked, IsMin, IsMax, chosen, lesser, greater, plain}
 use Rattle.math.specs.declared.vec3.Vec3.{Vec3}
 use Rattle.math.specs.Floats.{floatsAt}
 use Rattle.math.proofs.Order.{Order, less, more}
 use Rattle.math.proofs.MinMax.{picked-fits, agree-first, first-plain}
 use Rattle.quantise.specs.Quarter.{side, quarterFloor, quarterCeil, quarterBox}
-use Rattle.quantise.specs.Bounds.{greatest, lowest, thirds, held, Run, done, turn, Bounding, fold, leastSide, greatestSide, quarterBounds}
+use Rattle.quantise.specs.Bounds.{greatest, lowest, everyThird, held, Run, done, turn, Bounding, fold, leastSide, greatestSide, quarterBounds}
 use Rattle.quantise.specs.declared.bounds.Aabb.{Aabb}
 use Rattle.quantise.proofs.Quarters.{side-plain}
 
@@ -25,45 +25,45 @@ pub held-all : (s : List ℕ) (at n : ℕ) → at + 3 * n ≤ length s → held 
 held-all s at n h = omega arith
 
 -- ---- the loop
-thirds-turn : (s : List ℕ) (p i n : ℕ) → i < n → thirds s p (n - i) ≡ getD s p 0 ∷ thirds s (p + 3) (n - (i + 1))
-unfolding thirds
+thirds-turn : (s : List ℕ) (p i n : ℕ) → i < n → everyThird s p (n - i) ≡ getD s p 0 ∷ everyThird s (p + 3) (n - (i + 1))
+unfolding everyThird
 thirds-turn s p i n h =
     let more : n - i ≡ suc (n - (i + 1)) = omega arith in
-    ap (thirds s p) more
+    ap (everyThird s p) more
 
-thirds-end : (s : List ℕ) (p i n : ℕ) → n ≤ i → thirds s p (n - i) ≡ []
-unfolding thirds
+thirds-end : (s : List ℕ) (p i n : ℕ) → n ≤ i → everyThird s p (n - i) ≡ []
+unfolding everyThird
 thirds-end s p i n h =
     let none : n - i ≡ 0 = omega arith in
-    ap (thirds s p) none
+    ap (everyThird s p) none
 
 module _ (step : Float → Float → Float → Type 0) (start : Float) (whole : List ℕ) (s : List ℕ) where
   -- what is left, taken together from a on, makes the whole
   abbrev Left : Float → ℕ → ℕ → Type 0
-  Left a p k = (r : Float) → Run step a (thirds s p k) r → Run step start whole r
+  Left a p k = (r : Float) → Run step a (everyThird s p k) r → Run step start whole r
 
   left-turn : (a x b : Float) (p p' i n : ℕ) → i < n → p' ≡ p + 3 → Left a p (n - i) → x ≡ ofBits binary32 (getD s p 0) → step a x b → Left b p' (n - (i + 1))
   left-turn a x b p p' i n h e rest is one r run =
       rest r
       (subst (λ (l : List ℕ). Run step a l r) (sym (thirds-turn s p i n h))
-      (turn (subst (λ (y : Float). step a y b) is one) (subst (λ (q : ℕ). Run step b (thirds s q (n - (i + 1))) r) e run)))
+      (turn (subst (λ (y : Float). step a y b) is one) (subst (λ (q : ℕ). Run step b (everyThird s q (n - (i + 1))) r) e run)))
 
   left-end : (a : Float) (p i n : ℕ) → n ≤ i → Left a p (n - i) → Run step start whole a
   left-end a p i n h rest = rest a (subst (λ (l : List ℕ). Run step a l a) (sym (thirds-end s p i n h)) done)
 
-left-begin : (step : Float → Float → Float → Type 0) (start a : Float) (s : List ℕ) (p n : ℕ) → a ≡ start → Left step start (thirds s p n) s a p (n - 0)
-left-begin step start a s p n e r run = subst (λ (x : Float). Run step x (thirds s p n) r) e (rw sub-zero at run)
+left-begin : (step : Float → Float → Float → Type 0) (start a : Float) (s : List ℕ) (p n : ℕ) → a ≡ start → Left step start (everyThird s p n) s a p (n - 0)
+left-begin step start a s p n e r run = subst (λ (x : Float). Run step x (everyThird s p n) r) e (rw sub-zero at run)
 
 -- before vertex i of n
 pub record Swept (s : List ℕ) (at n : ℕ) (min max : Vec3) (place i : ℕ) : Type 0 where
   pub within : i ≤ n
   pub here : place ≡ at + 3 * i
-  pub min-x : Left IsMin greatest (thirds s at n) s (min .x) place (n - i)
-  pub min-y : Left IsMin greatest (thirds s (at + 1) n) s (min .y) (place + 1) (n - i)
-  pub min-z : Left IsMin greatest (thirds s (at + 2) n) s (min .z) (place + 2) (n - i)
-  pub max-x : Left IsMax lowest (thirds s at n) s (max .x) place (n - i)
-  pub max-y : Left IsMax lowest (thirds s (at + 1) n) s (max .y) (place + 1) (n - i)
-  pub max-z : Left IsMax lowest (thirds s (at + 2) n) s (max .z) (place + 2) (n - i)
+  pub min-x : Left IsMin greatest (everyThird s at n) s (min .x) place (n - i)
+  pub min-y : Left IsMin greatest (everyThird s (at + 1) n) s (min .y) (place + 1) (n - i)
+  pub min-z : Left IsMin greatest (everyThird s (at + 2) n) s (min .z) (place + 2) (n - i)
+  pub max-x : Left IsMax lowest (everyThird s at n) s (max .x) place (n - i)
+  pub max-y : Left IsMax lowest (everyThird s (at + 1) n) s (max .y) (place + 1) (n - i)
+  pub max-z : Left IsMax lowest (everyThird s (at + 2) n) s (max .z) (place + 2) (n - i)
 
 -- all three coordinates are x
 abbrev pub Each : Float → Vec3 → Type 0
@@ -120,20 +120,20 @@ pub side-same : (ceil : Bool) (r s : Float) → plain r ≡ plain s → side cei
 side-same ceil r s p = sym (side-plain ceil r) ∙ ap (side ceil) p ∙ side-plain ceil s
 
 module _ {before under : Float → Float → Bool} (o : Order before under) where
-  fold-plain : (a b : Float) (ws : List ℕ) → plain a ≡ plain b → plain (fold (first before) a ws) ≡ plain (fold (first before) b ws)
+  fold-plain : (a b : Float) (ws : List ℕ) → plain a ≡ plain b → plain (fold (chosen before) a ws) ≡ plain (fold (chosen before) b ws)
   unfolding fold
   fold-plain a b [] e = e
   fold-plain a b (w ∷ ws) e =
       let x = ofBits binary32 w in
-      fold-plain (first before a x) (first before b x) ws (sym (first-plain o a x) ∙ ap (λ (y : Float). plain (first before y x)) e ∙ first-plain o b x)
+      fold-plain (chosen before a x) (chosen before b x) ws (sym (first-plain o a x) ∙ ap (λ (y : Float). plain (chosen before y x)) e ∙ first-plain o b x)
 
-  run-fold : {a r : Float} {ws : List ℕ} → T (fits binary32 a) → Run (Picked under) a ws r → plain r ≡ plain (fold (first before) a ws)
+  run-fold : {a r : Float} {ws : List ℕ} → T (fits binary32 a) → Run (Picked under) a ws r → plain r ≡ plain (fold (chosen before) a ws)
   unfolding fold
   run-fold p done = refl
   run-fold p (turn {a} {b} {r} {w} {ws} one run) =
       let x = ofBits binary32 w in
       let q = ofBits-fits binary32 w in
-      run-fold (picked-fits o a x binary32 p q b one) run ∙ fold-plain b (first before a x) ws (agree-first o a x binary32 p q b one)
+      run-fold (picked-fits o a x binary32 p q b one) run ∙ fold-plain b (chosen before a x) ws (agree-first o a x binary32 p q b one)
 
 pub least-side : {r : Float} {ws : List ℕ} → Run IsMin greatest ws r → quarterFloor r ≡ leastSide ws
 unfolding fits lesser

@@ -10,7 +10,7 @@ use lib.Ieee.{Float, nan, inf, fin, binary32, up, down, round, lt}
 use lib.Ieee.Exact.{HasValue}
 use lib.Ieee.Fits.{down-pos}
 use lib.Ieee.Nearest.{div-same}
-use Rattle.quantise.specs.Short.{clamped, nearest, nearestWhole, unit, nought}
+use Rattle.quantise.specs.Short.{clamped, nearestNumber, nearestWhole, unit, nought}
 use Rattle.quantise.specs.Steps.{roundedU16}
 use Rattle.quantise.proofs.Near.{Near, rounds-near}
 use Rattle.quantise.proofs.Chain.{cancel}
@@ -44,8 +44,8 @@ rounded-value (fin false m e) a c p v =
     ap (λ (n : ℕ). min n 65535)
     (div-same (2 * (m * up e) + down e) (2 * down e) (2 * a + c) (2 * c) (omega (arith, down-pos e)) (omega arith) (omega (arith, v .1)))
 
-pub nearest-value : (x : Float) (s : Bool) (a c : ℕ) → 0 < c → HasValue x s a c → nearest x ≡ nearestWhole a c
-unfolding nearest
+pub nearest-value : (x : Float) (s : Bool) (a c : ℕ) → 0 < c → HasValue x s a c → nearestNumber x ≡ nearestWhole a c
+unfolding nearestNumber
 nearest-value nan s a c p v = absurd v
 nearest-value (inf t) s a c p v = absurd v
 nearest-value (fin t m e) s a c p v =

@@ -18,9 +18,9 @@ abbrev pub lowest : Float
 lowest = fin true 16777215 (pos 104)
 
 -- every third of 3 * n words from a place on: one axis of n vertices
-unfoldable pub thirds : List ℕ → ℕ → ℕ → List ℕ
-thirds s at zero = []
-thirds s at (suc n) = getD s at 0 ∷ thirds s (at + 3) n
+unfoldable pub everyThird : List ℕ → ℕ → ℕ → List ℕ
+everyThird s at zero = []
+everyThird s at (suc n) = getD s at 0 ∷ everyThird s (at + 3) n
 
 -- how many of n vertices from a place on the words hold whole; the others are left out
 abbrev pub held : List ℕ → ℕ → ℕ → ℕ
@@ -33,12 +33,12 @@ pub data Run (step : Float → Float → Float → Type 0) : Float → List ℕ 
 
 -- A polygon's min and max, by axis. Which zero is free.
 pub record Bounding (s : List ℕ) (at n : ℕ) (r : Aabb) : Type 0 where
-  pub min-x : Run IsMin greatest (thirds s at n) (r .min .x)
-  pub min-y : Run IsMin greatest (thirds s (at + 1) n) (r .min .y)
-  pub min-z : Run IsMin greatest (thirds s (at + 2) n) (r .min .z)
-  pub max-x : Run IsMax lowest (thirds s at n) (r .max .x)
-  pub max-y : Run IsMax lowest (thirds s (at + 1) n) (r .max .y)
-  pub max-z : Run IsMax lowest (thirds s (at + 2) n) (r .max .z)
+  pub min-x : Run IsMin greatest (everyThird s at n) (r .min .x)
+  pub min-y : Run IsMin greatest (everyThird s (at + 1) n) (r .min .y)
+  pub min-z : Run IsMin greatest (everyThird s (at + 2) n) (r .min .z)
+  pub max-x : Run IsMax lowest (everyThird s at n) (r .max .x)
+  pub max-y : Run IsMax lowest (everyThird s (at + 1) n) (r .max .y)
+  pub max-z : Run IsMax lowest (everyThird s (at + 2) n) (r .max .z)
 
 -- the same with one of the zeros picked, which a quarter box does not show
 unfoldable pub fold : (Float → Float → Float) → Float → List ℕ → Float
@@ -54,10 +54,10 @@ greatestSide ws = quarterCeil (fold greater lowest ws)
 -- A polygon's quarter box.
 abbrev pub quarterBounds : List ℕ → ℕ → ℕ → QuarterBox
 quarterBounds s at n = record {
-  «x_min» = leastSide (thirds s at n);
-  «x_max» = greatestSide (thirds s at n);
-  «y_min» = leastSide (thirds s (at + 1) n);
-  «y_max» = greatestSide (thirds s (at + 1) n);
-  «z_min» = leastSide (thirds s (at + 2) n);
-  «z_max» = greatestSide (thirds s (at + 2) n);
+  «x_min» = leastSide (everyThird s at n);
+  «x_max» = greatestSide (everyThird s at n);
+  «y_min» = leastSide (everyThird s (at + 1) n);
+  «y_max» = greatestSide (everyThird s (at + 1) n);
+  «z_min» = leastSide (everyThird s (at + 2) n);
+  «z_max» = greatestSide (everyThird s (at + 2) n);
 }

@@ -1,6 +1,7 @@
 -- Document 01, module 3: the quarter box, over the exact value of a float. Definitions only.
 use Prim.Native.Nat.{ℕ, _+_, _-_, _*_, _/_, min}
 use mathlib.Core.Bool.{Bool, true, false, cond}
+use lib.Dec.{ltb}
 use lib.IntN.{ℤ, pos, negsuc, negℤ}
 use lib.Ieee.{Float, nan, inf, fin, up, down}
 use Rattle.math.specs.declared.vec3.Vec3.{Vec3}
@@ -11,10 +12,10 @@ abbrev pub rounded : Bool → ℕ → ℕ → ℕ
 rounded ceil n d = cond ceil ((n + (d - 1)) / d) (n / d)
 
 -- ±n / d, negative where s is true, to the least whole number not below it (`ceil`), or to the greatest not above it
-abbrev pub whole : Bool → Bool → ℕ → ℕ → ℤ
-whole ceil false n d = pos (rounded ceil n d)
-whole true true n d = negℤ (pos (rounded false n d))
-whole false true n d = negℤ (pos (rounded true n d))
+abbrev pub wholeNumber : Bool → Bool → ℕ → ℕ → ℤ
+wholeNumber ceil false n d = pos (rounded ceil n d)
+wholeNumber true true n d = negℤ (pos (rounded false n d))
+wholeNumber false true n d = negℤ (pos (rounded true n d))
 
 -- to the nearest of 16 signed bits
 abbrev pub saturated : ℤ → ℤ
@@ -25,7 +26,7 @@ saturated (negsuc n) = negsuc (min n 32767)
 unfoldable pub side : Bool → Float → ℤ
 side ceil nan = pos 0
 side ceil (inf s) = cond s (negsuc 32767) (pos 32767)
-side ceil (fin s m e) = saturated (whole ceil s (4 * (m * up e)) (down e))
+side ceil (fin s m e) = saturated (wholeNumber ceil s (4 * (m * up e)) (down e))
 
 abbrev pub quarterFloor : Float → ℤ
 quarterFloor x = side false x
@@ -48,3 +49,7 @@ quarterBox min max = record {
 abbrev pub bits16 : ℤ → ℕ
 bits16 (pos n) = n
 bits16 (negsuc n) = 65535 - n
+
+-- and back
+abbrev pub int16 : ℕ → ℤ
+int16 n = cond (ltb n 32768) (pos n) (negsuc (65535 - n))

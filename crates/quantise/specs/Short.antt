@@ -39,15 +39,15 @@ abbrev pub nearestWhole : ℕ → ℕ → ℕ
 nearestWhole n d = (2 * n + d) / (2 * d)
 
 -- x, which is not negative, to the nearest whole number, halves away from zero. NaN gives 0. (An infinity does not come here, since a fraction is clamped first.)
-unfoldable pub nearest : Float → ℕ
-nearest nan = 0
-nearest (inf s) = 0
-nearest (fin s m e) = nearestWhole (m * up e) (down e)
+unfoldable pub nearestNumber : Float → ℕ
+nearestNumber nan = 0
+nearestNumber (inf s) = 0
+nearestNumber (fin s m e) = nearestWhole (m * up e) (down e)
 
 -- The short of a on an axis: an extent below 2 ^ -23 in magnitude gives 0; otherwise the fraction, clamped to 0..1, times 65535, to the nearest.
 unfoldable pub short : Float → Float → Float → ℕ
-unfolding fraction clamped nearest
-short a lo extent = cond (lt (magnitude extent) least) 0 (nearest (mul binary32 (clamped (fraction a lo extent)) most))
+unfolding fraction clamped nearestNumber
+short a lo extent = cond (lt (magnitude extent) least) 0 (nearestNumber (mul binary32 (clamped (fraction a lo extent)) most))
 
 -- and back: lo + q / 65535 * extent
 unfoldable pub coordinate : ℕ → Float → Float → Float

@@ -1,8 +1,8 @@
 // The quarter box: each side of a box in quarters, as 16 signed bits.
 ghost use mathlib.Core.Path.{_≡_};
-ghost use Prim.Native.Nat.{_<_};
+ghost use Prim.Native.Nat.{_%_, _<_};
 ghost use lib.IntN.{pos, negℤ};
-ghost use Rattle.quantise.specs.Quarter.{side, saturated, quarterFloor, quarterCeil, quarterBox, bits16};
+ghost use Rattle.quantise.specs.Quarter.{side, saturated, quarterFloor, quarterCeil, quarterBox, bits16, int16};
 ghost use Rattle.quantise.specs.Steps.{quarters};
 use math::vec3::Vec3;
 
@@ -90,7 +90,20 @@ pub fn bits16_of(x: i16) -> u32
     ensures { λ r. ⌜ (r ≡ bits16 x) × (r < 65536) ⌝ }
 {
     if x < 0 {
-        return (x as i32 + 65536) as u32;
+        let below = (0 - x as i32) as u32;
+        return 65536 - below;
     }
     x as u32
+}
+
+// The side whose bits are the low 16 of a word.
+pub fn i16_of(bits: u32) -> i16
+    ensures { λ r. ⌜ r ≡ int16 (bits % 65536) ⌝ }
+{
+    let low = bits % 65536;
+    if low < 32768 {
+        return low as i16;
+    }
+    let below = 65536 - low;
+    (0 - below as i32) as i16
 }

@@ -1,7 +1,8 @@
 // Short numbers: a coordinate as 16 bits of the way along its axis of the box, and back.
 ghost use mathlib.Core.Path.{_≡_};
+ghost use Prim.Native.Nat.{_*_, _^_, _<_};
 ghost use Rattle.quantise.specs.Short as Short;
-ghost use Rattle.quantise.specs.Short.{clamped, magnitude, least, short, coordinate, shorts, coordinates};
+ghost use Rattle.quantise.specs.Short.{clamped, nearestWhole, magnitude, least, short, coordinate, shorts, coordinates};
 ghost use Rattle.quantise.specs.Steps.{roundedU16};
 ghost use lib.Ieee.{lt};
 use math::vec3::Vec3;
@@ -33,6 +34,14 @@ fn clamp_unit(t: f32) -> f32
     }
 }
 
+// A number of 2^-25ths to the nearest whole number, halves up, which is away from zero.
+fn nearest_whole(fixed: u64) -> u64
+    requires { ⌜ fixed < 65535 * 2 ^ 25 ⌝ }
+    ensures { λ r. ⌜ r ≡ nearestWhole fixed (2 ^ 25) ⌝ }
+{
+    (fixed + 0x100_0000) / 0x200_0000
+}
+
 // Rust's `p.round() as u16`: halves away from zero, cut to the range, and 0 for a NaN. Above a
 // quarter p is a whole number of 2^-25ths; 2^27 more, which an `f64` holds exactly, shows them as
 // its digits, and there a half is added. (In the `f32` itself p + 0.5 may round up.)
@@ -42,7 +51,7 @@ fn round_to_u16(p: f32) -> u16
     if p > 0.25 {
         if p < 65535.0 {
             let fixed = f64::to_bits((p as f64) + 134217728.0) % 0x10_0000_0000_0000;
-            return ((fixed + 0x100_0000) / 0x200_0000) as u16;
+            return nearest_whole(fixed) as u16;
         }
         return 65535;
     }

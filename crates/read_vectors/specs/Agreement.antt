@@ -5,24 +5,26 @@ use mathlib.Core.Bool.{cond}
 use mathlib.Core.List.{List, _++_}
 use lib.Dec.{eqb, ltb}
 use lib.ListN.{length, take, drop, getD, replicate}
-use Rattle.fields.specs.Bytes.{le}
+use Rattle.fields.specs.Bytes.{leAt}
 use Rattle.strip.specs.Outcome.{Outcome, Paper, refusal, values, shown, left}
 use Rattle.ynv_read.specs.Parse.{parseOutcome}
 use Rattle.ynv_read.specs.declared.Parsed.{Parsed}
-use Rattle.replay.specs.Ends.{endOf, padded}
+use Rattle.replay.specs.Ends.{recordEnd, padded}
+use Rattle.replay.specs.Tallies.{Passed, Counted}
+use Rattle.replay.specs.declared.Tally.{Tally}
 use Rattle.read_vectors.specs.declared.Record.{Record}
 
 -- how much the cell of the record at a place has
 abbrev pub toldCounts : List ℕ → ℕ → Parsed
-toldCounts b at = record { words = le 4 b (at + 20); polys = le 4 b (at + 24); portals = le 4 b (at + 28); points = le 4 b (at + 32); sectors = le 4 b (at + 36) }
+toldCounts b at = record { words = leAt 4 b (at + 20); polys = leAt 4 b (at + 24); portals = leAt 4 b (at + 28); points = leAt 4 b (at + 32); sectors = leAt 4 b (at + 36) }
 
 -- the answer that the record tells: the number 0 is an accepted cell
 unfoldable pub told : List ℕ → ℕ → Paper Parsed
-told b at = cond (eqb (le 4 b (at + 16)) 0) (values (toldCounts b at)) (refusal (le 4 b (at + 16)) (le 4 b (at + 20)))
+told b at = cond (eqb (leAt 4 b (at + 16)) 0) (values (toldCounts b at)) (refusal (leAt 4 b (at + 16)) (leAt 4 b (at + 20)))
 
 -- word k of a strip that has the words of these bytes in front and is untouched behind them
 unfoldable pub toldWord : List ℕ → ℕ → ℕ
-toldWord ws k = cond (ltb (4 * k) (length ws)) (le 4 ws (4 * k)) 0xD1D1D1D1
+toldWord ws k = cond (ltb (4 * k) (length ws)) (leAt 4 ws (4 * k)) 0xD1D1D1D1
 
 -- the strip before the call
 unfoldable pub untouchedWords : List ℕ
@@ -30,11 +32,11 @@ untouchedWords = replicate 512 0xD1D1D1D1
 
 -- the words of the cell that stand in the record
 unfoldable pub toldWords : List ℕ → ℕ → ℕ
-toldWords b at = cond (eqb (le 4 b (at + 16)) 0) (le 4 b (at + 20)) 0
+toldWords b at = cond (eqb (leAt 4 b (at + 16)) 0) (leAt 4 b (at + 20)) 0
 
 -- how many of n words the record lends
 abbrev pub lent : List ℕ → ℕ → ℕ → ℕ
-lent b at n = min (le 4 b (at + 12)) n
+lent b at n = min (leAt 4 b (at + 12)) n
 
 abbrev pub between : List ℕ → (from to : ℕ) → List ℕ
 between b from to = take (to - from) (drop from b)
@@ -53,18 +55,38 @@ pub record Agrees (b : List ℕ) (at : ℕ) (r : Record) : Type 0 where
 
 -- where the parts of the record at a place stand
 abbrev pub graphicsAt : List ℕ → ℕ → ℕ
-graphicsAt b at = endOf (length b) (at + 40) (padded (le 4 b (at + 4)))
+graphicsAt b at = recordEnd (length b) (at + 40) (padded (leAt 4 b (at + 4)))
 
 abbrev pub stripAt : List ℕ → ℕ → ℕ
-stripAt b at = endOf (length b) (graphicsAt b at) (padded (le 4 b (at + 8)))
+stripAt b at = recordEnd (length b) (graphicsAt b at) (padded (leAt 4 b (at + 8)))
 
-pub record Placed (b : List ℕ) (at : ℕ) (r : Record) : Type 0 where
-  pub system : r .system ≡ at + 40
-  pub system-end : r .«system_end» ≡ endOf (length b) (at + 40) (le 4 b (at + 4))
-  pub graphics : r .graphics ≡ graphicsAt b at
-  pub graphics-end : r .«graphics_end» ≡ endOf (length b) (graphicsAt b at) (le 4 b (at + 8))
-  pub strip : r .strip ≡ stripAt b at
-  pub next : r .next ≡ endOf (length b) (stripAt b at) (4 * toldWords b at)
+abbrev pub nextAt : List ℕ → ℕ → ℕ
+nextAt b at = recordEnd (length b) (stripAt b at) (4 * toldWords b at)
+
+abbrev pub recordOf : List ℕ → ℕ → Record
+recordOf b at =
+    record {
+      system = at + 40;
+      «system_end» = recordEnd (length b) (at + 40) (leAt 4 b (at + 4));
+      graphics = graphicsAt b at;
+      «graphics_end» = recordEnd (length b) (graphicsAt b at) (leAt 4 b (at + 8));
+      strip = stripAt b at;
+      next = nextAt b at;
+    }
+
+-- whether a record stands at a place, and whether its number is one of those that are asked for
+abbrev pub Begins : List ℕ → ℕ → Type 0
+Begins b at = (at + 40 ≤ length b) × (leAt 4 b at ≡ 7)
+
+abbrev pub Asked : List ℕ → (low high at : ℕ) → Type 0
+Asked b low high at = (low ≤ leAt 4 b (at + 16)) × (leAt 4 b (at + 16) ≤ high)
+
+-- the tally of the records with such a number: of those before a place, and of all
+abbrev pub PassedAt : List ℕ → (low high at : ℕ) → Tally → Type 0
+PassedAt b low high = Passed (λ (at : ℕ). Begins b at) (λ (at : ℕ). Asked b low high at) (λ (at : ℕ). Agrees b at (recordOf b at)) (λ (at : ℕ). nextAt b at) (length b)
+
+abbrev pub TallyOf : List ℕ → (low high : ℕ) → Tally → Type 0
+TallyOf b low high = Counted (λ (at : ℕ). Begins b at) (λ (at : ℕ). Asked b low high at) (λ (at : ℕ). Agrees b at (recordOf b at)) (λ (at : ℕ). nextAt b at) (length b)
 
 -- a record at a place of n bytes, which it goes beyond and does not leave
 pub record Stands (at : ℕ) (r : Record) (n : ℕ) : Type 0 where

@@ -8,8 +8,8 @@ ghost use Prim.Native.Nat.{ℕ, _+_, _*_, _^_, _≤_, _<_};
 ghost use lib.ListN.{length, getD};
 ghost use Rattle.strip.specs.Outcome.{refusalOf, shown};
 ghost use Rattle.ynv_read.specs.Parse.{paper};
-ghost use Rattle.replay.specs.Tallies.{Tallied};
-ghost use Rattle.read_vectors.specs.Agreement.{told, toldCounts, toldWord, untouchedWords, toldWords, outcomeOf, stripOf, Agrees, Placed, Stands};
+ghost use Rattle.replay.specs.Tallies.{Tallied, Step};
+ghost use Rattle.read_vectors.specs.Agreement.{told, toldCounts, toldWord, untouchedWords, toldWords, outcomeOf, stripOf, Agrees, recordOf, Asked, TallyOf, Stands};
 use fields::u32_le;
 use replay::Tally;
 use replay::counted;
@@ -46,7 +46,7 @@ fn strip_words(bytes: &[u8], at: usize) -> usize
 
 fn record_at(bytes: &[u8], at: usize) -> Record
     requires { ⌜ at + 40 ≤ length (now bytes) ⌝ }
-    ensures { λ r. ⌜ Placed (now (bytes .entry)) at r × Stands at r (length (now (bytes .entry))) ⌝ }
+    ensures { λ r. ⌜ (r ≡ recordOf (now (bytes .entry)) at) × Stands at r (length (now (bytes .entry))) ⌝ }
 {
     let n = bytes.len();
     let system = at + 40;
@@ -182,7 +182,7 @@ fn agrees(bytes: &[u8], at: usize, r: Record) -> bool
 // The tally with the record at a place, where the record's number is from low to high.
 fn with_record(bytes: &[u8], at: usize, r: Record, t: Tally, low: u32, high: u32) -> Tally
     requires { ⌜ (at + 40 ≤ length (now bytes)) × Stands at r (length (now bytes)) × Tallied (length (now bytes)) at t ⌝ }
-    ensures { λ s. ⌜ Tallied (length (now (bytes .entry))) (at + 1) s ⌝ }
+    ensures { λ s. ⌜ Step (Asked (now (bytes .entry)) low high at) (Agrees (now (bytes .entry)) at r) t at s × Tallied (length (now (bytes .entry))) (at + 1) s ⌝ }
 {
     let number = u32_le(bytes, at + 16);
     if number < low {
@@ -196,7 +196,7 @@ fn with_record(bytes: &[u8], at: usize, r: Record, t: Tally, low: u32, high: u32
 
 // Of the records whose number is from low to high.
 fn tally_of(bytes: &[u8], low: u32, high: u32) -> Tally
-    ensures { λ r. ⌜ Tallied (length (now (bytes .entry))) (length (now (bytes .entry))) r ⌝ }
+    ensures { λ r. ⌜ TallyOf (now (bytes .entry)) low high r ⌝ }
 {
     let mut t = Tally {
         seen: 0,

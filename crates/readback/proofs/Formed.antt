@@ -3,7 +3,7 @@ use mathlib.Core.List.{List, [], _∷_, _++_}
 use Prim.Native.Nat.{ℕ, _^_, _<_}
 use native.Mathlib.Omega.{arith}
 use Rattle.strip.proofs.Alls.{all-apart}
-use Rattle.strip.specs.Cell.{Vec3, Edge, Polygon, Portal, Head, Cell, All, each, vecWords, halfWords, edgeWords, polygonWords, polygonWordsAs, portalWords, pointWords, headWords, endWords, encodeAs, PolygonFits, PortalFits, PointFits, InRange}
+use Rattle.strip.specs.Cell.{Vec3, NavEdge, NavPoly, NavPortal, Head, Cell, All, each, vecWords, halfWords, edgeWords, polygonWords, polygonWordsAs, portalWords, pointWords, headWords, endWords, encodeAs, PolygonFits, PortalFits, PointFits, InRange}
 
 pub record WordVec (v : Vec3) : Type 0 where
   pub x : v .x < 2 ^ 32
@@ -19,18 +19,18 @@ pub record WordHead (h : Head) : Type 0 where
   pub bb-max : WordVec (h .bb-max)
   pub bb-size : WordVec (h .bb-size)
 
-pub record WordEdge (e : Edge) : Type 0 where
+pub record WordEdge (e : NavEdge) : Type 0 where
   pub a : e .a .area < 2 ^ 32
   pub b : e .b .area < 2 ^ 32
 
-pub record WordPolygon (p : Polygon) : Type 0 where
+pub record WordPolygon (p : NavPoly) : Type 0 where
   pub flags0 : p .flags0 < 2 ^ 16
   pub flags1 : p .flags1 < 2 ^ 32
   pub flags2 : p .flags2 < 2 ^ 32
   pub links : All (λ x. x < 2 ^ 16) (p .links)
   pub edges : All WordEdge (p .edges)
 
-pub record FinePortal (p : Portal) : Type 0 where
+pub record FinePortal (p : NavPortal) : Type 0 where
   pub kind : p .kind < 2 ^ 8
   pub angle : p .angle < 2 ^ 8
   pub flags-unk : p .flags-unk < 2 ^ 16
@@ -46,30 +46,30 @@ pub record Formed (c : Cell) : Type 0 where
 abbrev Word : ℕ → Type 0
 Word x = x < 2 ^ 32
 
-edges-formed : (es : List Edge) → All Word (each edgeWords es) → All WordEdge es
+edges-formed : (es : List NavEdge) → All Word (each edgeWords es) → All WordEdge es
 unfolding each edgeWords halfWords
 edges-formed [] h = tt
 edges-formed (e ∷ es) h = (record { a = h .0; b = h .1 .1 .1 .0 }, edges-formed es (h .1 .1 .1 .1 .1 .1))
 
-polygon-formed : (p : Polygon) → PolygonFits p → All Word (polygonWords p) → WordPolygon p
+polygon-formed : (p : NavPoly) → PolygonFits p → All Word (polygonWords p) → WordPolygon p
 unfolding polygonWordsAs
 polygon-formed p f h =
     let last = all-apart Word (p .links ++ each vecWords (p .vertices)) (each edgeWords (p .edges)) (h .1 .1 .1 .1) .1 in
     record { flags0 = f .flags0; flags1 = h .1 .1 .0; flags2 = h .1 .1 .1 .0; links = f .links; edges = edges-formed (p .edges) last }
 
-polygons-formed : (ps : List Polygon) → All PolygonFits ps → All Word (each polygonWords ps) → All WordPolygon ps
+polygons-formed : (ps : List NavPoly) → All PolygonFits ps → All Word (each polygonWords ps) → All WordPolygon ps
 unfolding each
 polygons-formed [] f h = tt
 polygons-formed (p ∷ ps) f h =
     let w = all-apart Word (polygonWords p) (each polygonWords ps) h in
     (polygon-formed p (f .0) (w .0), polygons-formed ps (f .1) (w .1))
 
-portal-formed : (p : Portal) → PortalFits p → All Word (portalWords p) → FinePortal p
+portal-formed : (p : NavPortal) → PortalFits p → All Word (portalWords p) → FinePortal p
 unfolding portalWords vecWords
 portal-formed p f h =
     record { kind = f .kind; angle = f .angle; flags-unk = f .flags-unk; poly-from = f .poly-from; poly-to = omega (arith, h .1 .1 .1 .1 .1 .1 .1 .1 .0) }
 
-portals-formed : (ps : List Portal) → All PortalFits ps → All Word (each portalWords ps) → All FinePortal ps
+portals-formed : (ps : List NavPortal) → All PortalFits ps → All Word (each portalWords ps) → All FinePortal ps
 unfolding each
 portals-formed [] f h = tt
 portals-formed (p ∷ ps) f h =

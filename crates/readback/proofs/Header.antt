@@ -6,7 +6,7 @@ use native.Mathlib.Nat.{zero-add, add-zero, mul-zero, mul-suc, mod-eq-of-lt}
 use native.Mathlib.Omega.{arith}
 use lib.ListN.{length, getD}
 use borrow.Author.Tests.{lt-ltb}
-use Rattle.fields.specs.Bytes.{le, leBytes, les}
+use Rattle.fields.specs.Bytes.{leAt, leBytes, les}
 use Rattle.fields.specs.Rows.{rowBytes, rowAt}
 use Rattle.fields.proofs.Bytes.{length-bytes, length-les}
 use Rattle.fields.proofs.Holds.{Holds, all-held, held-first, held-second, held-value}
@@ -17,7 +17,7 @@ use Rattle.pages.specs.Pages.{padded, Places, Counts, headerFirst, headerLast, 
 use Rattle.pages.proofs.Sizes.{length-padded}
 
 -- number i of a row of numbers
-pub number-in : (s : List ℕ) (at w : ℕ) (xs : List ℕ) (i : ℕ) → i < length xs → Holds s at (les w xs) → le w s (at + w * i) ≡ getD xs i 0 % 256 ^ w
+pub number-in : (s : List ℕ) (at w : ℕ) (xs : List ℕ) (i : ℕ) → i < length xs → Holds s at (les w xs) → leAt w s (at + w * i) ≡ getD xs i 0 % 256 ^ w
 unfolding les
 number-in s at w [] i h held = absurd (omega arith)
 number-in s at w (x ∷ xs) zero h held =
@@ -66,69 +66,69 @@ module _ (h : Head) (a : Places) (n : Counts) (areas : List ℕ) where
   last-held = subst (λ (j : ℕ). Holds H (0x98 + j) (rowBytes (headerLast h a n))) middle-length (held-second middle (rowBytes (headerLast h a n)) behind-first)
 
   -- a field before the areas, and one behind them
-  first-field : (off w v : ℕ) → 0 < w → rowAt (headerFirst h a n) off ≡ (w, v) → v < 256 ^ w → le w H off ≡ v
-  first-field off w v some e small = ap (le w H) (sym (zero-add off)) ∙ field-in (headerFirst h a n) off w v some e first-held ∙ mod-eq-of-lt small
+  first-field : (off w v : ℕ) → 0 < w → rowAt (headerFirst h a n) off ≡ (w, v) → v < 256 ^ w → leAt w H off ≡ v
+  first-field off w v some e small = ap (leAt w H) (sym (zero-add off)) ∙ field-in (headerFirst h a n) off w v some e first-held ∙ mod-eq-of-lt small
 
-  last-field : (off w v : ℕ) → 0 < w → rowAt (headerLast h a n) off ≡ (w, v) → v < 256 ^ w → le w H (0x118 + off) ≡ v
+  last-field : (off w v : ℕ) → 0 < w → rowAt (headerLast h a n) off ≡ (w, v) → v < 256 ^ w → leAt w H (0x118 + off) ≡ v
   last-field off w v some e small = field-in (headerLast h a n) off w v some e last-held ∙ mod-eq-of-lt small
 
-  pub vft-back : h .vft < 2 ^ 32 → le 4 H 0 ≡ h .vft
+  pub vft-back : h .vft < 2 ^ 32 → leAt 4 H 0 ≡ h .vft
   vft-back s = first-field 0 4 (h .vft) (omega arith) refl s
 
-  pub content-back : h .content < 2 ^ 32 → le 4 H 0x10 ≡ h .content
+  pub content-back : h .content < 2 ^ 32 → leAt 4 H 0x10 ≡ h .content
   content-back s = first-field 0x10 4 (h .content) (omega arith) refl s
 
-  pub size-x-back : h .bb-size .x < 2 ^ 32 → le 4 H 0x60 ≡ h .bb-size .x
+  pub size-x-back : h .bb-size .x < 2 ^ 32 → leAt 4 H 0x60 ≡ h .bb-size .x
   size-x-back s = first-field 0x60 4 (h .bb-size .x) (omega arith) refl s
 
-  pub size-y-back : h .bb-size .y < 2 ^ 32 → le 4 H 0x64 ≡ h .bb-size .y
+  pub size-y-back : h .bb-size .y < 2 ^ 32 → leAt 4 H 0x64 ≡ h .bb-size .y
   size-y-back s = first-field 0x64 4 (h .bb-size .y) (omega arith) refl s
 
-  pub size-z-back : h .bb-size .z < 2 ^ 32 → le 4 H 0x68 ≡ h .bb-size .z
+  pub size-z-back : h .bb-size .z < 2 ^ 32 → leAt 4 H 0x68 ≡ h .bb-size .z
   size-z-back s = first-field 0x68 4 (h .bb-size .z) (omega arith) refl s
 
-  pub vertices-back : a .vertices < 2 ^ 64 → le 8 H 0x70 ≡ a .vertices
+  pub vertices-back : a .vertices < 2 ^ 64 → leAt 8 H 0x70 ≡ a .vertices
   vertices-back s = first-field 0x70 8 (a .vertices) (omega arith) refl s
 
-  pub indices-back : a .indices < 2 ^ 64 → le 8 H 0x80 ≡ a .indices
+  pub indices-back : a .indices < 2 ^ 64 → leAt 8 H 0x80 ≡ a .indices
   indices-back s = first-field 0x80 8 (a .indices) (omega arith) refl s
 
-  pub edges-back : a .edges < 2 ^ 64 → le 8 H 0x88 ≡ a .edges
+  pub edges-back : a .edges < 2 ^ 64 → leAt 8 H 0x88 ≡ a .edges
   edges-back s = first-field 0x88 8 (a .edges) (omega arith) refl s
 
-  pub area-count-back : n .areas < 2 ^ 32 → le 4 H 0x94 ≡ n .areas
+  pub area-count-back : n .areas < 2 ^ 32 → leAt 4 H 0x94 ≡ n .areas
   area-count-back s = first-field 0x94 4 (n .areas) (omega arith) refl s
 
-  pub polygons-back : a .polygons < 2 ^ 64 → le 8 H 0x118 ≡ a .polygons
+  pub polygons-back : a .polygons < 2 ^ 64 → leAt 8 H 0x118 ≡ a .polygons
   polygons-back s = last-field 0 8 (a .polygons) (omega arith) refl s
 
-  pub root-back : a .root < 2 ^ 64 → le 8 H 0x120 ≡ a .root
+  pub root-back : a .root < 2 ^ 64 → leAt 8 H 0x120 ≡ a .root
   root-back s = last-field 8 8 (a .root) (omega arith) refl s
 
-  pub portals-back : a .portals < 2 ^ 64 → le 8 H 0x128 ≡ a .portals
+  pub portals-back : a .portals < 2 ^ 64 → leAt 8 H 0x128 ≡ a .portals
   portals-back s = last-field 0x10 8 (a .portals) (omega arith) refl s
 
-  pub links-back : a .links < 2 ^ 64 → le 8 H 0x130 ≡ a .links
+  pub links-back : a .links < 2 ^ 64 → leAt 8 H 0x130 ≡ a .links
   links-back s = last-field 0x18 8 (a .links) (omega arith) refl s
 
-  pub area-back : h .area < 2 ^ 32 → le 4 H 0x140 ≡ h .area
+  pub area-back : h .area < 2 ^ 32 → leAt 4 H 0x140 ≡ h .area
   area-back s = last-field 0x28 4 (h .area) (omega arith) refl s
 
-  pub portal-count-back : n .portals < 2 ^ 32 → le 4 H 0x14C ≡ n .portals
+  pub portal-count-back : n .portals < 2 ^ 32 → leAt 4 H 0x14C ≡ n .portals
   portal-count-back s = last-field 0x34 4 (n .portals) (omega arith) refl s
 
-  pub link-count-back : n .links < 2 ^ 32 → le 4 H 0x150 ≡ n .links
+  pub link-count-back : n .links < 2 ^ 32 → leAt 4 H 0x150 ≡ n .links
   link-count-back s = last-field 0x38 4 (n .links) (omega arith) refl s
 
-  pub version-back : h .version < 2 ^ 32 → le 4 H 0x160 ≡ h .version
+  pub version-back : h .version < 2 ^ 32 → leAt 4 H 0x160 ≡ h .version
   version-back s = last-field 0x48 4 (h .version) (omega arith) refl s
 
   -- the area of each index of the table
   pub areas-back : n .areas ≡ length areas → length areas ≤ 32 → All (λ x. x < 2 ^ 32) areas → (i : ℕ) → i < length areas → areaOf H i ≡ getD areas i 0
   unfolding areaOf
   areas-back e few small i k =
-      let count : le 4 H 0x94 ≡ length areas = area-count-back (omega arith) ∙ e in
-      let value : le 4 H (0x98 + 4 * i) ≡ getD areas i 0 =
+      let count : leAt 4 H 0x94 ≡ length areas = area-count-back (omega arith) ∙ e in
+      let value : leAt 4 H (0x98 + 4 * i) ≡ getD areas i 0 =
       number-in H 0x98 4 (padded 32 areas) i (omega (arith, length-padded 32 areas)) middle-held
       ∙ ap (λ (x : ℕ). x % 2 ^ 32) (getD-padded 32 areas i (omega arith) k) ∙ mod-eq-of-lt (below-at (2 ^ 32) areas i k small) in
       rw (count, lt-ltb i (length areas) k, value)

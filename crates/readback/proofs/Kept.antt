@@ -5,34 +5,34 @@ use Prim.Native.Nat.{ℕ, zero, suc, _≤_, _<_}
 use native.Mathlib.Omega.{arith}
 use lib.ListN.{length, getD, length-map}
 use Rattle.math.specs.declared.vec3.Vec3.{Vec3 as Floats}
-use Rattle.strip.specs.Cell.{Vec3, Half, Edge, Polygon, Cell}
+use Rattle.strip.specs.Cell.{Vec3, NavEdgeEnd, NavEdge, NavPoly, Cell}
 use Rattle.grammar.specs.Polygons.{Each, none, more}
 use Rattle.pages.specs.Items.{noEdge, cornersOf, cornersIn}
 use Rattle.pages.specs.Pages.{loOf, extentOf}
 use Rattle.pages.specs.Reread.{halfAgain, edgeAgain, positionAgain, polygonAgain, reread}
 use Rattle.pages.proofs.Placed.{length-corners}
-use Rattle.readback.specs.Kept.{KeptHalf, KeptEdge, Kept}
+use Rattle.readback.specs.Kept.{KeptHalf, KeptEdge, PolygonKept}
 
-kept-half : (h : Half) → KeptHalf h (halfAgain h)
+kept-half : (h : NavEdgeEnd) → KeptHalf h (halfAgain h)
 unfolding halfAgain
 kept-half h = record { area = refl; poly = refl; unk2 = refl; unk3 = refl }
 
-kept-edge : (e : Edge) → KeptEdge e (edgeAgain e)
+kept-edge : (e : NavEdge) → KeptEdge e (edgeAgain e)
 unfolding edgeAgain
 kept-edge e = record { a = kept-half (e .a); b = kept-half (e .b) }
 
 module _ (lo size : Floats) where
-  abbrev edges : List Vec3 → List Edge → List Edge
+  abbrev edges : List Vec3 → List NavEdge → List NavEdge
   edges vs es = map (λ k. edgeAgain (k .edge)) (cornersOf lo size vs es)
 
-  kept-at : (vs : List Vec3) (es : List Edge) (i : ℕ) → i < length vs → i < length es → KeptEdge (getD es i noEdge) (getD (edges vs es) i noEdge)
+  kept-at : (vs : List Vec3) (es : List NavEdge) (i : ℕ) → i < length vs → i < length es → KeptEdge (getD es i noEdge) (getD (edges vs es) i noEdge)
   unfolding cornersOf
   kept-at [] es i h k = absurd (omega arith)
   kept-at (v ∷ vs) [] i h k = absurd (omega arith)
   kept-at (v ∷ vs) (e ∷ es) zero h k = kept-edge e
   kept-at (v ∷ vs) (e ∷ es) (suc i) h k = kept-at vs es i (omega arith) (omega arith)
 
-  missing-at : (vs : List Vec3) (es : List Edge) (i : ℕ) → i < length vs → length es ≤ i → getD (edges vs es) i noEdge ≡ noEdge
+  missing-at : (vs : List Vec3) (es : List NavEdge) (i : ℕ) → i < length vs → length es ≤ i → getD (edges vs es) i noEdge ≡ noEdge
   unfolding cornersOf edgeAgain halfAgain
   missing-at [] es i h k = absurd (omega arith)
   missing-at (v ∷ vs) [] zero h k = refl
@@ -40,7 +40,7 @@ module _ (lo size : Floats) where
   missing-at (v ∷ vs) (e ∷ es) zero h k = absurd (omega arith)
   missing-at (v ∷ vs) (e ∷ es) (suc i) h k = missing-at vs es i (omega arith) (omega arith)
 
-  kept : (p : Polygon) → Kept p (polygonAgain lo size p)
+  kept : (p : NavPoly) → PolygonKept p (polygonAgain lo size p)
   unfolding polygonAgain
   kept p = record {
     flags0 = refl;
@@ -53,11 +53,11 @@ module _ (lo size : Floats) where
     missing = λ i h k. missing-at (p .vertices) (p .edges) i h k;
   }
 
-  all-kept : (ps : List Polygon) → Each Kept ps (map (polygonAgain lo size) ps)
+  all-kept : (ps : List NavPoly) → Each PolygonKept ps (map (polygonAgain lo size) ps)
   all-kept [] = none
   all-kept (p ∷ ps) = more (kept p) (all-kept ps)
 
 -- as many polygons, one by one
-pub reread-kept : (c : Cell) → Each Kept (c .polys) (reread c .polys)
+pub reread-kept : (c : Cell) → Each PolygonKept (c .polys) (reread c .polys)
 unfolding reread
 reread-kept c = all-kept (loOf c) (extentOf c) (c .polys)

@@ -7,13 +7,13 @@ use native.Mathlib.Nat.{mul-suc, suc-mul, div-add-mod', mod-lt, add-zero, mul-le
 use native.Mathlib.Omega.{arith}
 use lib.ListN.{length, take, drop, length-drop, take-append-drop}
 use lib.Seq.{length-take-le}
-use Rattle.fields.specs.Bytes.{le, cat}
+use Rattle.fields.specs.Bytes.{leAt, cat}
 use Rattle.fields.specs.Rows.{rowBytes}
 use Rattle.fields.proofs.Bytes.{cat-append}
 use Rattle.fields.proofs.Holds.{Holds, all-held, held-more, held-first, held-second, held-end}
 use Rattle.fields.proofs.Rows.{length-rows, field-in, field-back}
 use Rattle.blocks.specs.Layout.{placeOf, behind, address}
-use Rattle.blocks.specs.Lists.{perPart, partCount, counts, chunks, Wide, offsetsAddress, tableAt, partsFrom, itemsEnd, listRow, partRow, tableBytes, frontBlocks, offsetBlocks, listBlocks}
+use Rattle.blocks.specs.Lists.{perPart, partCount, partCounts, chunks, Wide, offsetsAddress, tableAt, partsFrom, itemsEnd, listRow, partRow, tableBytes, frontBlocks, offsetBlocks, listBlocks}
 use Rattle.blocks.proofs.Lists.{cut-back, length-cat, wide-take, wide-drop, table-length}
 use Rattle.blocks.proofs.Standing.{Stand, stand-first}
 use Rattle.grammar.specs.Parts.{Good, Array}
@@ -71,7 +71,7 @@ module _ (P tail graphics : List ℕ) (few : length P < 2 ^ 28) where
     unfolding cat
     parts-step k at p t [] bs h small entry block rest =
         let m : min per 0 ≡ 0 = omega arith in
-        let count : le 4 t (at + 8) ≡ 0 = field-in (partRow (placeOf p (w * min per 0)) (min per 0)) 8 4 (min per 0) (omega arith) refl entry ∙ omega arith in
+        let count : leAt 4 t (at + 8) ≡ 0 = field-in (partRow (placeOf p (w * min per 0)) (min per 0)) 8 4 (min per 0) (omega arith) refl entry ∙ omega arith in
         rw m (skipped count rest)
     parts-step k at p t (x ∷ items) bs h small entry block rest =
         let m : ℕ = min per (length (x ∷ items)) in
@@ -80,14 +80,14 @@ module _ (P tail graphics : List ℕ) (few : length P < 2 ^ 28) where
         length-cat w (take m (x ∷ items)) (wide-take w m (x ∷ items) h) ∙ ap (λ (j : ℕ). w * j) (length-take-le m (x ∷ items) (omega arith)) in
         let one : 1 ≤ m = omega arith in
         let bytes : 0 < w * m = omega (arith, mul-le-mul-left w one) in
-        let count : le 4 t (at + 8) ≡ m = field-in (partRow place m) 8 4 m (omega arith) refl entry ∙ omega arith in
-        let va : le 8 t at ≡ address place =
-        ap (le 8 t) (sym (add-zero at)) ∙ field-in (partRow place m) 0 8 (address place) (omega arith) refl entry ∙ omega (arith, held-end block) in
-        let there : Good (P ++ tail) graphics (le 8 t at) (w * le 4 t (at + 8)) (cat (take m (x ∷ items))) = rw (va, count) (good (w * m) long bytes block) in
+        let count : leAt 4 t (at + 8) ≡ m = field-in (partRow place m) 8 4 m (omega arith) refl entry ∙ omega arith in
+        let va : leAt 8 t at ≡ address place =
+        ap (leAt 8 t) (sym (add-zero at)) ∙ field-in (partRow place m) 0 8 (address place) (omega arith) refl entry ∙ omega (arith, held-end block) in
+        let there : Good (P ++ tail) graphics (leAt 8 t at) (w * leAt 4 t (at + 8)) (cat (take m (x ∷ items))) = rw (va, count) (good (w * m) long bytes block) in
         part there rest
 
     parts-back : (k at p : ℕ) (t : List ℕ) (items : List (List ℕ)) → Wide w items → length items < 2 ^ 32 → length items ≤ k * per
-        → Holds t at (tableBytes w p (counts k per (length items)))
+        → Holds t at (tableBytes w p (partCounts k per (length items)))
         → Stand P p (map cat (chunks k per items))
         → Parts (P ++ tail) graphics w t at k (cat items)
     unfolding cat tableBytes
@@ -96,13 +96,13 @@ module _ (P tail graphics : List ℕ) (few : length P < 2 ^ 28) where
     parts-back (suc k) at p t items h small fits entries blocks =
         let m : ℕ = min per (length items) in
         let entry = rowBytes (partRow (placeOf p (w * m)) m) in
-        let rest = tableBytes w (behind p (w * m)) (counts k per (length items - m)) in
+        let rest = tableBytes w (behind p (w * m)) (partCounts k per (length items - m)) in
         let left : length (drop m items) ≡ length items - m = length-drop m items in
         let long : length (cat (take m items)) ≡ w * m =
         length-cat w (take m items) (wide-take w m items h) ∙ ap (λ (j : ℕ). w * j) (length-take-le m items (omega arith)) in
         let e : cat (take m items) ++ cat (drop m items) ≡ cat items = sym (cat-append (take m items) (drop m items)) ∙ ap cat (take-append-drop m items) in
         let fits′ : length (drop m items) ≤ k * per = omega (arith, suc-mul k per) in
-        let table′ : Holds t (at + 16) (tableBytes w (behind p (w * m)) (counts k per (length (drop m items)))) =
+        let table′ : Holds t (at + 16) (tableBytes w (behind p (w * m)) (partCounts k per (length (drop m items)))) =
         rw left (subst (λ (j : ℕ). Holds t (at + j) rest) (length-rows (partRow (placeOf p (w * m)) m)) (held-second entry rest entries)) in
         let blocks′ : Stand P (behind p (w * m)) (map cat (chunks k per (drop m items))) =
         subst (λ (j : ℕ). Stand P (behind p j) (map cat (chunks k per (drop m items)))) long (blocks .1) in
@@ -126,9 +126,9 @@ module _ (P tail graphics : List ℕ) (few : length P < 2 ^ 28) where
         let k : ℕ = partCount w n in
         let row = listRow vft n (address (tableAt end k)) (offsetsAddress (itemsEnd end w n) k) k in
         let header = rowBytes row in
-        let t = tableBytes w (partsFrom end k) (counts k per n) in
+        let t = tableBytes w (partsFrom end k) (partCounts k per n) in
         let parts = map cat (chunks k per items) in
-        let offsets = offsetBlocks (counts k per n) in
+        let offsets = offsetBlocks (partCounts k per n) in
         let header-length : length header ≡ 48 = length-rows row in
         let t-length : length t ≡ 16 * k = table-length w (partsFrom end k) k per n in
         let over : k * per + (n + (per - 1)) % per ≡ n + (per - 1) = div-add-mod' (n + (per - 1)) per in
@@ -139,10 +139,10 @@ module _ (P tail graphics : List ℕ) (few : length P < 2 ^ 28) where
         let header-held : Holds P (placeOf end 48) header = subst (λ (j : ℕ). Holds P (placeOf end j) header) header-length (blocks .0) in
         let t-held : Holds P (tableAt end k) t = subst (λ (j : ℕ). Holds P (placeOf (behind end 48) j) t) t-length (blocks₁ .0) in
         let blocks₂ : Stand P (partsFrom end k) (parts ++ offsets) = subst (λ (j : ℕ). Stand P (behind (behind end 48) j) (parts ++ offsets)) t-length (blocks₁ .1) in
-        let count : le 4 header 8 ≡ n = field-back row 8 4 n (omega arith) refl ∙ omega arith in
-        let va : le 8 header 0x10 ≡ address (tableAt end k) =
+        let count : leAt 4 header 8 ≡ n = field-back row 8 4 n (omega arith) refl ∙ omega arith in
+        let va : leAt 8 header 0x10 ≡ address (tableAt end k) =
         field-back row 0x10 8 (address (tableAt end k)) (omega arith) refl ∙ omega (arith, held-end t-held) in
-        let part-count : le 4 header 0x20 ≡ k = field-back row 0x20 4 k (omega arith) refl ∙ omega arith in
+        let part-count : leAt 4 header 0x20 ≡ k = field-back row 0x20 4 k (omega arith) refl ∙ omega arith in
         record {
           header = header;
           parts = t;

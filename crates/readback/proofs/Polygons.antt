@@ -6,14 +6,14 @@ use native.Mathlib.Nat.{mod-eq-of-lt}
 use native.Mathlib.Omega.{arith}
 use lib.ListN.{length, take, drop, getD, length-map}
 use borrow.Author.Tests.{le-leb}
-use Rattle.fields.specs.Bytes.{le}
+use Rattle.fields.specs.Bytes.{leAt}
 use Rattle.fields.specs.Rows.{rowBytes, pack, field}
 use Rattle.fields.proofs.Holds.{Holds, held-first, held-second, held-end, held-taken}
 use Rattle.fields.proofs.Rows.{field-back, pack-lt, bits-back}
 use Rattle.math.specs.declared.vec3.Vec3.{Vec3 as Floats}
 use Rattle.quantise.specs.Short.{shorts}
 use Rattle.quantise.proofs.Capped.{short-lt}
-use Rattle.strip.specs.Cell.{Vec3, Half, Edge, Polygon, Head, All}
+use Rattle.strip.specs.Cell.{Vec3, NavEdgeEnd, NavEdge, NavPoly, Head, All}
 use Rattle.distinct.specs.Distinct.{indexOf}
 use Rattle.distinct.proofs.Final.{In, found}
 use Rattle.areas.specs.declared.edge.RawEnd.{RawEnd}
@@ -65,7 +65,7 @@ module _ (h : Head) where
       (area-is : (i : ℕ) → i < length areas → area i ≡ getD areas i 0) where
     -- ---- edges
 
-    half-back : (g : Half) → In areas (g .area) → read.halfOf area (halfOf areas g) ≡ halfAgain g
+    half-back : (g : NavEdgeEnd) → In areas (g .area) → read.halfOf area (halfOf areas g) ≡ halfAgain g
     unfolding read.halfOf halfAgain
     half-back g k =
         let i : ℕ = indexOf areas (g .area) in
@@ -79,8 +79,8 @@ module _ (h : Head) where
         let row = edgeRow areas k in
         let f = k .edge .a in
         let g = k .edge .b in
-        let first : le 4 (rowBytes row) 0 ≡ halfOf areas f = field-back row 0 4 (halfOf areas f) (omega arith) refl ∙ mod-eq-of-lt (half-lt (indexOf areas (f .area)) (f .poly) (f .unk2) (f .unk3)) in
-        let second : le 4 (rowBytes row) 4 ≡ halfOf areas g = field-back row 4 4 (halfOf areas g) (omega arith) refl ∙ mod-eq-of-lt (half-lt (indexOf areas (g .area)) (g .poly) (g .unk2) (g .unk3)) in
+        let first : leAt 4 (rowBytes row) 0 ≡ halfOf areas f = field-back row 0 4 (halfOf areas f) (omega arith) refl ∙ mod-eq-of-lt (half-lt (indexOf areas (f .area)) (f .poly) (f .unk2) (f .unk3)) in
+        let second : leAt 4 (rowBytes row) 4 ≡ halfOf areas g = field-back row 4 4 (halfOf areas g) (omega arith) refl ∙ mod-eq-of-lt (half-lt (indexOf areas (g .area)) (g .poly) (g .unk2) (g .unk3)) in
         rw (first, second, half-back f (known .a), half-back g (known .b))
 
     edges-back : (ks : List Corner) → All (Known vs areas) ks → map (edgeOf area) (edgeItems areas ks) ≡ map (λ k. edgeAgain (k .edge)) ks
@@ -90,12 +90,12 @@ module _ (h : Head) where
 
     -- ---- vertices
 
-    index-back : (k : Corner) → Known vs areas k → le 2 (rowBytes (indexRow vs k)) 0 ≡ indexOf vs (k .vertex)
+    index-back : (k : Corner) → Known vs areas k → leAt 2 (rowBytes (indexRow vs k)) 0 ≡ indexOf vs (k .vertex)
     index-back k known = field-back (indexRow vs k) 0 2 (indexOf vs (k .vertex)) (omega arith) refl ∙ omega (arith, known .vertex)
 
     -- the vertex of an index
     abbrev vertexAt : List ℕ → Vec3
-    vertexAt i = vertexOf (backOf h) (getD (vertexItems vs) (le 2 i 0) [])
+    vertexAt i = vertexOf (backOf h) (getD (vertexItems vs) (leAt 2 i 0) [])
 
     abbrev turned : ℕ → Vec3
     turned t = backOf h (t % 256 ^ 2) (t / 2 ^ 16 % 256 ^ 2) (t / 2 ^ 32 % 256 ^ 2)
@@ -126,20 +126,20 @@ module _ (h : Head) where
     indices-back [] known = refl
     indices-back (k ∷ ks) known = rw (vertex-back k (known .0), indices-back ks (known .1))
 
-    corners-back : (us : List Vec3) (es : List Edge) → map (λ k. turned (k .vertex)) (cornersOf lo extent us es) ≡ map (positionAgain lo extent) us
+    corners-back : (us : List Vec3) (es : List NavEdge) → map (λ k. turned (k .vertex)) (cornersOf lo extent us es) ≡ map (positionAgain lo extent) us
     unfolding cornersOf
     corners-back [] es = refl
     corners-back (v ∷ us) [] = rw (triple-back v, corners-back us [])
     corners-back (v ∷ us) (e ∷ es) = rw (triple-back v, corners-back us es)
 
-    below-back : (ks : List Corner) → All (Known vs areas) ks → All (λ i. le 2 i 0 < length (vertexItems vs)) (indexItems vs ks)
+    below-back : (ks : List Corner) → All (Known vs areas) ks → All (λ i. leAt 2 i 0 < length (vertexItems vs)) (indexItems vs ks)
     unfolding indexItems
     below-back [] known = tt
     below-back (k ∷ ks) known = (rw (index-back k (known .0), length-vertices vs) (known .0 .vertex), below-back ks (known .1))
 
     -- ---- a polygon, whose run stands at `start` of the indices and edges, and whose links stand at `before` of the links
 
-    polygon-back : (k start before : ℕ) (p : Polygon) (indices edges : List (List ℕ)) (links : List ℕ) → WordPolygon p → Checked start p → k ≤ 16382 → before ≤ 7 * k
+    polygon-back : (k start before : ℕ) (p : NavPoly) (indices edges : List (List ℕ)) (links : List ℕ) → WordPolygon p → Checked start p → k ≤ 16382 → before ≤ 7 * k
         → All (Known vs areas) (cornersIn lo extent p)
         → Holds indices start (indexItems vs (cornersIn lo extent p))
         → Holds edges start (edgeItems areas (cornersIn lo extent p))
@@ -154,15 +154,15 @@ module _ (h : Head) where
         let l : ℕ = length (p .links) in
         let count : List (ℕ × ℕ) = (5, 0) ∷ (11, n) ∷ [] in
         let part : List (ℕ × ℕ) = (4, 0) ∷ (8, k / 341) ∷ (3, l) ∷ (17, before) ∷ [] in
-        let e0 : le 2 b 0 ≡ p .flags0 = field-back row 0 2 (p .flags0) (omega arith) refl ∙ mod-eq-of-lt (word .flags0) in
-        let e2 : field 5 11 (le 2 b 2) ≡ n =
+        let e0 : leAt 2 b 0 ≡ p .flags0 = field-back row 0 2 (p .flags0) (omega arith) refl ∙ mod-eq-of-lt (word .flags0) in
+        let e2 : field 5 11 (leAt 2 b 2) ≡ n =
         ap (field 5 11) (field-back row 2 2 (pack count) (omega arith) refl ∙ mod-eq-of-lt (pack-lt count)) ∙ bits-back count 5 11 n refl ∙ omega (arith, fine .most-vertices) in
-        let e4 : le 2 b 4 ≡ start = field-back row 4 2 start (omega arith) refl ∙ omega (arith, fine .start-fits) in
-        let e24 : le 4 b 0x24 ≡ p .flags1 = field-back row 0x24 4 (p .flags1) (omega arith) refl ∙ mod-eq-of-lt (word .flags1) in
-        let e28 : le 4 b 0x28 ≡ p .flags2 = field-back row 0x28 4 (p .flags2) (omega arith) refl ∙ mod-eq-of-lt (word .flags2) in
-        let e2C : le 4 b 0x2C ≡ pack part = field-back row 0x2C 4 (pack part) (omega arith) refl ∙ mod-eq-of-lt (pack-lt part) in
-        let before-is : field 15 17 (le 4 b 0x2C) ≡ before = ap (field 15 17) e2C ∙ bits-back part 15 17 before refl ∙ omega arith in
-        let links-is : field 12 3 (le 4 b 0x2C) ≡ l = ap (field 12 3) e2C ∙ bits-back part 12 3 l refl ∙ omega (arith, fine .few-links) in
+        let e4 : leAt 2 b 4 ≡ start = field-back row 4 2 start (omega arith) refl ∙ omega (arith, fine .start-fits) in
+        let e24 : leAt 4 b 0x24 ≡ p .flags1 = field-back row 0x24 4 (p .flags1) (omega arith) refl ∙ mod-eq-of-lt (word .flags1) in
+        let e28 : leAt 4 b 0x28 ≡ p .flags2 = field-back row 0x28 4 (p .flags2) (omega arith) refl ∙ mod-eq-of-lt (word .flags2) in
+        let e2C : leAt 4 b 0x2C ≡ pack part = field-back row 0x2C 4 (pack part) (omega arith) refl ∙ mod-eq-of-lt (pack-lt part) in
+        let before-is : field 15 17 (leAt 4 b 0x2C) ≡ before = ap (field 15 17) e2C ∙ bits-back part 15 17 before refl ∙ omega arith in
+        let links-is : field 12 3 (leAt 4 b 0x2C) ≡ l = ap (field 12 3) e2C ∙ bits-back part 12 3 l refl ∙ omega (arith, fine .few-links) in
         let long : length ks ≡ n = length-corners lo extent (p .vertices) (p .edges) in
         let ix-length : length (indexItems vs ks) ≡ n = length-indices vs ks ∙ long in
         let es-length : length (edgeItems areas ks) ≡ n = length-edges areas ks ∙ long in
@@ -184,7 +184,7 @@ module _ (h : Head) where
 
     -- ---- all of them
 
-    pub polygons-back : (k start before : ℕ) (ps : List Polygon) (indices edges : List (List ℕ)) (links : List ℕ)
+    pub polygons-back : (k start before : ℕ) (ps : List NavPoly) (indices edges : List (List ℕ)) (links : List ℕ)
         → All WordPolygon ps → AllChecked start ps → k + length ps ≤ 16383 → before ≤ 7 * k
         → All (Known vs areas) (corners lo extent ps)
         → Holds indices start (indexItems vs (corners lo extent ps))

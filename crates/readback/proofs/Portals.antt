@@ -6,7 +6,7 @@ use native.Mathlib.Nat.{mod-eq-of-lt}
 use native.Mathlib.Omega.{arith}
 use lib.ListN.{length}
 use lib.Seq.{take-at, drop-at}
-use Rattle.fields.specs.Bytes.{le, leBytes, les, cut}
+use Rattle.fields.specs.Bytes.{leAt, leBytes, les, cut}
 use Rattle.fields.specs.Rows.{rowBytes, pack}
 use Rattle.fields.proofs.Bytes.{length-bytes, le-bytes, length-les}
 use Rattle.fields.proofs.Holds.{Holds}
@@ -14,7 +14,7 @@ use Rattle.fields.proofs.Rows.{field-back, pack-lt, bits-back}
 use Rattle.quantise.specs.Short.{shorts}
 use Rattle.quantise.proofs.Capped.{short-lt}
 use Rattle.resource.proofs.Parts.{null-empty}
-use Rattle.strip.specs.Cell.{Vec3, Portal, Point, Head, All, PointFits}
+use Rattle.strip.specs.Cell.{Vec3, NavPortal, NavPoint, Head, All, PointFits}
 use Rattle.blocks.specs.Layout.{placeOf}
 use Rattle.blocks.proofs.Standing.{Stand}
 use Rattle.grammar.specs.Polygons.{linksAt}
@@ -40,7 +40,7 @@ module _ (h : Head) where
       let fz : z ≡ q .z = ez ∙ mod-eq-of-lt (short-lt (floats v .z) (lo h .z) (extent h .z)) in
       rw (fx, fy, fz) (position-back h v)
 
-  portal-back : (p : Portal) → FinePortal p → portalOf (backOf h) (rowBytes (portalRow (lo h) (extent h) p)) ≡ portalAgain (lo h) (extent h) p
+  portal-back : (p : NavPortal) → FinePortal p → portalOf (backOf h) (rowBytes (portalRow (lo h) (extent h) p)) ≡ portalAgain (lo h) (extent h) p
   unfolding portalOf portalAgain
   portal-back p f =
       let row = portalRow (lo h) (extent h) p in
@@ -48,36 +48,36 @@ module _ (h : Head) where
       let q = shorts (floats (p .from)) (lo h) (extent h) in
       let r = shorts (floats (p .to)) (lo h) (extent h) in
       let areas : List (ℕ × ℕ) = (14, p .area-from) ∷ (14, p .area-to) ∷ (4, p .area-unk) ∷ [] in
-      let e24 : le 4 b 24 ≡ pack areas = field-back row 24 4 (pack areas) (omega arith) refl ∙ mod-eq-of-lt (pack-lt areas) in
-      let e0 : le 1 b 0 ≡ p .kind = field-back row 0 1 (p .kind) (omega arith) refl ∙ mod-eq-of-lt (f .kind) in
-      let e1 : le 1 b 1 ≡ p .angle = field-back row 1 1 (p .angle) (omega arith) refl ∙ mod-eq-of-lt (f .angle) in
-      let e2 : le 2 b 2 ≡ p .flags-unk = field-back row 2 2 (p .flags-unk) (omega arith) refl ∙ mod-eq-of-lt (f .flags-unk) in
-      let e16 : le 2 b 16 ≡ p .poly-from = field-back row 16 2 (p .poly-from) (omega arith) refl ∙ mod-eq-of-lt (f .poly-from) in
-      let e20 : le 2 b 20 ≡ p .poly-to = field-back row 20 2 (p .poly-to) (omega arith) refl ∙ mod-eq-of-lt (f .poly-to) in
-      let from : backOf h (le 2 b 4) (le 2 b 6) (le 2 b 8) ≡ positionAgain (lo h) (extent h) (p .from) =
-      back-at (p .from) (le 2 b 4) (le 2 b 6) (le 2 b 8) (field-back row 4 2 (q .x) (omega arith) refl) (field-back row 6 2 (q .y) (omega arith) refl) (field-back row 8 2 (q .z) (omega arith) refl) in
-      let to : backOf h (le 2 b 10) (le 2 b 12) (le 2 b 14) ≡ positionAgain (lo h) (extent h) (p .to) =
-      back-at (p .to) (le 2 b 10) (le 2 b 12) (le 2 b 14) (field-back row 10 2 (r .x) (omega arith) refl) (field-back row 12 2 (r .y) (omega arith) refl) (field-back row 14 2 (r .z) (omega arith) refl) in
+      let e24 : leAt 4 b 24 ≡ pack areas = field-back row 24 4 (pack areas) (omega arith) refl ∙ mod-eq-of-lt (pack-lt areas) in
+      let e0 : leAt 1 b 0 ≡ p .kind = field-back row 0 1 (p .kind) (omega arith) refl ∙ mod-eq-of-lt (f .kind) in
+      let e1 : leAt 1 b 1 ≡ p .angle = field-back row 1 1 (p .angle) (omega arith) refl ∙ mod-eq-of-lt (f .angle) in
+      let e2 : leAt 2 b 2 ≡ p .flags-unk = field-back row 2 2 (p .flags-unk) (omega arith) refl ∙ mod-eq-of-lt (f .flags-unk) in
+      let e16 : leAt 2 b 16 ≡ p .poly-from = field-back row 16 2 (p .poly-from) (omega arith) refl ∙ mod-eq-of-lt (f .poly-from) in
+      let e20 : leAt 2 b 20 ≡ p .poly-to = field-back row 20 2 (p .poly-to) (omega arith) refl ∙ mod-eq-of-lt (f .poly-to) in
+      let from : backOf h (leAt 2 b 4) (leAt 2 b 6) (leAt 2 b 8) ≡ positionAgain (lo h) (extent h) (p .from) =
+      back-at (p .from) (leAt 2 b 4) (leAt 2 b 6) (leAt 2 b 8) (field-back row 4 2 (q .x) (omega arith) refl) (field-back row 6 2 (q .y) (omega arith) refl) (field-back row 8 2 (q .z) (omega arith) refl) in
+      let to : backOf h (leAt 2 b 10) (leAt 2 b 12) (leAt 2 b 14) ≡ positionAgain (lo h) (extent h) (p .to) =
+      back-at (p .to) (leAt 2 b 10) (leAt 2 b 12) (leAt 2 b 14) (field-back row 10 2 (r .x) (omega arith) refl) (field-back row 12 2 (r .y) (omega arith) refl) (field-back row 14 2 (r .z) (omega arith) refl) in
       rw (e0, e1, e2, e16, e20, from, to, e24, bits-back areas 0 14 (p .area-from) refl, bits-back areas 14 14 (p .area-to) refl, bits-back areas 28 4 (p .area-unk) refl)
 
-  pub portals-back : (ps : List Portal) → All FinePortal ps → map (portalOf (backOf h)) (portalItems (lo h) (extent h) ps) ≡ map (portalAgain (lo h) (extent h)) ps
+  pub portals-back : (ps : List NavPortal) → All FinePortal ps → map (portalOf (backOf h)) (portalItems (lo h) (extent h) ps) ≡ map (portalAgain (lo h) (extent h)) ps
   unfolding portalItems
   portals-back [] f = refl
   portals-back (p ∷ ps) f = rw (portal-back p (f .0), portals-back ps (f .1))
 
-  point-back : (t : Point) → PointFits t → pointOf (backOf h) (rowBytes (pointRow (lo h) (extent h) t)) ≡ pointAgain (lo h) (extent h) t
+  point-back : (t : NavPoint) → PointFits t → pointOf (backOf h) (rowBytes (pointRow (lo h) (extent h) t)) ≡ pointAgain (lo h) (extent h) t
   unfolding pointOf pointAgain
   point-back t f =
       let row = pointRow (lo h) (extent h) t in
       let b = rowBytes row in
       let q = shorts (floats (t .position)) (lo h) (extent h) in
-      let e6 : le 1 b 6 ≡ t .angle = field-back row 6 1 (t .angle) (omega arith) refl ∙ mod-eq-of-lt (f .angle) in
-      let e7 : le 1 b 7 ≡ t .kind = field-back row 7 1 (t .kind) (omega arith) refl ∙ mod-eq-of-lt (f .kind) in
-      let position : backOf h (le 2 b 0) (le 2 b 2) (le 2 b 4) ≡ positionAgain (lo h) (extent h) (t .position) =
-      back-at (t .position) (le 2 b 0) (le 2 b 2) (le 2 b 4) (field-back row 0 2 (q .x) (omega arith) refl) (field-back row 2 2 (q .y) (omega arith) refl) (field-back row 4 2 (q .z) (omega arith) refl) in
+      let e6 : leAt 1 b 6 ≡ t .angle = field-back row 6 1 (t .angle) (omega arith) refl ∙ mod-eq-of-lt (f .angle) in
+      let e7 : leAt 1 b 7 ≡ t .kind = field-back row 7 1 (t .kind) (omega arith) refl ∙ mod-eq-of-lt (f .kind) in
+      let position : backOf h (leAt 2 b 0) (leAt 2 b 2) (leAt 2 b 4) ≡ positionAgain (lo h) (extent h) (t .position) =
+      back-at (t .position) (leAt 2 b 0) (leAt 2 b 2) (leAt 2 b 4) (field-back row 0 2 (q .x) (omega arith) refl) (field-back row 2 2 (q .y) (omega arith) refl) (field-back row 4 2 (q .z) (omega arith) refl) in
       rw (e6, e7, position)
 
-  pub points-back : (ts : List Point) → All PointFits ts → map (pointOf (backOf h)) (pointItems (lo h) (extent h) ts) ≡ map (pointAgain (lo h) (extent h)) ts
+  pub points-back : (ts : List NavPoint) → All PointFits ts → map (pointOf (backOf h)) (pointItems (lo h) (extent h) ts) ≡ map (pointAgain (lo h) (extent h)) ts
   unfolding pointItems
   points-back [] f = refl
   points-back (t ∷ ts) f = rw (point-back t (f .0), points-back ts (f .1))
@@ -85,7 +85,7 @@ module _ (h : Head) where
 -- ---- links
 
 -- numbers in a row, cut out one by one
-numbers-back : (w : ℕ) (xs : List ℕ) → All (λ x. x < 256 ^ w) xs → map (λ b. le w b 0) (cut w (length xs) (les w xs)) ≡ xs
+numbers-back : (w : ℕ) (xs : List ℕ) → All (λ x. x < 256 ^ w) xs → map (λ b. leAt w b 0) (cut w (length xs) (les w xs)) ≡ xs
 unfolding les cut
 numbers-back w [] h = refl
 numbers-back w (x ∷ xs) h =

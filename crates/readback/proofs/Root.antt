@@ -17,7 +17,7 @@ use Rattle.math.specs.declared.vec3.Vec3.{Vec3 as Floats}
 use Rattle.math.proofs.Finite.{finite-bits}
 use Rattle.quantise.specs.declared.quarter.QuarterBox.{QuarterBox}
 use Rattle.quantise.specs.declared.bounds.Aabb.{Aabb}
-use Rattle.strip.specs.Cell.{Vec3, Point, Head, Cell, All}
+use Rattle.strip.specs.Cell.{Vec3, NavPoint, Head, Cell, All}
 use Rattle.strip.specs.Box as Box
 use Rattle.strip.proofs.Box.{FiniteVec, FiniteBox}
 use Rattle.blocks.specs.Layout.{placeOf, address}
@@ -40,7 +40,7 @@ finite-number (inf s) e = tt
 finite-number (fin s m k) e = tt
 
 -- the bits of a finite float pass
-float-back : (w : ℕ) → w < 2 ^ 32 → Box.finite w ≡ true → toBits binary32 (ofBits binary32 w) % 256 ^ 4 ≡ w
+float-back : (w : ℕ) → w < 2 ^ 32 → Box.finiteBits w ≡ true → toBits binary32 (ofBits binary32 w) % 256 ^ 4 ≡ w
 float-back w h f =
     let number : T (not (isNan (ofBits binary32 w))) = finite-number (ofBits binary32 w) (finite-bits w ∙ f) in
     ap (λ (x : ℕ). x % 256 ^ 4) (toBits-ofBits binary32 w h number) ∙ mod-eq-of-lt h
@@ -101,7 +101,7 @@ abbrev full : ℕ → ℕ
 full zero = 1
 full (suc d) = 1 + 4 * full d
 
-module _ (ids : QuarterBox → List ℕ) (stored : ℕ → List Point) where
+module _ (ids : QuarterBox → List ℕ) (stored : ℕ → List NavPoint) where
   grown-box : (d k : ℕ) (b : Aabb) → boxAt (grown ids stored d k b) ≡ b
   unfolding grown
   grown-box zero k b = refl
@@ -113,7 +113,7 @@ module _ (ids : QuarterBox → List ℕ) (stored : ℕ → List Point) where
   grown-count (suc d) k b =
       omega (arith, grown-count d k (sub0 b), grown-count d (k + 4 ^ d) (sub1 b), grown-count d (k + 2 * 4 ^ d) (sub2 b), grown-count d (k + 3 * 4 ^ d) (sub3 b))
 
-  grown-points : (P : Point → Type 0) → ((k : ℕ) → All P (stored k)) → (d k : ℕ) (b : Aabb) → All P (preorder (grown ids stored d k b))
+  grown-points : (P : NavPoint → Type 0) → ((k : ℕ) → All P (stored k)) → (d k : ℕ) (b : Aabb) → All P (preorder (grown ids stored d k b))
   unfolding grown preorder
   grown-points P h zero k b = h k
   grown-points P h (suc d) k b =
@@ -125,7 +125,7 @@ module _ (ids : QuarterBox → List ℕ) (stored : ℕ → List Point) where
       (all-append P p2 (p1 ++ p0) (grown-points P h d (k + 2 * 4 ^ d) (sub2 b))
       (all-append P p1 p0 (grown-points P h d (k + 4 ^ d) (sub1 b)) (grown-points P h d k (sub0 b))))
 
-leaf-points : (P : Point → Type 0) (boxes : List Aabb) (k : ℕ) (ts : List Point) → All P ts → All P (pointsOf boxes k ts)
+leaf-points : (P : NavPoint → Type 0) (boxes : List Aabb) (k : ℕ) (ts : List NavPoint) → All P ts → All P (pointsOf boxes k ts)
 unfolding pointsOf
 leaf-points P boxes k [] h = tt
 leaf-points P boxes k (t ∷ ts) h = by (eqb (leafOf boxes (floats (t .position))) k) (leaf-points P boxes k ts (h .1))
@@ -149,7 +149,7 @@ module _ (c : Cell) where
       let e : sectorCount (sectors c) ≡ full (depthOf (c .head)) = grown-count _ _ (depthOf (c .head)) 0 (rootBox (c .head)) in
       omega (arith, few-full (c .head .content / 2 ^ 2 % 2))
 
-  pub sectors-points : (P : Point → Type 0) → All P (c .points) → All P (preorder (sectors c))
+  pub sectors-points : (P : NavPoint → Type 0) → All P (c .points) → All P (preorder (sectors c))
   unfolding sectors treeOf
   sectors-points P h = grown-points _ _ P (λ k. leaf-points P (leaves (depthOf (c .head)) (rootBox (c .head))) k (c .points) h) (depthOf (c .head)) 0 (rootBox (c .head))
 

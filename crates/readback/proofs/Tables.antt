@@ -4,7 +4,7 @@ use mathlib.Core.Bool.{Bool, true, false}
 use mathlib.Core.List.{List, [], _∷_, _++_}
 use Prim.Native.Nat.{ℕ, _^_, _<_}
 use native.Mathlib.Omega.{arith}
-use Rattle.strip.specs.Cell.{Edge, Polygon, All}
+use Rattle.strip.specs.Cell.{NavEdge, NavPoly, All}
 use Rattle.distinct.specs.Distinct.{isIn, withNew, distinctFrom}
 use Rattle.distinct.proofs.Laws.{with-old, with-fresh}
 use Rattle.distinct.proofs.Final.{In, with-in, still-in}
@@ -46,21 +46,21 @@ named-append P [] ls h k = k
 named-append P (c ∷ ks) ls h k = (h .0, (h .1 .0, named-append P ks ls (h .1 .1) k))
 
 module _ (lo size : Floats) where
-  corner-words : (vs : List Vec3) (es : List Edge) → All WordEdge es → All Word (named (cornersOf lo size vs es))
+  corner-words : (vs : List Vec3) (es : List NavEdge) → All WordEdge es → All Word (named (cornersOf lo size vs es))
   unfolding cornersOf named
   corner-words [] es h = tt
   corner-words (v ∷ vs) [] h = (omega arith, (omega arith, corner-words vs [] tt))
   corner-words (v ∷ vs) (e ∷ es) h = (h .0 .a, (h .0 .b, corner-words vs es (h .1)))
 
-  named-words : (ps : List Polygon) → All WordPolygon ps → All Word (named (corners lo size ps))
+  named-words : (ps : List NavPoly) → All WordPolygon ps → All Word (named (corners lo size ps))
   unfolding gather named
   named-words [] h = tt
   named-words (p ∷ ps) h = named-append Word (cornersIn lo size p) (corners lo size ps) (corner-words (p .vertices) (p .edges) (h .0 .edges)) (named-words ps (h .1))
 
-  pub area-words : (own : ℕ) (ps : List Polygon) → Word own → All WordPolygon ps → All Word (areaTable own (corners lo size ps))
+  pub area-words : (own : ℕ) (ps : List NavPoly) → Word own → All WordPolygon ps → All Word (areaTable own (corners lo size ps))
   area-words own ps h k = all-distinct Word (seeded own) (named (corners lo size ps)) (seeds-words own h) (named-words ps k)
 
-pub link-shorts : (ps : List Polygon) → All WordPolygon ps → All (λ x. x < 2 ^ 16) (linksOf ps)
+pub link-shorts : (ps : List NavPoly) → All WordPolygon ps → All (λ x. x < 2 ^ 16) (linksOf ps)
 unfolding gather
 link-shorts [] h = tt
 link-shorts (p ∷ ps) h = all-append (λ x. x < 2 ^ 16) (p .links) (linksOf ps) (h .0 .links) (link-shorts ps (h .1))

@@ -16,7 +16,7 @@ use Rattle.pages.specs.Checks.{fine, cellVerdict}
 use Rattle.pages.specs.Reread.{reread}
 use Rattle.pages.specs.Accepted.{Accepted}
 use Rattle.pages.proofs.Accepted.{accepted}
-use Rattle.readback.specs.Kept.{Kept}
+use Rattle.readback.specs.Kept.{PolygonKept}
 use Rattle.readback.proofs.Kept.{reread-kept}
 use Rattle.readback.proofs.Whole.{makes, derives}
 
@@ -42,5 +42,5 @@ module _ (strip : List ℕ) (c : Cell) (work out : ℕ) (words : Words strip) (f
   sectors-kept w d = makes-one (pages c ++ tail) graphics (d .makes) (makes c tail graphics range acc) .0
 
   -- so whatever strip they derive has the same polygons, one by one, but for what pages have no room for
-  pub polygons-kept : (w : List ℕ) → Derives (pages c ++ tail) graphics w → (d : Cell) × (w ≡ encode d) × Each Kept (c .polys) (d .polys)
+  pub polygons-kept : (w : List ℕ) → Derives (pages c ++ tail) graphics w → (d : Cell) × (w ≡ encode d) × Each PolygonKept (c .polys) (d .polys)
   polygons-kept w d = (reread c, only w d, reread-kept c)

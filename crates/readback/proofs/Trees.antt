@@ -5,14 +5,14 @@ use Prim.Native.Nat.{ℕ, zero, suc, _+_, _*_, _^_, _≤_, _<_}
 use native.Mathlib.Nat.{suc-add, add-assoc, add-zero, zero-add, mod-eq-of-lt}
 use native.Mathlib.Omega.{arith}
 use lib.ListN.{length}
-use Rattle.fields.specs.Bytes.{le, les, cat}
+use Rattle.fields.specs.Bytes.{leAt, les, cat}
 use Rattle.fields.specs.Rows.{rowBytes}
 use Rattle.fields.proofs.Bytes.{length-les}
 use Rattle.fields.proofs.Holds.{Holds, held-end}
 use Rattle.fields.proofs.Rows.{length-rows, field-back}
 use Rattle.math.specs.declared.vec3.Vec3.{Vec3 as Floats}
 use Rattle.quantise.specs.declared.bounds.Aabb.{Aabb}
-use Rattle.strip.specs.Cell.{Point, All}
+use Rattle.strip.specs.Cell.{NavPoint, All}
 use Rattle.blocks.specs.Layout.{placeOf, behind, endOf, address, lengths}
 use Rattle.blocks.proofs.Standing.{Stand, stand-first, stand-second}
 use Rattle.grammar.specs.Parts.{Good, Array}
@@ -46,16 +46,16 @@ module _ (b : Aabb) (d s0 s1 s2 s3 : ℕ) where
   abbrev row : List (ℕ × ℕ)
   row = sectorRow b d s0 s1 s2 s3
 
-  sector-data : d < 2 ^ 64 → le 8 (rowBytes row) 0x2C ≡ d
+  sector-data : d < 2 ^ 64 → leAt 8 (rowBytes row) 0x2C ≡ d
   sector-data h = field-back row 0x2C 8 d (omega arith) refl ∙ mod-eq-of-lt h
 
   sector-subs : s0 < 2 ^ 64 → s1 < 2 ^ 64 → s2 < 2 ^ 64 → s3 < 2 ^ 64 → subsTo (rowBytes row) 4 ≡ keep s3 (keep s2 (keep s1 (keep s0 [])))
   unfolding subsTo
   sector-subs h0 h1 h2 h3 =
-      let e0 : le 8 (rowBytes row) 0x34 ≡ s0 = field-back row 0x34 8 s0 (omega arith) refl ∙ mod-eq-of-lt h0 in
-      let e1 : le 8 (rowBytes row) 0x3C ≡ s1 = field-back row 0x3C 8 s1 (omega arith) refl ∙ mod-eq-of-lt h1 in
-      let e2 : le 8 (rowBytes row) 0x44 ≡ s2 = field-back row 0x44 8 s2 (omega arith) refl ∙ mod-eq-of-lt h2 in
-      let e3 : le 8 (rowBytes row) 0x4C ≡ s3 = field-back row 0x4C 8 s3 (omega arith) refl ∙ mod-eq-of-lt h3 in
+      let e0 : leAt 8 (rowBytes row) 0x34 ≡ s0 = field-back row 0x34 8 s0 (omega arith) refl ∙ mod-eq-of-lt h0 in
+      let e1 : leAt 8 (rowBytes row) 0x3C ≡ s1 = field-back row 0x3C 8 s1 (omega arith) refl ∙ mod-eq-of-lt h1 in
+      let e2 : leAt 8 (rowBytes row) 0x44 ≡ s2 = field-back row 0x44 8 s2 (omega arith) refl ∙ mod-eq-of-lt h2 in
+      let e3 : leAt 8 (rowBytes row) 0x4C ≡ s3 = field-back row 0x4C 8 s3 (omega arith) refl ∙ mod-eq-of-lt h3 in
       rw (e3, e2, e1, e0)
 
 -- ---- trees
@@ -83,7 +83,7 @@ module _ (P tail graphics : List ℕ) (few : length P < 2 ^ 28) where
 
     -- ---- a leaf
 
-    module _ (end first : ℕ) (b : Aabb) (is : List ℕ) (ts : List Point) (fine : FewIn (length is, length ts))
+    module _ (end first : ℕ) (b : Aabb) (is : List ℕ) (ts : List NavPoint) (fine : FewIn (length is, length ts))
         (blocks : Stand P end (leafBlocks lo size end first (length is) (length ts) b is ts)) where
       abbrev m : ℕ
       m = length is
@@ -121,19 +121,19 @@ module _ (P tail graphics : List ℕ) (few : length P < 2 ^ 28) where
       data-place : placeOf (dataFrom end m n) 32 + 32 ≤ length P
       data-place = omega (arith, held-end data-held, length-rows leafData)
 
-      leaf-points : Array S graphics 8 (le 8 (rowBytes leafData) 0x10) (le 2 (rowBytes leafData) 0x1A) (pointItems lo size ts)
+      leaf-points : Array S graphics 8 (leAt 8 (rowBytes leafData) 0x10) (leAt 2 (rowBytes leafData) 0x1A) (pointItems lo size ts)
       leaf-points =
-          let va : le 8 (rowBytes leafData) 0x10 ≡ addressOf (pointsFrom end m) (8 * n) =
+          let va : leAt 8 (rowBytes leafData) 0x10 ≡ addressOf (pointsFrom end m) (8 * n) =
           field-back leafData 0x10 8 (addressOf (pointsFrom end m) (8 * n)) (omega arith) refl
           ∙ mod-eq-of-lt (address-small P (pointsFrom end m) (8 * n) (cat (pointItems lo size ts)) few (length-points lo size ts) points-block) in
-          let count : le 2 (rowBytes leafData) 0x1A ≡ n = field-back leafData 0x1A 2 n (omega arith) refl ∙ omega (arith, fine .points) in
+          let count : leAt 2 (rowBytes leafData) 0x1A ≡ n = field-back leafData 0x1A 2 n (omega arith) refl ∙ omega (arith, fine .points) in
           rw (va, count)
           (subst (λ (j : ℕ). Array S graphics 8 (addressOf (pointsFrom end m) (8 * j)) j (pointItems lo size ts)) (point-count lo size ts)
           (array-back P tail graphics few 8 (pointsFrom end m) (pointItems lo size ts) (omega arith) (wide-points lo size ts) points-block))
 
       leaf-tree : Tree S graphics (sectorAddress end) 1 (pointItems lo size ts)
       leaf-tree =
-          let va : le 8 (rowBytes leafRow) 0x2C ≡ address (placeOf (dataFrom end m n) 32) =
+          let va : leAt 8 (rowBytes leafRow) 0x2C ≡ address (placeOf (dataFrom end m n) 32) =
           sector-data b (address (placeOf (dataFrom end m n) 32)) 0 0 0 0 (omega (arith, data-place)) in
           let d : Data S graphics (rowBytes leafRow) (pointItems lo size ts) =
           data-at {d = rowBytes leafData} (rw va (omega arith)) (rw va (good P tail graphics few 32 (length-rows leafData) (omega arith) data-held)) leaf-points in
@@ -226,11 +226,11 @@ module _ (P tail graphics : List ℕ) (few : length P < 2 ^ 28) where
 
     -- ---- the theorem
 
-    node-items : (p0 p1 p2 p3 : List Point)
+    node-items : (p0 p1 p2 p3 : List NavPoint)
         → pointItems lo size p3 ++ (pointItems lo size p2 ++ (pointItems lo size p1 ++ pointItems lo size p0)) ≡ pointItems lo size (p3 ++ (p2 ++ (p1 ++ p0)))
     unfolding pointItems
     node-items p0 p1 p2 p3 =
-        let f : Point → List ℕ = λ t. rowBytes (pointRow lo size t) in
+        let f : NavPoint → List ℕ = λ t. rowBytes (pointRow lo size t) in
         sym (rw (map-append f p3 (p2 ++ (p1 ++ p0)), map-append f p2 (p1 ++ p0), map-append f p1 p0))
 
     pub tree-back : (end first : ℕ) (t : Sector) → All FewIn (leafCounts t) → Stand P end (treeBlocks lo size end first t)

@@ -4,7 +4,7 @@ use mathlib.Core.List.{List, [], _++_}
 use Prim.Native.Nat.{ℕ, _*_, _^_, _<_}
 use native.Mathlib.Omega.{arith}
 use lib.ListN.{length, getD}
-use Rattle.fields.specs.Bytes.{le, les, cat}
+use Rattle.fields.specs.Bytes.{leAt, les, cat}
 use Rattle.fields.proofs.Bytes.{length-les}
 use Rattle.fields.proofs.Holds.{Holds, all-held, held-end}
 use Rattle.strip.specs.Cell.{Cell, All, PointFits, encode, InRange}
@@ -34,6 +34,7 @@ use Rattle.readback.proofs.Portals.{portals-back, points-back, link-tab
 use Rattle.readback.proofs.Tables.{all-in, area-words, link-shorts}
 use Rattle.readback.proofs.Trees.{stand-behind, first-held, first-behind, tree-back}
 use Rattle.readback.proofs.Root.{boxAt, Root, tree-root, sectors-count, sectors-points, root-min, root-max}
+use Rattle.fields.specs.Sizes.{LIST-VFT-EDGES, LIST-VFT-INDICES, LIST-VFT-POLYS, LIST-VFT-VERTICES}
 
 module _ (c : Cell) where
   abbrev N : Counts
@@ -63,10 +64,10 @@ module _ (c : Cell) where
   -- every block stands where the layout puts it
   record Standing : Type 0 where
     header-block : Holds P 0 (header c)
-    vertex-blocks : Stand P (endHeader N T) (listBlocks (endHeader N T) 1080158456 6 vertexPart)
-    index-blocks : Stand P (endVertices N T) (listBlocks (endVertices N T) 1080158424 2 indexPart)
-    edge-blocks : Stand P (endIndices N T) (listBlocks (endIndices N T) 1080158440 8 edgePart)
-    polygon-blocks : Stand P (endEdges N T) (listBlocks (endEdges N T) 1080158408 48 polygonPart)
+    vertex-blocks : Stand P (endHeader N T) (listBlocks (endHeader N T) LIST-VFT-VERTICES 6 vertexPart)
+    index-blocks : Stand P (endVertices N T) (listBlocks (endVertices N T) LIST-VFT-INDICES 2 indexPart)
+    edge-blocks : Stand P (endIndices N T) (listBlocks (endIndices N T) LIST-VFT-EDGES 8 edgePart)
+    polygon-blocks : Stand P (endEdges N T) (listBlocks (endEdges N T) LIST-VFT-POLYS 48 polygonPart)
     sector-blocks : Stand P (endPolygons N T) (treeBlocks (loOf c) (extentOf c) (endPolygons N T) 0 T)
     portal-blocks : Stand P (endSectors N T) (blockOf (cat portalPart))
     link-blocks : Stand P (endPortals N T) (blockOf (les 2 (links c)))
@@ -74,20 +75,20 @@ module _ (c : Cell) where
   standing : Standing
   unfolding pages blocks header counts endHeader endVertices endIndices endEdges endPolygons endSectors endPortals placeOf
   standing =
-      let vb = listBlocks (endHeader N T) 1080158456 6 vertexPart in
-      let ib = listBlocks (endVertices N T) 1080158424 2 indexPart in
-      let eb = listBlocks (endIndices N T) 1080158440 8 edgePart in
-      let qb = listBlocks (endEdges N T) 1080158408 48 polygonPart in
+      let vb = listBlocks (endHeader N T) LIST-VFT-VERTICES 6 vertexPart in
+      let ib = listBlocks (endVertices N T) LIST-VFT-INDICES 2 indexPart in
+      let eb = listBlocks (endIndices N T) LIST-VFT-EDGES 8 edgePart in
+      let qb = listBlocks (endEdges N T) LIST-VFT-POLYS 48 polygonPart in
       let tb = treeBlocks (loOf c) (extentOf c) (endPolygons N T) 0 T in
       let rb = blockOf (cat portalPart) in
       let lb = blockOf (les 2 (links c)) in
       let all = stand (blocks c) in
       let long : length (header c) ≡ 368 = header-length (c .head) (placesOf N T) N (areas c) in
       let s₁ = first-behind P 0 368 (header c) (vb ++ (ib ++ (eb ++ (qb ++ (tb ++ (rb ++ lb)))))) long (all .1) in
-      let s₂ = stand-behind P (endHeader N T) vb (ib ++ (eb ++ (qb ++ (tb ++ (rb ++ lb))))) (listSizes 6 (N .vertices)) (list-size (endHeader N T) 1080158456 6 (N .vertices) vertexPart (wide-vertices (vertices c)) (length-vertices (vertices c))) s₁ in
-      let s₃ = stand-behind P (endVertices N T) ib (eb ++ (qb ++ (tb ++ (rb ++ lb)))) (listSizes 2 (N .indices)) (list-size (endVertices N T) 1080158424 2 (N .indices) indexPart (wide-indices (vertices c) (allCorners c)) (length-indices (vertices c) (allCorners c))) s₂ in
-      let s₄ = stand-behind P (endIndices N T) eb (qb ++ (tb ++ (rb ++ lb))) (listSizes 8 (N .indices)) (list-size (endIndices N T) 1080158440 8 (N .indices) edgePart (wide-edges (areas c) (allCorners c)) (length-edges (areas c) (allCorners c))) s₃ in
-      let s₅ = stand-behind P (endEdges N T) qb (tb ++ (rb ++ lb)) (listSizes 48 (N .polygons)) (list-size (endEdges N T) 1080158408 48 (N .polygons) polygonPart (wide-polygons (c .head .area) 0 0 0 (c .polys)) (length-polygons (c .head .area) 0 0 0 (c .polys))) s₄ in
+      let s₂ = stand-behind P (endHeader N T) vb (ib ++ (eb ++ (qb ++ (tb ++ (rb ++ lb))))) (listSizes 6 (N .vertices)) (list-size (endHeader N T) LIST-VFT-VERTICES 6 (N .vertices) vertexPart (wide-vertices (vertices c)) (length-vertices (vertices c))) s₁ in
+      let s₃ = stand-behind P (endVertices N T) ib (eb ++ (qb ++ (tb ++ (rb ++ lb)))) (listSizes 2 (N .indices)) (list-size (endVertices N T) LIST-VFT-INDICES 2 (N .indices) indexPart (wide-indices (vertices c) (allCorners c)) (length-indices (vertices c) (allCorners c))) s₂ in
+      let s₄ = stand-behind P (endIndices N T) eb (qb ++ (tb ++ (rb ++ lb))) (listSizes 8 (N .indices)) (list-size (endIndices N T) LIST-VFT-EDGES 8 (N .indices) edgePart (wide-edges (areas c) (allCorners c)) (length-edges (areas c) (allCorners c))) s₃ in
+      let s₅ = stand-behind P (endEdges N T) qb (tb ++ (rb ++ lb)) (listSizes 48 (N .polygons)) (list-size (endEdges N T) LIST-VFT-POLYS 48 (N .polygons) polygonPart (wide-polygons (c .head .area) 0 0 0 (c .polys)) (length-polygons (c .head .area) 0 0 0 (c .polys))) s₄ in
       let s₆ = stand-behind P (endPolygons N T) tb (rb ++ lb) (Sectors.sizes T) (tree-lengths (loOf c) (extentOf c) (endPolygons N T) 0 T) s₅ in
       let s₇ = stand-behind P (endSectors N T) rb lb (sizeOf (28 * N .portals)) (block-size (28 * N .portals) (cat portalPart) (length-portals (loOf c) (extentOf c) (c .portals))) s₆ in
       record {
@@ -125,48 +126,48 @@ module _ (c : Cell) where
 
     -- ---- addresses and counts in the header
 
-    vertices-va : le 8 H 0x70 ≡ address (placeOf (endHeader N T) 48)
+    vertices-va : leAt 8 H 0x70 ≡ address (placeOf (endHeader N T) 48)
     unfolding placesOf
-    vertices-va = back.vertices-back (c .head) A N (areas c) (omega (arith, few, list-place P (endHeader N T) 1080158456 6 vertexPart (st .vertex-blocks)))
+    vertices-va = back.vertices-back (c .head) A N (areas c) (omega (arith, few, list-place P (endHeader N T) LIST-VFT-VERTICES 6 vertexPart (st .vertex-blocks)))
 
-    indices-va : le 8 H 0x80 ≡ address (placeOf (endVertices N T) 48)
+    indices-va : leAt 8 H 0x80 ≡ address (placeOf (endVertices N T) 48)
     unfolding placesOf
-    indices-va = back.indices-back (c .head) A N (areas c) (omega (arith, few, list-place P (endVertices N T) 1080158424 2 indexPart (st .index-blocks)))
+    indices-va = back.indices-back (c .head) A N (areas c) (omega (arith, few, list-place P (endVertices N T) LIST-VFT-INDICES 2 indexPart (st .index-blocks)))
 
-    edges-va : le 8 H 0x88 ≡ address (placeOf (endIndices N T) 48)
+    edges-va : leAt 8 H 0x88 ≡ address (placeOf (endIndices N T) 48)
     unfolding placesOf
-    edges-va = back.edges-back (c .head) A N (areas c) (omega (arith, few, list-place P (endIndices N T) 1080158440 8 edgePart (st .edge-blocks)))
+    edges-va = back.edges-back (c .head) A N (areas c) (omega (arith, few, list-place P (endIndices N T) LIST-VFT-EDGES 8 edgePart (st .edge-blocks)))
 
-    polygons-va : le 8 H 0x118 ≡ address (placeOf (endEdges N T) 48)
+    polygons-va : leAt 8 H 0x118 ≡ address (placeOf (endEdges N T) 48)
     unfolding placesOf
-    polygons-va = back.polygons-back (c .head) A N (areas c) (omega (arith, few, list-place P (endEdges N T) 1080158408 48 polygonPart (st .polygon-blocks)))
+    polygons-va = back.polygons-back (c .head) A N (areas c) (omega (arith, few, list-place P (endEdges N T) LIST-VFT-POLYS 48 polygonPart (st .polygon-blocks)))
 
     root : Root P (endPolygons N T) (boxAt T)
     root = tree-root P (loOf c) (extentOf c) (endPolygons N T) 0 T (st .sector-blocks)
 
-    root-va : le 8 H 0x120 ≡ address (placeOf (endPolygons N T) 96)
+    root-va : leAt 8 H 0x120 ≡ address (placeOf (endPolygons N T) 96)
     unfolding placesOf
     root-va = back.root-back (c .head) A N (areas c) (omega (arith, few, held-end (root .held), root .long))
 
-    portals-va : le 8 H 0x128 ≡ addressOf (endSectors N T) (28 * length (c .portals))
+    portals-va : leAt 8 H 0x128 ≡ addressOf (endSectors N T) (28 * length (c .portals))
     unfolding placesOf counts
     portals-va =
         back.portals-back (c .head) A N (areas c)
         (address-small P (endSectors N T) (28 * length (c .portals)) (cat portalPart) few (length-portals (loOf c) (extentOf c) (c .portals)) (st .portal-blocks))
 
-    links-va : le 8 H 0x130 ≡ addressOf (endPortals N T) (2 * length (links c))
+    links-va : leAt 8 H 0x130 ≡ addressOf (endPortals N T) (2 * length (links c))
     unfolding placesOf counts
     links-va = back.links-back (c .head) A N (areas c) (address-small P (endPortals N T) (2 * length (links c)) (les 2 (links c)) few (length-les 2 (links c)) (st .link-blocks))
 
-    portal-count : le 4 H 0x14C ≡ length (c .portals)
+    portal-count : leAt 4 H 0x14C ≡ length (c .portals)
     unfolding counts
     portal-count = back.portal-count-back (c .head) A N (areas c) (omega (arith, acc .few-portals))
 
-    link-count : le 4 H 0x150 ≡ length (links c)
+    link-count : leAt 4 H 0x150 ≡ length (links c)
     unfolding counts
     link-count = back.link-count-back (c .head) A N (areas c) (omega (arith, acc .few-links))
 
-    links-are : linksAt S graphics (le 8 H 0x130) (le 4 H 0x150) ≡ links c
+    links-are : linksAt S graphics (leAt 8 H 0x130) (leAt 4 H 0x150) ≡ links c
     unfolding links
     links-are = rw (links-va, link-count) (link-table P tail graphics few (endPortals N T) (links c) (link-shorts (c .polys) (form .polys)) (st .link-blocks))
 
@@ -231,10 +232,10 @@ module _ (c : Cell) where
       finite-box = acc .finite;
       tree = rw root-va (tree-back P tail graphics few (loOf c) (extentOf c) (endPolygons N T) 0 T (acc .leaves) (st .sector-blocks));
       few-sectors = omega (arith, sectors-count c);
-      vertex-list = rw vertices-va (items-back P tail graphics few 6 (omega arith) (omega arith) (endHeader N T) 1080158456 vertexPart (wide-vertices (vertices c)) (omega (arith, length-vertices (vertices c), acc .few-vertices)) (st .vertex-blocks));
-      index-list = rw indices-va (items-back P tail graphics few 2 (omega arith) (omega arith) (endVertices N T) 1080158424 indexPart (wide-indices (vertices c) (allCorners c)) (omega (arith, length-indices (vertices c) (allCorners c), few-corners c acc)) (st .index-blocks));
-      edge-list = rw edges-va (items-back P tail graphics few 8 (omega arith) (omega arith) (endIndices N T) 1080158440 edgePart (wide-edges (areas c) (allCorners c)) (omega (arith, length-edges (areas c) (allCorners c), few-corners c acc)) (st .edge-blocks));
-      polygon-list = rw polygons-va (items-back P tail graphics few 48 (omega arith) (omega arith) (endEdges N T) 1080158408 polygonPart (wide-polygons (c .head .area) 0 0 0 (c .polys)) (omega (arith, acc .few-polygons, length-polygons (c .head .area) 0 0 0 (c .polys))) (st .polygon-blocks));
+      vertex-list = rw vertices-va (items-back P tail graphics few 6 (omega arith) (omega arith) (endHeader N T) LIST-VFT-VERTICES vertexPart (wide-vertices (vertices c)) (omega (arith, length-vertices (vertices c), acc .few-vertices)) (st .vertex-blocks));
+      index-list = rw indices-va (items-back P tail graphics few 2 (omega arith) (omega arith) (endVertices N T) LIST-VFT-INDICES indexPart (wide-indices (vertices c) (allCorners c)) (omega (arith, length-indices (vertices c) (allCorners c), few-corners c acc)) (st .index-blocks));
+      edge-list = rw edges-va (items-back P tail graphics few 8 (omega arith) (omega arith) (endIndices N T) LIST-VFT-EDGES edgePart (wide-edges (areas c) (allCorners c)) (omega (arith, length-edges (areas c) (allCorners c), few-corners c acc)) (st .edge-blocks));
+      polygon-list = rw polygons-va (items-back P tail graphics few 48 (omega arith) (omega arith) (endEdges N T) LIST-VFT-POLYS polygonPart (wide-polygons (c .head .area) 0 0 0 (c .polys)) (omega (arith, acc .few-polygons, length-polygons (c .head .area) 0 0 0 (c .polys))) (st .polygon-blocks));
       portal-list = rw (portals-va, portal-count) portal-array;
       polygons-are = rw links-are
           (polygons-back (c .head) (c .head .area) (vertices c) (areas c) (areaOf H) (acc .few-vertices) (acc .few-areas) area-is 0 0 0 (c .polys) indexPart edgePart (links c)

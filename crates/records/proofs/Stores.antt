@@ -7,8 +7,10 @@ use lib.ListN.{length}
 use Rattle.fields.specs.Bytes.{put}
 use Rattle.fields.specs.Rows.{pack, field}
 use Rattle.fields.proofs.Puts.{put-next}
-use Rattle.strip.specs.Cell.{Vec3, Portal, vecWords, headWords, portalWords}
-use Rattle.grammar.specs.Derives.{vecOf, headOf, portalOf}
+use Rattle.strip.specs.Cell.{Vec3, NavPortal, vecWords, headWords, portalWords}
+use Rattle.cell_record.specs.Record.{bits, headBy}
+use Rattle.cell_record.specs.declared.CellRecord.{CellRecord}
+use Rattle.grammar.specs.Derives.{portalOf}
 use Rattle.records.specs.Words.{valueWords, frontWords, backWords}
 
 -- kind and content flags, then area id, version and vft
@@ -16,14 +18,14 @@ pub values-stored : (a b c d e : ℕ) (xs : List ℕ) → put 2 (c ∷ d ∷ e �
 values-stored a b c d e xs = put-next 2 0 (a ∷ b ∷ []) (c ∷ d ∷ e ∷ []) xs refl
 
 -- the cell's record
-pub cell-stored : (header root xs : List ℕ)
-    → put 11 (vecWords (vecOf header 0x60)) (put 8 (vecWords (vecOf root 16)) (put 5 (vecWords (vecOf root 0)) (put 0 (valueWords header) xs))) ≡ put 0 (headWords (headOf header root)) xs
-unfolding vecWords valueWords headWords headOf
-cell-stored header root xs =
-    let values = valueWords header in
-    let lo = vecWords (vecOf root 0) in
-    let hi = vecWords (vecOf root 16) in
-    let size = vecWords (vecOf header 0x60) in
+pub cell-stored : (c : CellRecord) (xs : List ℕ)
+    → put 11 (vecWords (bits (c .«bb_size»))) (put 8 (vecWords (bits (c .«bb_max»))) (put 5 (vecWords (bits (c .«bb_min»))) (put 0 (valueWords c) xs))) ≡ put 0 (headWords (headBy c)) xs
+unfolding vecWords valueWords headWords headBy
+cell-stored c xs =
+    let values = valueWords c in
+    let lo = vecWords (bits (c .«bb_min»)) in
+    let hi = vecWords (bits (c .«bb_max»)) in
+    let size = vecWords (bits (c .«bb_size»)) in
     rw (put-next 5 0 values lo xs refl, put-next 8 0 (values ++ lo) hi xs refl, put-next 11 0 ((values ++ lo) ++ hi) size xs refl)
 
 -- a portal's record
@@ -36,7 +38,7 @@ portal-stored back b at from to xs e f =
     let q = vecWords (portalOf back b .to) in
     rw (e, f, put-next 2 at front p xs refl, put-next 5 at (front ++ p) q xs refl, put-next 8 at ((front ++ p) ++ q) (backWords b) xs refl)
 
-pub portal-length : (p : Portal) → length (portalWords p) ≡ 11
+pub portal-length : (p : NavPortal) → length (portalWords p) ≡ 11
 unfolding portalWords vecWords
 portal-length p = refl
 

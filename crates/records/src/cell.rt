@@ -1,22 +1,23 @@
-// The cell's record: header values and root box, by their bits.
+// The cell's record: made once from header and root, and stored at the head of a strip by the bits of its floats.
 ghost use mathlib.Core.Path.{_≡_};
-ghost use mathlib.Core.List.{[], _∷_, _++_};
 ghost use Prim.Native.Nat.{_+_, _≤_};
 ghost use lib.ListN.{length};
 ghost use Rattle.fields.specs.Bytes.{put};
-ghost use Rattle.strip.specs.Cell.{vecWords, headWords};
+ghost use Rattle.strip.specs.Cell.{headWords};
+ghost use Rattle.cell_record.specs.Record.{floats, recordOf, headBy};
 ghost use Rattle.grammar.specs.Derives.{vecOf, headOf};
-ghost use Rattle.records.specs.Back.{floatsAt};
 ghost use Rattle.records.specs.Words.{valueWords};
+use super::words::put_vec;
 use super::words::put2;
 use super::words::put3;
+use cell_record::CellRecord;
 use fields::u32_le;
 use math::num::float_of_bits;
 use math::vec3::Vec3;
 
 // The three floats that stand in b from off on.
-pub fn read_vec3(b: &[u8], off: u16) -> Vec3
-    ensures { λ r. ⌜ r ≡ floatsAt (now (b .entry)) off ⌝ }
+fn vec3_le(b: &[u8], off: u16) -> Vec3
+    ensures { λ r. ⌜ r ≡ floats (vecOf (now (b .entry)) off) ⌝ }
 {
     let at = off as usize;
     Vec3 {
@@ -26,36 +27,43 @@ pub fn read_vec3(b: &[u8], off: u16) -> Vec3
     }
 }
 
-fn put_vec(b: &[u8], off: usize, strip: &mut [u32], at: usize)
-    requires { ⌜ (off ≤ 65536) × (at + 3 ≤ length (now strip)) ⌝ }
-    ensures { λ _. ⌜ now (strip .exit) ≡ put at (vecWords (vecOf (now (b .entry)) off)) (now (strip .entry)) ⌝ }
+// The record of a cell with this header and this root.
+pub fn record_of<'a>(header: &'a [u8], root: &'a [u8]) -> CellRecord
+    ensures { λ r. ⌜ r ≡ recordOf (headOf (now (header .entry)) (now (root .entry))) ⌝ }
 {
-    let x = u32_le(b, off);
-    let y = u32_le(b, off + 4);
-    let z = u32_le(b, off + 8);
-    put3(strip, at, x, y, z);
+    let bb_min = vec3_le(root, 0);
+    let bb_max = vec3_le(root, 16);
+    let bb_size = vec3_le(header, 0x60);
+    CellRecord {
+        content_flags: u32_le(header, 0x10),
+        area_id: u32_le(header, 0x140),
+        version_unk2: u32_le(header, 0x160),
+        vft: u32_le(header, 0),
+        bb_min,
+        bb_max,
+        bb_size,
+    }
 }
 
 // Kind, content flags, area id, version and vft.
-fn put_values(header: &[u8], strip: &mut [u32])
+fn put_values(cell: CellRecord, strip: &mut [u32])
     requires { ⌜ 14 ≤ length (now strip) ⌝ }
-    ensures { λ _. ⌜ now (strip .exit) ≡ put 0 (valueWords (now (header .entry))) (now (strip .entry)) ⌝ }
+    ensures { λ _. ⌜ now (strip .exit) ≡ put 0 (valueWords cell) (now (strip .entry)) ⌝ }
 {
-    let content = u32_le(header, 0x10);
-    let area = u32_le(header, 0x140);
-    let version = u32_le(header, 0x160);
-    let vft = u32_le(header, 0);
-    put2(strip, 0, 0x1000_0000, content);
-    put3(strip, 2, area, version, vft);
+    put2(strip, 0, 0x1000_0000, cell.content_flags);
+    put3(strip, 2, cell.area_id, cell.version_unk2, cell.vft);
 }
 
-// The cell's record, at the head of the strip.
-pub fn put_cell<'a>(header: &'a [u8], root: &'a [u8], strip: &mut [u32])
+// The record's 14 words, at the head of the strip.
+pub fn put_cell(cell: CellRecord, strip: &mut [u32])
     requires { ⌜ 14 ≤ length (now strip) ⌝ }
-    ensures { λ _. ⌜ now (strip .exit) ≡ put 0 (headWords (headOf (now (header .entry)) (now (root .entry)))) (now (strip .entry)) ⌝ }
+    ensures { λ _. ⌜ now (strip .exit) ≡ put 0 (headWords (headBy cell)) (now (strip .entry)) ⌝ }
 {
-    put_values(header, strip);
-    put_vec(root, 0, strip, 5);
-    put_vec(root, 16, strip, 8);
-    put_vec(header, 0x60, strip, 11);
+    let bb_min = cell.bb_min;
+    let bb_max = cell.bb_max;
+    let bb_size = cell.bb_size;
+    put_values(cell, strip);
+    put_vec(bb_min, strip, 5);
+    put_vec(bb_max, strip, 8);
+    put_vec(bb_size, strip, 11);
 }

@@ -6,11 +6,14 @@ ghost use lib.ListN.{length};
 ghost use Rattle.fields.specs.Bytes.{put, cut};
 ghost use Rattle.strip.specs.Cell.{each, portalWords};
 ghost use Rattle.grammar.specs.Derives.{portalOf};
-ghost use Rattle.records.specs.Back.{backBy};
+ghost use Rattle.records.specs.Back.{backBy, backIn};
 ghost use Rattle.records.specs.Words.{frontWords, backWords};
 use super::words::put_position;
 use super::words::put2;
 use super::words::put3;
+use super::words::shorts_at;
+use cell_record::CellRecord;
+use fields::sizes::PORTAL_SIZE;
 use fields::u8_le;
 use fields::u16_le;
 use fields::u32_le;
@@ -49,27 +52,24 @@ fn put_portal(b: &[u8], bb_min: Vec3, bb_size: Vec3, strip: &mut [u32], at: usiz
     ensures { λ _. ⌜ now (strip .exit) ≡ put at (portalWords (portalOf (backBy «bb_min» «bb_size») (now (b .entry)))) (now (strip .entry)) ⌝ }
 {
     put_front(b, strip, at);
-    put_position(b, 4, bb_min, bb_size, strip, at + 2);
-    put_position(b, 10, bb_min, bb_size, strip, at + 5);
+    let from = shorts_at(b, 4);
+    let to = shorts_at(b, 10);
+    put_position(from, bb_min, bb_size, strip, at + 2);
+    put_position(to, bb_min, bb_size, strip, at + 5);
     put_back(b, strip, at + 8);
 }
 
 // The first n portals of a part, from the strip's word `at` on.
-pub fn put_portals(
-    portals: &[u8],
-    n: usize,
-    bb_min: Vec3,
-    bb_size: Vec3,
-    strip: &mut [u32],
-    at: usize,
-)
+pub fn put_portals(portals: &[u8], n: usize, cell: CellRecord, strip: &mut [u32], at: usize)
     requires { ⌜ (28 * n ≤ length (now portals)) × (at + 11 * n ≤ length (now strip)) ⌝ }
-    ensures { λ _. ⌜ now (strip .exit) ≡ put at (each portalWords (map (portalOf (backBy «bb_min» «bb_size»)) (cut 28 n (now (portals .entry))))) (now (strip .entry)) ⌝ }
+    ensures { λ _. ⌜ now (strip .exit) ≡ put at (each portalWords (map (portalOf (backIn cell)) (cut 28 n (now (portals .entry))))) (now (strip .entry)) ⌝ }
 {
+    let bb_min = cell.bb_min;
+    let bb_size = cell.bb_size;
     let mut i = 0;
     while i < n {
-        let from = 28 * i;
-        let to = from + 28;
+        let from = PORTAL_SIZE * i;
+        let to = from + PORTAL_SIZE;
         put_portal(&portals[from..to], bb_min, bb_size, strip, at + 11 * i);
         i += 1;
     }

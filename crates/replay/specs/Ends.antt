@@ -2,8 +2,8 @@
 use Prim.Native.Nat.{ℕ, _+_, _-_, _*_, _/_, min}
 
 -- where so many bytes from a place on end, of n in all
-unfoldable pub endOf : (n from count : ℕ) → ℕ
-endOf n from count = from + min count (n - from)
+unfoldable pub recordEnd : (n from count : ℕ) → ℕ
+recordEnd n from count = from + min count (n - from)
 
 -- bytes padded to whole words
 unfoldable pub padded : ℕ → ℕ

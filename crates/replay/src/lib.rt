@@ -1,14 +1,14 @@
 // What the programs that replay the oracle's lists share: where the parts of a record end, the tally of the records, and the lines that are printed.
 ghost use mathlib.Core.Path.{_≡_};
 ghost use Prim.Native.Nat.{_+_, _≤_, _<_};
-ghost use Rattle.replay.specs.Ends.{endOf, padded};
-ghost use Rattle.replay.specs.Tallies.{Tallied};
+ghost use Rattle.replay.specs.Ends.{recordEnd, padded};
+ghost use Rattle.replay.specs.Tallies.{Tallied, counting};
 use fields::least;
 
 // Where `count` bytes from `from` on end, of n in all. What the list lacks is left out.
 pub fn end_of(n: usize, from: usize, count: usize) -> usize
     requires { ⌜ from ≤ n ⌝ }
-    ensures { λ r. ⌜ (r ≡ endOf n from count) × (from ≤ r) × (r ≤ n) ⌝ }
+    ensures { λ r. ⌜ (r ≡ recordEnd n from count) × (from ≤ r) × (r ≤ n) ⌝ }
 {
     from + least(count, n - from)
 }
@@ -30,7 +30,7 @@ pub struct Tally {
 // With the record at a place of n.
 pub fn counted(t: Tally, n: usize, at: usize, agreed: bool) -> Tally
     requires { ⌜ Tallied n at t × (at < n) ⌝ }
-    ensures { λ r. ⌜ Tallied n (at + 1) r ⌝ }
+    ensures { λ r. ⌜ (r ≡ counting t at agreed) × Tallied n (at + 1) r ⌝ }
 {
     if agreed {
         return Tally {

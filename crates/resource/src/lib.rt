@@ -73,10 +73,11 @@ pub fn resolve<'a>(system: &'a [u8], graphics: &'a [u8], va: u64, len: usize) ->
     }
 }
 
-// The part that an address names, where it is known to be good: `resolve` without its tests.
+// The part that an address names, in the memory of its section itself, where it is known to be good: `resolve` without its tests.
 pub fn good_part<'a>(system: &'a [u8], graphics: &'a [u8], va: u64, len: usize) -> &'a [u8]
     requires { ⌜ good (now system) (now graphics) va len ≡ true ⌝ }
-    ensures { λ r. ⌜ now r ≡ resolved (now (system .entry)) (now (graphics .entry)) va len ⌝ }
+    ensures content { λ r. ⌜ now r ≡ resolved (now (system .entry)) (now (graphics .entry)) va len ⌝ }
+    ensures place { λ r. ⌜ r .ptr ≡ resolvedAt (system .entry) (graphics .entry) va ⌝ }
 {
     if va & GRAPHICS_BASE == GRAPHICS_BASE {
         let from = (va - GRAPHICS_BASE) as usize;

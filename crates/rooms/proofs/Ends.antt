@@ -11,14 +11,14 @@ use lib.Dec.{leb}
 use lib.ListN.{length}
 use Rattle.quantise.specs.declared.quarter.QuarterBox.{QuarterBox}
 use Rattle.quantise.specs.declared.bounds.Aabb.{Aabb}
-use Rattle.strip.specs.Cell.{Point}
+use Rattle.strip.specs.Cell.{NavPoint}
 use Rattle.blocks.specs.Layout.{aligned, placeOf, behind, endOf}
-use Rattle.blocks.specs.Lists.{perPart, partCount, counts, sizes, partSizes, offsetSizes, listSizes}
+use Rattle.blocks.specs.Lists.{perPart, partCount, partCounts, sizes, partSizes, offsetSizes, listSizes}
 use Rattle.pages.specs.Optional.{sizeOf}
 use Rattle.pages.specs.Sectors as Sectors
 use Rattle.pages.specs.Sectors.{Sector, quarters, grown, pointCount, byteCount, sub0, sub1, sub2, sub3}
 use Rattle.pages.specs.Sectors.Sector.{leaf, node}
-use Rattle.front.specs.Ends.{sum}
+use Rattle.front.specs.Ends.{sumOf}
 use Rattle.front.proofs.Behind.{sum-append}
 
 -- ---- one block
@@ -52,7 +52,7 @@ most-some (suc n) = omega arith
 
 -- ---- a list
 
-parts-most : (w per k n : ℕ) → most (sizes w (counts k per n)) ≤ 2 * (w * n) + 15 * k
+parts-most : (w per k n : ℕ) → most (sizes w (partCounts k per n)) ≤ 2 * (w * n) + 15 * k
 parts-most w per zero n = omega arith
 parts-most w per (suc k) n =
     let m : ℕ = min per n in
@@ -70,7 +70,7 @@ list-most w n =
     omega (arith, most-append (partSizes w n) (offsetSizes k), parts-most w (perPart w) k n, offsets-most k)
 
 -- k parts that are enough hold every item
-parts-sum : (w per k n : ℕ) → n ≤ k * per → w * n ≤ sum (sizes w (counts k per n))
+parts-sum : (w per k n : ℕ) → n ≤ k * per → w * n ≤ sumOf (sizes w (partCounts k per n))
 parts-sum w per zero n h = let z : n ≡ 0 = omega arith in rw (z, mul-zero w) (omega arith)
 parts-sum w per (suc k) n h =
     let m : ℕ = min per n in
@@ -79,7 +79,7 @@ parts-sum w per (suc k) n h =
     let g : n - m ≤ k * per = omega (arith, suc-mul k per) in
     omega (arith, parts-sum w per k (n - m) g)
 
-pub list-sum : (w n : ℕ) → n ≤ partCount w n * perPart w → w * n ≤ sum (listSizes w n)
+pub list-sum : (w n : ℕ) → n ≤ partCount w n * perPart w → w * n ≤ sumOf (listSizes w n)
 list-sum w n h =
     let k : ℕ = partCount w n in
     omega (arith, sum-append (partSizes w n) (offsetSizes k), parts-sum w (perPart w) k n h)
@@ -90,7 +90,7 @@ abbrev pub treeMost : (p d : ℕ) → ℕ
 treeMost p zero = 316 + 4 * p
 treeMost p (suc d) = 207 + 4 * treeMost p d
 
-module _ (ids : QuarterBox → List ℕ) (stored : ℕ → List Point) (p : ℕ) (few : (q : QuarterBox) → length (ids q) ≤ p) where
+module _ (ids : QuarterBox → List ℕ) (stored : ℕ → List NavPoint) (p : ℕ) (few : (q : QuarterBox) → length (ids q) ≤ p) where
   pub tree-most : (d k : ℕ) (b : Aabb) → most (Sectors.sizes (grown ids stored d k b)) ≤ treeMost p d + 16 * pointCount (grown ids stored d k b)
   unfolding grown Sectors.sizes pointCount
   tree-most zero k b =

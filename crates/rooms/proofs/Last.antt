@@ -8,14 +8,14 @@ use lib.Dec.{ltb}
 use lib.ListN.{length}
 use borrow.Author.Tests.{le-ltb}
 use Rattle.math.specs.declared.vec3.Vec3.{Vec3 as Floats}
-use Rattle.strip.specs.Cell.{Polygon, Cell, All}
+use Rattle.strip.specs.Cell.{NavPoly, Cell, All}
 use Rattle.strip.specs.Box.{finiteBox}
 use Rattle.distinct.specs.Distinct.{withNew, distinctFrom}
 use Rattle.areas.specs.Areas.{seeded}
 use Rattle.pages.specs.Items.{Corner, cornersIn, triples, named}
 use Rattle.pages.specs.Sectors.{leafCounts}
 use Rattle.pages.specs.Pages.{loOf, extentOf, links, sectors, pages}
-use Rattle.pages.specs.Checks.{Verdict, fine, refused, when, first, at, cornerFault, cornersFault, polygonFault, polygonsVerdict, leafFault, leavesVerdict, cellVerdict}
+use Rattle.pages.specs.Checks.{Verdict, fine, refused, faultIf, firstFault, at, cornerFault, cornersFault, polygonFault, polygonsVerdict, leafFault, leavesVerdict, cellVerdict}
 use Rattle.pages.specs.Accepted.{Accepted}
 use Rattle.pages.proofs.Accepted.{accepted}
 
@@ -24,12 +24,12 @@ use Rattle.pages.proofs.Accepted.{accepted}
 abbrev Late : ℕ → Type 0
 Late n = 0 < n → 10 ≤ n
 
-when-late : (bad : Bool) (n : ℕ) → 10 ≤ n → Late (when bad n)
+when-late : (bad : Bool) (n : ℕ) → 10 ≤ n → Late (faultIf bad n)
 when-late true n h = λ some. h
 when-late false n h = λ some. absurd (omega arith)
 
-first-late : (ns : List ℕ) → All Late ns → Late (first ns)
-unfolding first
+first-late : (ns : List ℕ) → All Late ns → Late (firstFault ns)
+unfolding firstFault
 first-late [] h = λ some. absurd (omega arith)
 first-late (zero ∷ ns) h = first-late ns (h .1)
 first-late (suc n ∷ ns) h = h .0
@@ -49,7 +49,7 @@ corners-late ts us [] = λ some. absurd (omega arith)
 corners-late ts us (k ∷ ks) =
     first-late _ (corner-late ts us k, (corners-late (withNew ts (k .vertex)) (withNew (withNew us (k .edge .a .area)) (k .edge .b .area)) ks, tt))
 
-polygon-late : (lo size : Floats) (ts us : List ℕ) (start : ℕ) (p : Polygon) → Late (polygonFault lo size ts us start p)
+polygon-late : (lo size : Floats) (ts us : List ℕ) (start : ℕ) (p : NavPoly) → Late (polygonFault lo size ts us start p)
 unfolding polygonFault
 polygon-late lo size ts us start p =
     first-late _ (
@@ -73,7 +73,7 @@ unfolding at
 twin-at place zero v w h t = t
 twin-at place (suc n) v w h t = late-twin (suc n) place (refused (suc n) place) (h (omega arith))
 
-polygons-twin : (lo size : Floats) (ts us : List ℕ) (start k : ℕ) (ps : List Polygon) (v w : Verdict) → Twin v w
+polygons-twin : (lo size : Floats) (ts us : List ℕ) (start k : ℕ) (ps : List NavPoly) (v w : Verdict) → Twin v w
     → Twin (polygonsVerdict lo size ts us start k ps v) (polygonsVerdict lo size ts us start k ps w)
 unfolding polygonsVerdict
 polygons-twin lo size ts us start k [] v w t = t
@@ -89,8 +89,8 @@ leaves-twin k (n ∷ ns) v w t = twin-at k _ _ _ (leaf-late n) (leaves-twin (k +
 
 -- 19, 20 and 2, where w's output is long enough
 last-twin : (a b short fits : Bool) → fits ≡ false
-    → Twin (at 0 (first (when a 19 ∷ when b 20 ∷ when short 2 ∷ [])) fine) (at 0 (first (when a 19 ∷ when b 20 ∷ when fits 2 ∷ [])) fine)
-unfolding at first
+    → Twin (at 0 (firstFault (faultIf a 19 ∷ faultIf b 20 ∷ faultIf short 2 ∷ [])) fine) (at 0 (firstFault (faultIf a 19 ∷ faultIf b 20 ∷ faultIf fits 2 ∷ [])) fine)
+unfolding at firstFault
 last-twin a b short true e = absurd (true≢false e)
 last-twin true b short false e = late-twin 19 0 _ (omega arith)
 last-twin false true short false e = late-twin 20 0 _ (omega arith)
@@ -98,10 +98,10 @@ last-twin false false true false e = λ number place f few. (cc, refl)
 last-twin false false false false e = λ number place f few. let z : _≡_ {A = ℕ} 0 1 = cc in absurd (omega arith)
 
 -- 1, 10 and 11, where the work is long enough
-first-three : (a b d : Bool) → a ≡ false → Late (first (when a 1 ∷ when b 10 ∷ when d 11 ∷ []))
-unfolding first
+first-three : (a b d : Bool) → a ≡ false → Late (firstFault (faultIf a 1 ∷ faultIf b 10 ∷ faultIf d 11 ∷ []))
+unfolding firstFault
 first-three true b d e = absurd (true≢false e)
-first-three false b d e = first-late (when b 10 ∷ when d 11 ∷ []) (when-late b 10 (omega arith), (when-late d 11 (omega arith), tt))
+first-three false b d e = first-late (faultIf b 10 ∷ faultIf d 11 ∷ []) (when-late b 10 (omega arith), (when-late d 11 (omega arith), tt))
 
 -- ---- the cell
 

@@ -11,7 +11,7 @@ use Rattle.blocks.specs.Lists.{partCount, listSizes}
 use Rattle.pages.specs.Items.{Corner, boxOf, triples}
 use Rattle.pages.specs.Optional.{sizeOf}
 use Rattle.pages.specs.Sectors as Sectors
-use Rattle.pages.specs.Sectors.{idsOf, treeOf, pointCount, depthBy, depthOf, rootBox}
+use Rattle.pages.specs.Sectors.{leafIds, treeOf, pointCount, depthBy, depthOf, rootBox}
 use Rattle.pages.specs.Pages as Pages
 use Rattle.pages.specs.Pages.{allCorners, loOf, extentOf, vertices, links, sectors, sizesOf, sizes, pages}
 use Rattle.pages.specs.Reread.{reread}
@@ -20,7 +20,7 @@ use Rattle.pages.proofs.Placed.{few-corners, at-most-200, pages-placed}
 use Rattle.pages.proofs.Sizes.{pages-length}
 use Rattle.quadtree.proofs.Picks.{ids-few}
 use Rattle.sectors.proofs.Cell.{few-points, cell-leaves}
-use Rattle.front.specs.Ends.{sum}
+use Rattle.front.specs.Ends.{sumOf}
 use Rattle.front.proofs.Behind.{end-sum, sum-append}
 use Rattle.front.proofs.Cells.{sum-some, sum-tree}
 use Rattle.rooms.specs.Rooms.{pagesRoom, stripRoom}
@@ -39,7 +39,7 @@ unfolding sectors treeOf
 sectors-most c =
     let h = c .head in
     let p : ℕ = length (c .polys) in
-    let few : (q : QuarterBox) → length (idsOf q 0 (map boxOf (c .polys))) ≤ p = λ q. omega (arith, ids-few q 0 (map boxOf (c .polys)), length-map (c .polys) boxOf) in
+    let few : (q : QuarterBox) → length (leafIds q 0 (map boxOf (c .polys))) ≤ p = λ q. omega (arith, ids-few q 0 (map boxOf (c .polys)), length-map (c .polys) boxOf) in
     let b : most (Sectors.sizes (sectors c)) ≤ treeMost p (depthOf h) + 16 * pointCount (sectors c) = tree-most _ _ p few (depthOf h) 0 (rootBox h) in
     omega (arith, tree-deep p (h .content / 2 ^ 2 % 2))
 
@@ -110,7 +110,7 @@ module _ (c : Cell) where
         arith,
         pages-length c,
         end-sum 0 (sizes c),
-        parts sum sum-append v i p q l (Sectors.sizes (sectors c)),
+        parts sumOf sum-append v i p q l (Sectors.sizes (sectors c)),
         list-sum 2 i (omega arith),
         list-sum 8 i (omega arith),
         list-sum 48 p (omega arith),

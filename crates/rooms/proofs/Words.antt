@@ -5,7 +5,7 @@ use mathlib.Core.List.{List, [], _∷_, _++_, map}
 use native.Mathlib.Omega.{arith}
 use lib.ListN.{length, length-append, length-map}
 use Rattle.math.specs.declared.vec3.Vec3.{Vec3 as Floats}
-use Rattle.strip.specs.Cell.{Polygon, Cell, vecWords, edgeWords, each, headWords, polygonHeadAs, polygonWordsAs, polygonWords, portalWords, pointWords, endWords, encodeAs, encode}
+use Rattle.strip.specs.Cell.{NavPoly, Cell, vecWords, edgeWords, each, headWords, polygonHeadAs, polygonWordsAs, polygonWords, portalWords, pointWords, endWords, encodeAs, encode}
 use Rattle.records.proofs.Items.{length-each}
 use Rattle.records.proofs.Stores.{portal-length}
 use Rattle.sector_tree.proofs.Stores.{point-length}
@@ -21,7 +21,7 @@ use Rattle.pages.proofs.Stored.{length-preorder}
 
 -- ---- polygons
 
-polygon-words : (p : Polygon) → length (polygonWords p) ≡ 4 + length (p .links) + 3 * length (p .vertices) + 6 * length (p .edges)
+polygon-words : (p : NavPoly) → length (polygonWords p) ≡ 4 + length (p .links) + 3 * length (p .vertices) + 6 * length (p .edges)
 unfolding polygonWordsAs
 polygon-words p =
     let front = polygonHeadAs 2 p ∷ p .flags0 ∷ p .flags1 ∷ p .flags2 ∷ p .links in
@@ -29,10 +29,10 @@ polygon-words p =
     omega (arith, length-append (front ++ vs) (each edgeWords (p .edges)), length-append front vs, length-each vecWords 3 vec-three (p .vertices), length-each edgeWords 6 edge-six (p .edges))
 
 module _ (lo size : Floats) where
-  corner-count : (p : Polygon) → length (cornersIn lo size p) ≡ length (p .vertices)
+  corner-count : (p : NavPoly) → length (cornersIn lo size p) ≡ length (p .vertices)
   corner-count p = length-corners lo size (p .vertices) (p .edges)
 
-  polygons-words : (ps : List Polygon)
+  polygons-words : (ps : List NavPoly)
       → length (each polygonWords ps) ≡ 4 * length ps + length (linksOf ps) + 3 * length (corners lo size ps) + 6 * length (gather (λ p. p .edges) ps)
   unfolding each gather
   polygons-words [] = omega arith
@@ -42,22 +42,22 @@ module _ (lo size : Floats) where
         length-append (polygonWords p) (each polygonWords ps),
         length-append (p .links) (linksOf ps),
         length-append (cornersIn lo size p) (corners lo size ps),
-        length-append (p .edges) (gather (λ (q : Polygon). q .edges) ps),
+        length-append (p .edges) (gather (λ (q : NavPoly). q .edges) ps),
         polygon-words p,
         corner-count p,
         polygons-words ps,
       )
 
   -- each of the polygons that are checked has three vertices
-  pub three-corners : (start : ℕ) (ps : List Polygon) → AllChecked start ps → 3 * length ps ≤ length (corners lo size ps)
+  pub three-corners : (start : ℕ) (ps : List NavPoly) → AllChecked start ps → 3 * length ps ≤ length (corners lo size ps)
   unfolding gather
   three-corners start [] h = omega arith
   three-corners start (p ∷ ps) h =
       omega (arith, length-append (cornersIn lo size p) (corners lo size ps), corner-count p, h .0 .least-vertices, three-corners (start + length (p .vertices)) ps (h .1))
 
 -- what is gathered of the polygons that are made of others
-gather-made : {A B : Type 0} (f : Polygon → List A) (g : Polygon → List B) (make : Polygon → Polygon) → ((p : Polygon) → length (f (make p)) ≡ length (g p))
-    → (ps : List Polygon) → length (gather f (map make ps)) ≡ length (gather g ps)
+gather-made : {A B : Type 0} (f : NavPoly → List A) (g : NavPoly → List B) (make : NavPoly → NavPoly) → ((p : NavPoly) → length (f (make p)) ≡ length (g p))
+    → (ps : List NavPoly) → length (gather f (map make ps)) ≡ length (gather g ps)
 unfolding gather
 gather-made f g make same [] = refl
 gather-made f g make same (p ∷ ps) =
@@ -92,7 +92,7 @@ module _ (c : Cell) where
       let ks : length (corners lo size (map again (c .polys))) ≡ length (corners lo size (c .polys)) =
       gather-made (cornersIn lo size) (cornersIn lo size) again
       (λ p. corner-count lo size (again p) ∙ length-map (p .vertices) (positionAgain lo size) ∙ sym (corner-count lo size p)) (c .polys) in
-      let es : length (gather (λ (p : Polygon). p .edges) (map again (c .polys))) ≡ length (corners lo size (c .polys)) =
+      let es : length (gather (λ (p : NavPoly). p .edges) (map again (c .polys))) ≡ length (corners lo size (c .polys)) =
       gather-made (λ p. p .edges) (cornersIn lo size) again (λ p. length-map (cornersIn lo size p) (λ k. edgeAgain (k .edge))) (c .polys) in
       omega (
         arith,

@@ -3,7 +3,7 @@ use native.Mathlib.Omega.{arith}
 use mathlib.Core.Path.{_≡_, refl, _∙_}
 use lib.ListN.{length-map}
 use Rattle.math.specs.declared.vec3.Vec3.{Vec3 as Floats}
-use Rattle.strip.specs.Cell.{Half, Edge, Polygon, Portal, Point, Cell, HalfFits, EdgeFits, PolygonFits, PortalFits, PointFits, Fits, encode}
+use Rattle.strip.specs.Cell.{NavEdgeEnd, NavEdge, NavPoly, NavPortal, NavPoint, Cell, HalfFits, EdgeFits, PolygonFits, PortalFits, PointFits, Fits, encode}
 use Rattle.strip.specs.Scan.{Scanned, scan}
 use Rattle.strip.proofs.Exact.{scan-fits}
 use Rattle.strip.proofs.Alls.{all-map, all-images}
@@ -14,17 +14,17 @@ use Rattle.pages.specs.Reread.{halfAgain, edgeAgain, positionAgain, polygonAgai
 use Rattle.pages.proofs.Placed.{length-corners}
 use Rattle.readback.proofs.Root.{sectors-points}
 
-half-fits : (h : Half) → HalfFits (halfAgain h)
+half-fits : (h : NavEdgeEnd) → HalfFits (halfAgain h)
 unfolding halfAgain
 half-fits h = record { unk3 = omega arith; unk2 = omega arith }
 
-edge-fits : (e : Edge) → EdgeFits (edgeAgain e)
+edge-fits : (e : NavEdge) → EdgeFits (edgeAgain e)
 unfolding edgeAgain
 edge-fits e = record { a = half-fits (e .a); b = half-fits (e .b) }
 
 module _ (lo size : Floats) where
   -- as many edges as vertices
-  polygon-fits : (p : Polygon) → PolygonFits p → PolygonFits (polygonAgain lo size p)
+  polygon-fits : (p : NavPoly) → PolygonFits p → PolygonFits (polygonAgain lo size p)
   unfolding polygonAgain
   polygon-fits p f =
       let vertices = length-map (p .vertices) (positionAgain lo size) in
@@ -38,7 +38,7 @@ module _ (lo size : Floats) where
         edges = all-images EdgeFits (λ k. edgeAgain (k .edge)) (λ k. edge-fits (k .edge)) (cornersIn lo size p);
       }
 
-  portal-fits : (p : Portal) → PortalFits p → PortalFits (portalAgain lo size p)
+  portal-fits : (p : NavPortal) → PortalFits p → PortalFits (portalAgain lo size p)
   unfolding portalAgain
   portal-fits p f = record {
     kind = f .kind;
@@ -49,7 +49,7 @@ module _ (lo size : Floats) where
     area-unk = omega arith;
   }
 
-  point-fits : (t : Point) → PointFits t → PointFits (pointAgain lo size t)
+  point-fits : (t : NavPoint) → PointFits t → PointFits (pointAgain lo size t)
   unfolding pointAgain
   point-fits t f = record { angle = f .angle; kind = f .kind }
 

@@ -1,17 +1,18 @@
 -- The two calls one after the other. Where the writer accepts (`saved`, by its own theorem), the lent pages as they are then (`behind-stays`) open again
--- (`opened`), and the strip that is read has what has to be kept (`returned`): for every strip of words, work, pages, graphics section and lent strip.
+-- (`opened`), and the strip that is read has what has to be kept (`returned`); and so do exactly as many of their bytes as the writer says, which is what
+-- a file holds (`file-is`, `file-opened`, `file-returned`): for every strip of words, work, pages, graphics section and lent strip.
 -- Assumes nothing.
 use Prim.Native.Nat.{ℕ, _≤_, _<_}
 use native.Mathlib.Omega.{arith}
 use mathlib.Core.Path.{_≡_, refl, sym, ap, _∙_}
 use mathlib.Core.Bool.{Bool, true, false}
-use mathlib.Core.List.{List, [], _∷_, _++_, map}
+use mathlib.Core.List.{List, [], _∷_, _++_, map, append-nil}
 use mathlib.Core.Logic.{_⊎_, inl, inr, ⊎-elim}
 use lib.Dec.{leb}
 use lib.ListN.{length, take, drop}
 use lib.Seq.{take-append-seam}
 use borrow.Author.Tests.{leb-true, leb-false}
-use Rattle.strip.specs.Cell.{Portal, Cell, Words, InRange, encode}
+use Rattle.strip.specs.Cell.{NavPortal, Cell, Words, InRange, encode}
 use Rattle.strip.specs.Outcome.{Outcome, values, refusal, shown, left}
 use Rattle.strip.specs.Outcome as Outcome
 use Rattle.strip.proofs.Exact.{scan-exact}
@@ -27,10 +28,11 @@ use Rattle.pages.specs.Reread.{portalAgain, pointAgain, reread}
 use Rattle.pages.specs.Accepted.{Accepted}
 use Rattle.pages.proofs.Accepted.{accepted}
 use Rattle.ynv_write.specs.declared.Written.{Written}
-use Rattle.ynv_write.proofs.Theorems.{Accepts, accepted-exactly}
+use Rattle.ynv_write.specs.Theorems.{Accepts}
+use Rattle.ynv_write.proofs.Theorems.{accepted-exactly}
 use Rattle.readback.proofs.Whole.{makes}
 use Rattle.readback.proofs.Kept.{reread-kept}
-use Rattle.roundtrip.specs.RoundTrip.{saving, savedPages, withPages, opening, openedStrip, Opened, KeptPortal, KeptPoint, Returned}
+use Rattle.roundtrip.specs.RoundTrip.{saving, savedPages, savedFile, withPages, opening, openedStrip, Opened, KeptPortal, KeptPoint, Returned}
 use Rattle.roundtrip.proofs.Formed.{reread-scans}
 
 -- ---- portals and points of the cell that is read again
@@ -43,7 +45,7 @@ portals-kept : (c : Cell) → Each KeptPortal (c .portals) (reread c .portals)
 unfolding reread portalAgain
 portals-kept c = each-image KeptPortal (portalAgain (loOf c) (extentOf c)) one (c .portals)
   where
-    one : (p : Portal) → KeptPortal p (portalAgain (loOf c) (extentOf c) p)
+    one : (p : NavPortal) → KeptPortal p (portalAgain (loOf c) (extentOf c) p)
     one p = record {
       kind = refl;
       angle = refl;
@@ -148,6 +150,16 @@ module _ (strip : List ℕ) (work : ℕ) (old : List ℕ) (words : Words strip) 
   pub length-is : v .length ≡ length (pages (saved .cell))
   length-is = ap (λ (w : Written). w .length) (saved .length-told)
 
+  -- as many bytes as that, and no more, are the cell's pages
+  pub file-is : savedFile strip work old v ≡ pages (saved .cell)
+  file-is =
+      ap (take (v .length)) behind-stays
+      ∙ ap (λ (k : ℕ). take k (withPages (saved .cell) old)) length-is
+      ∙ take-append-seam (pages (saved .cell)) (drop (length (pages (saved .cell))) old)
+
+  file-alone : savedFile strip work old v ≡ pages (saved .cell) ++ []
+  file-alone = file-is ∙ sym (append-nil (pages (saved .cell)))
+
   -- those pages are read, with any graphics section, into a lent strip
   module _ (graphics lent : List ℕ) where
     range : InRange (saved .cell)
@@ -162,3 +174,11 @@ module _ (strip : List ℕ) (work : ℕ) (old : List ℕ) (words : Words strip) 
     pub returned : (p : Parsed) → shown (opening (savedPages strip work old) graphics lent) ≡ values p
         → Returned (saved .cell) p (take (p .words) (openedStrip (savedPages strip work old) graphics lent))
     returned = rw behind-stays (returns (saved .cell) range (saved .accepted) tail graphics lent)
+
+    -- and so is the file
+    pub file-opened : Opened (saved .cell) (savedFile strip work old v) graphics lent
+    file-opened = rw file-alone (opens (saved .cell) range (saved .accepted) [] graphics lent)
+
+    pub file-returned : (p : Parsed) → shown (opening (savedFile strip work old v) graphics lent) ≡ values p
+        → Returned (saved .cell) p (take (p .words) (openedStrip (savedFile strip work old v) graphics lent))
+    file-returned = rw file-alone (returns (saved .cell) range (saved .accepted) [] graphics lent)

@@ -3,8 +3,8 @@
 use Prim.Native.Nat.{ℕ, _%_, _^_, _≤_, _<_}
 use mathlib.Core.Path.{_≡_}
 use mathlib.Core.List.{List, _++_}
-use lib.ListN.{length, drop}
-use Rattle.strip.specs.Cell.{Portal, Point, Cell, encode}
+use lib.ListN.{length, take, drop}
+use Rattle.strip.specs.Cell.{NavPortal, NavPoint, Cell, encode}
 use Rattle.strip.specs.Scan.{Scanned, scan}
 use Rattle.strip.specs.Outcome.{Outcome, values, refusal, shown, left}
 use Rattle.grammar.specs.Polygons.{Each}
@@ -13,7 +13,7 @@ use Rattle.ynv_read.specs.Parse.{countsOf, parseOutcome}
 use Rattle.pages.specs.Sectors.{sectorCount, preorder}
 use Rattle.pages.specs.Pages.{sectors, pages}
 use Rattle.pages.specs.Reread.{reread}
-use Rattle.readback.specs.Kept.{Kept}
+use Rattle.readback.specs.Kept.{PolygonKept}
 use Rattle.ynv_write.specs.declared.Written.{Written}
 use Rattle.ynv_write.specs.Serialize.{serializeOutcome}
 
@@ -27,6 +27,10 @@ module _ (strip : List ℕ) (work : ℕ) (old : List ℕ) where
   -- the lent pages when it returns, with whatever stands behind what was written
   abbrev pub savedPages : List ℕ
   savedPages = left saving old
+
+  -- what a file holds of them: as many bytes as the writer says
+  abbrev pub savedFile : Written → List ℕ
+  savedFile v = take (v .length) savedPages
 
 -- What reading the pages decides, with any graphics section, into a lent strip; and that strip when it returns.
 module _ (pages graphics lent : List ℕ) where
@@ -51,7 +55,7 @@ pub record Opened (c : Cell) (saved graphics lent : List ℕ) : Type 0 where
   pub no-other : (number place : ℕ) → shown (opening saved graphics lent) ≡ refusal number place → (number ≡ 2) × (place ≡ 0)
 
 -- a portal p that was saved, read as q: areas are cut to their bits
-pub record KeptPortal (p q : Portal) : Type 0 where
+pub record KeptPortal (p q : NavPortal) : Type 0 where
   pub kind : q .kind ≡ p .kind
   pub angle : q .angle ≡ p .angle
   pub flags-unk : q .flags-unk ≡ p .flags-unk
@@ -61,7 +65,7 @@ pub record KeptPortal (p q : Portal) : Type 0 where
   pub area-to : q .area-to ≡ p .area-to % 2 ^ 14
   pub area-unk : q .area-unk ≡ p .area-unk % 2 ^ 4
 
-pub record KeptPoint (p q : Point) : Type 0 where
+pub record KeptPoint (p q : NavPoint) : Type 0 where
   pub angle : q .angle ≡ p .angle
   pub kind : q .kind ≡ p .kind
 
@@ -73,7 +77,7 @@ pub record Returned (c : Cell) (p : Parsed) (w : List ℕ) : Type 0 where
   -- content flags, area id, version, vft and box
   pub head : cell .head ≡ c .head
   -- every polygon in order, with flags, vertex count, links and edges
-  pub polygons : Each Kept (c .polys) (cell .polys)
+  pub polygons : Each PolygonKept (c .polys) (cell .polys)
   pub portals : Each KeptPortal (c .portals) (cell .portals)
   -- points leaf by leaf; one in no leaf is gone
   pub points : Each KeptPoint (preorder (sectors c)) (cell .points)

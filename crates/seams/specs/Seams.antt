@@ -3,7 +3,7 @@ use Prim.Native.Nat.{ℕ, _+_, _-_}
 use mathlib.Core.List.{List, [], _∷_}
 use mathlib.Core.Bool.{Bool, true, false, _||_}
 use lib.Dec.{eqb}
-use Rattle.strip.specs.Cell.{Cell, Half, Edge, Polygon}
+use Rattle.strip.specs.Cell.{Cell, NavEdgeEnd, NavEdge, NavPoly}
 use Rattle.strip.specs.Scan.{scan}
 use Rattle.strip.specs.Outcome.{Outcome, done, Paper, values, refusalOf}
 use Rattle.strip.specs.Check.{onCell}
@@ -19,7 +19,7 @@ unfoldable pub touch : ℕ → ℕ → Bool
 touch a b = eqb (apart a b) 1 || eqb (apart a b) 100
 
 -- which halves are counted in the cell of an area
-unfoldable pub counted : ℕ → Half → Bool
+unfoldable pub counted : ℕ → NavEdgeEnd → Bool
 counted own h = touch own (h .area)
 
 abbrev pub one : Bool → ℕ
@@ -27,11 +27,11 @@ one true = 1
 one false = 0
 
 -- how many halves pass a test, of edges and of polygons
-unfoldable pub edgeCount : (Half → Bool) → List Edge → ℕ
+unfoldable pub edgeCount : (NavEdgeEnd → Bool) → List NavEdge → ℕ
 edgeCount test [] = 0
 edgeCount test (e ∷ es) = one (test (e .a)) + one (test (e .b)) + edgeCount test es
 
-unfoldable pub halfCount : (Half → Bool) → List Polygon → ℕ
+unfoldable pub halfCount : (NavEdgeEnd → Bool) → List NavPoly → ℕ
 halfCount test [] = 0
 halfCount test (p ∷ ps) = edgeCount test (p .edges) + halfCount test ps
 

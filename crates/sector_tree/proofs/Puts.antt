@@ -6,10 +6,10 @@ use mathlib.Core.Path.{_≡_, refl, sym, _∙_}
 use mathlib.Core.Bool.{Bool, true, false}
 use mathlib.Core.List.{List, [], _∷_, _++_, append-nil}
 use lib.ListN.{length, length-append}
-use Rattle.fields.specs.Bytes.{le, put}
+use Rattle.fields.specs.Bytes.{leAt, put}
 use Rattle.resource.specs.Section.{good, resolved}
 use Rattle.grammar.specs.Trees.{subsTo}
-use Rattle.sector_tree.specs.declared.Spot.{Spot}
+use Rattle.sector_tree.specs.declared.TreeCursor.{TreeCursor}
 use Rattle.sector_tree.specs.Sector.{pointsOf, goodData}
 use Rattle.sector_tree.specs.Walk.{Walked, also, checked, sectorAt, walk}
 use Rattle.sector_tree.specs.Walk.Walked.{done, refused}
@@ -28,7 +28,7 @@ done-also qs (refused x) e = absurd (never e)
 done-also qs (done k rs) e = (rs, cc, cc)
 
 -- what is written by the first of two calls and by the second
-pub stands-both : {l at next : ℕ} (qs : List (List ℕ)) {ps rs : List (List ℕ)} {old mid new : List ℕ} {r : Spot}
+pub stands-both : {l at next : ℕ} (qs : List (List ℕ)) {ps rs : List (List ℕ)} {old mid new : List ℕ} {r : TreeCursor}
     → ps ≡ qs ++ rs → next ≡ at + 4 * length qs → mid ≡ put at (pointsWords asShorts qs) old → Stands l rs next mid r new → Stands l ps at old r new
 stands-both {at = at} qs {rs = rs} {old = old} e f g s =
     record {
@@ -70,7 +70,7 @@ module _ (system graphics : List ℕ) where
   done-onward (refused x) t e = absurd (never e)
   done-onward (done k qs) t e = let (rs, d, i) = done-also qs (walk system graphics k t) e in (k, qs, rs, refl, d, i)
 
-  pub split : (left i : ℕ) {va l : ℕ} {s : List ℕ} {ps : List (List ℕ)} → (i ≡ 0 → ⊥) → va ≡ le 8 s (0x34 + 8 * (i - 1)) → (va ≡ 0 → ⊥)
+  pub split : (left i : ℕ) {va l : ℕ} {s : List ℕ} {ps : List (List ℕ)} → (i ≡ 0 → ⊥) → va ≡ leAt 8 s (0x34 + 8 * (i - 1)) → (va ≡ 0 → ⊥)
       → walk system graphics left (subsTo s i) ≡ done l ps → Split left i va l s ps
   split left i {va} {s = s} some ev there e =
       let h = rw (subs-at s i some ev there, walk-append system graphics left (va ∷ []) (subsTo s (i - 1))) at e in
@@ -96,7 +96,7 @@ module _ (system graphics : List ℕ) where
         let h : at + 4 * (length (pointsOf system graphics s) + length (i .rest)) ≤ n = rw (i .is, length-append) at (f .room) in
         record { left = f .left; points = i .rest; is = i .subs; room = omega arith }
 
-    pub tree-written : {at next : ℕ} {old mid new : List ℕ} {r : Spot} → next ≡ at + 4 * length (pointsOf system graphics s)
+    pub tree-written : {at next : ℕ} {old mid new : List ℕ} {r : TreeCursor} → next ≡ at + 4 * length (pointsOf system graphics s)
         → mid ≡ put at (pointsWords asShorts (pointsOf system graphics s)) old → Written (walk system graphics (left - 1) (subsTo s 4)) next mid r new
         → Written (walk system graphics left (va ∷ [])) at old r new
     tree-written e f w l ps h = let i = inside left va es h in stands-both (pointsOf system graphics s) (i .is) e f (w l (i .rest) (i .subs))
@@ -109,11 +109,11 @@ module _ (system graphics : List ℕ) where
         let p : ps ≡ [] = cc in
         record { left = (cc); at = rw (p, add-zero); strip = rw p (sym (put-none asShorts at old)) }
 
-    module _ {va : ℕ} (some : i ≡ 0 → ⊥) (ev : va ≡ le 8 s (0x34 + 8 * (i - 1))) where
+    module _ {va : ℕ} (some : i ≡ 0 → ⊥) (ev : va ≡ leAt 8 s (0x34 + 8 * (i - 1))) where
       pub skip-fits : {at n : ℕ} → va ≡ 0 → Fits (walk system graphics left (subsTo s i)) at n → Fits (walk system graphics left (subsTo s (i - 1))) at n
       skip-fits z f = rw (subs-skip s i some ev z) at f
 
-      pub skip-written : {at : ℕ} {old new : List ℕ} {r : Spot} → va ≡ 0
+      pub skip-written : {at : ℕ} {old new : List ℕ} {r : TreeCursor} → va ≡ 0
           → Written (walk system graphics left (subsTo s (i - 1))) at old r new → Written (walk system graphics left (subsTo s i)) at old r new
       skip-written z w l ps e = w l ps (rw (subs-skip s i some ev z) at e)
 
@@ -124,7 +124,7 @@ module _ (system graphics : List ℕ) where
             let h : at + 4 * (length (p .first) + length (p .rest)) ≤ n = rw (p .is, length-append) at (f .room) in
             record { left = p .between; points = p .first; is = p .tree; room = omega arith }
 
-        pub rest-fits : {at m n : ℕ} {old mid : List ℕ} {r : Spot} → Fits (walk system graphics left (subsTo s i)) at n
+        pub rest-fits : {at m n : ℕ} {old mid : List ℕ} {r : TreeCursor} → Fits (walk system graphics left (subsTo s i)) at n
             → Written (walk system graphics left (va ∷ [])) at old r mid → m ≡ n
             → (r .left ≤ left) × Fits (walk system graphics (r .left) (subsTo s (i - 1))) (r .at) m
         rest-fits {at} {n = n} {r = r} f w k =
@@ -133,7 +133,7 @@ module _ (system graphics : List ℕ) where
             let h : at + 4 * (length (p .first) + length (p .rest)) ≤ n = rw (p .is, length-append) at (f .room) in
             (rw (t .left) (p .spent), record { left = f .left; points = p .rest; is = rw (t .left) (p .subs); room = rw (t .at, k) (omega arith) })
 
-        pub subs-written : {at : ℕ} {old mid new : List ℕ} {q r : Spot} → Written (walk system graphics left (va ∷ [])) at old q mid
+        pub subs-written : {at : ℕ} {old mid new : List ℕ} {q r : TreeCursor} → Written (walk system graphics left (va ∷ [])) at old q mid
             → Written (walk system graphics (q .left) (subsTo s (i - 1))) (q .at) mid r new → Written (walk system graphics left (subsTo s i)) at old r new
         subs-written v w l ps e =
             let p = split left i some ev there e in
@@ -146,13 +146,13 @@ module _ (system graphics : List ℕ) where
     pub spent : l ≤ left
     pub long : length out ≡ length old
     pub fits : Fits (walk system graphics l (subsTo s i)) e (length out)
-    pub then : (r : Spot) (new : List ℕ) → Written (walk system graphics l (subsTo s i)) e out r new → Written (walk system graphics left (subsTo s 4)) at old r new
+    pub then : (r : TreeCursor) (new : List ℕ) → Written (walk system graphics l (subsTo s i)) e out r new → Written (walk system graphics left (subsTo s 4)) at old r new
 
   pub rest-end : {s old out : List ℕ} {left at l e i : ℕ} → Rest s left at old l e out i → i ≤ 0
       → Written (walk system graphics left (subsTo s 4)) at old (record { left = l; at = e }) out
   rest-end {s} {out = out} {l = l} {e = e} {i = i} k h = k .then _ _ (none-written l i s e out (omega arith))
 
-  module _ {s old out : List ℕ} {left at l e i : ℕ} (k : Rest s left at old l e out i) (some : 0 < i) {va : ℕ} (ev : va ≡ le 8 s (0x34 + 8 * (i - 1))) where
+  module _ {s old out : List ℕ} {left at l e i : ℕ} (k : Rest s left at old l e out i) (some : 0 < i) {va : ℕ} (ev : va ≡ leAt 8 s (0x34 + 8 * (i - 1))) where
     none : i ≡ 0 → ⊥
     none z = omega arith
 
@@ -170,7 +170,7 @@ module _ (system graphics : List ℕ) where
     pub rest-tree : (va ≡ 0 → ⊥) → Fits (walk system graphics l (va ∷ [])) e (length out)
     rest-tree there = tree-fits l i s none ev there (k .fits)
 
-    pub rest-next : (va ≡ 0 → ⊥) → {q : Spot} {mid : List ℕ} → Written (walk system graphics l (va ∷ [])) e out q mid → length mid ≡ length out
+    pub rest-next : (va ≡ 0 → ⊥) → {q : TreeCursor} {mid : List ℕ} → Written (walk system graphics l (va ∷ [])) e out q mid → length mid ≡ length out
         → Rest s left at old (q .left) (q .at) mid (i - 1)
     rest-next there v same =
         let f = k .few in

@@ -2,7 +2,7 @@
 use Prim.Native.Nat.{ℕ, _<_}
 use mathlib.Core.Path.{_≡_}
 use mathlib.Core.List.{List}
-use Rattle.fields.specs.Bytes.{le}
+use Rattle.fields.specs.Bytes.{leAt}
 use Rattle.fields.proofs.Bytes.{le-lt}
 use Rattle.strip.specs.Cell.{All}
 use Rattle.strip.proofs.Alls.{all-imply}
@@ -14,7 +14,7 @@ use Rattle.sector_tree.proofs.Exact.{walk-sound}
 
 -- the three shorts of a point
 abbrev pub Shorts : List ℕ → Type 0
-Shorts p = (le 2 p 0 < 65536) × (le 2 p 2 < 65536) × (le 2 p 4 < 65536)
+Shorts p = (leAt 2 p 0 < 65536) × (leAt 2 p 2 < 65536) × (leAt 2 p 4 < 65536)
 
 shorts-of : (p : List ℕ) → Bytes p → Shorts p
 shorts-of p b = (le-lt 2 p 0 b, le-lt 2 p 2 b, le-lt 2 p 4 b)

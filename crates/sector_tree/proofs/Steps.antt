@@ -7,7 +7,7 @@ use mathlib.Core.Path.{_≡_, refl, sym, subst, _∙_}
 use mathlib.Core.Bool.{Bool, true, false}
 use mathlib.Core.List.{List, [], _∷_, _++_, append-nil}
 use lib.ListN.{length, length-append}
-use Rattle.fields.specs.Bytes.{le}
+use Rattle.fields.specs.Bytes.{leAt}
 use Rattle.resource.specs.Section.{good, resolved}
 use Rattle.resource.proofs.Parts.{short-bad, full-good}
 use Rattle.grammar.specs.Trees.{keep, subsTo}
@@ -25,7 +25,7 @@ counted-also : (p : ℕ) (ps : List (List ℕ)) (w : Walked) → counted p (also
 counted-also p ps (done l qs) = rw (length-append, add-assoc)
 counted-also p ps (refused e) = refl
 
-subs-step : (s : List ℕ) (i : ℕ) → (i ≡ 0 → ⊥) → subsTo s i ≡ keep (le 8 s (0x34 + 8 * (i - 1))) (subsTo s (i - 1))
+subs-step : (s : List ℕ) (i : ℕ) → (i ≡ 0 → ⊥) → subsTo s i ≡ keep (leAt 8 s (0x34 + 8 * (i - 1))) (subsTo s (i - 1))
 unfolding subsTo
 subs-step s zero h = absurd (h refl)
 subs-step s (suc i) h = rw sub-one
@@ -35,10 +35,10 @@ keep-more zero t h = absurd (h refl)
 keep-more (suc a) t h = refl
 
 -- the first i subs, where the last of them is at va
-pub subs-skip : (s : List ℕ) (i : ℕ) {va : ℕ} → (i ≡ 0 → ⊥) → va ≡ le 8 s (0x34 + 8 * (i - 1)) → va ≡ 0 → subsTo s i ≡ subsTo s (i - 1)
+pub subs-skip : (s : List ℕ) (i : ℕ) {va : ℕ} → (i ≡ 0 → ⊥) → va ≡ leAt 8 s (0x34 + 8 * (i - 1)) → va ≡ 0 → subsTo s i ≡ subsTo s (i - 1)
 subs-skip s i h e z = rw (subs-step s i h, ← e, z)
 
-pub subs-at : (s : List ℕ) (i : ℕ) {va : ℕ} → (i ≡ 0 → ⊥) → va ≡ le 8 s (0x34 + 8 * (i - 1)) → (va ≡ 0 → ⊥) → subsTo s i ≡ va ∷ subsTo s (i - 1)
+pub subs-at : (s : List ℕ) (i : ℕ) {va : ℕ} → (i ≡ 0 → ⊥) → va ≡ leAt 8 s (0x34 + 8 * (i - 1)) → (va ≡ 0 → ⊥) → subsTo s i ≡ va ∷ subsTo s (i - 1)
 subs-at s i {va} h e z = rw (subs-step s i h, ← e) (keep-more va (subsTo s (i - 1)) z)
 
 found-bad : (b : Bool) (ps : List (List ℕ)) → foundOf b ps ≡ Bad → b ≡ false
@@ -114,7 +114,7 @@ module _ (system graphics : List ℕ) where
     unfolding subsTo
     no-subs z = record { is = rw (z, walk-none, add-zero); within = (le-refl _, le-refl _) }
 
-    module _ (some : i ≡ 0 → ⊥) {va : ℕ} (ev : va ≡ le 8 s (0x34 + 8 * (i - 1))) where
+    module _ (some : i ≡ 0 → ⊥) {va : ℕ} (ev : va ≡ leAt 8 s (0x34 + 8 * (i - 1))) where
       pub skip : {r : Walk} → va ≡ 0 → Counted (walk system graphics left (subsTo s (i - 1))) left points r → Counted (walk system graphics left (subsTo s i)) left points r
       skip z k = rw (subs-skip s i some ev z) k
 
@@ -142,7 +142,7 @@ module _ (system graphics : List ℕ) where
   pub turn-end : {s : List ℕ} {left points l p i : ℕ} → Turn s left points l p i → i ≤ 0 → Counted (walk system graphics left (subsTo s 4)) left points (Done l p)
   turn-end {s} {l = l} {p = p} {i = i} k h = k .then _ (no-subs s i l p (omega arith))
 
-  module _ {s : List ℕ} {left points l p i : ℕ} (k : Turn s left points l p i) (some : 0 < i) {va : ℕ} (ev : va ≡ le 8 s (0x34 + 8 * (i - 1))) where
+  module _ {s : List ℕ} {left points l p i : ℕ} (k : Turn s left points l p i) (some : 0 < i) {va : ℕ} (ev : va ≡ leAt 8 s (0x34 + 8 * (i - 1))) where
     none : i ≡ 0 → ⊥
     none z = omega arith
 

@@ -6,10 +6,10 @@ use native.Mathlib.Omega.{arith}
 use mathlib.Core.Path.{_≡_, refl, sym, ap, _∙_}
 use mathlib.Core.List.{List, [], _∷_, _++_, map, append-assoc}
 use lib.ListN.{length, length-map, set}
-use Rattle.fields.specs.Bytes.{le, put}
+use Rattle.fields.specs.Bytes.{leAt, put}
 use Rattle.fields.specs.Rows.{pack}
 use Rattle.fields.proofs.Puts.{put-nil, put-cons, put-next}
-use Rattle.strip.specs.Cell.{Vec3, Point, vecWords, each, pointWords}
+use Rattle.strip.specs.Cell.{Vec3, NavPoint, vecWords, each, pointWords}
 use Rattle.grammar.specs.Derives.{pointOf}
 use Rattle.records.proofs.Items.{length-each}
 use Rattle.sector_tree.specs.Write.{asShorts, pointsWords}
@@ -24,12 +24,12 @@ unfolding pack
 first-word a k h l = omega arith
 
 -- a point, its position as its shorts
-pub point-put : (at : ℕ) (b s : List ℕ) {a k x y z : ℕ} → a ≡ le 1 b 6 → k ≡ le 1 b 7 → x ≡ le 2 b 0 → y ≡ le 2 b 2 → z ≡ le 2 b 4 → a < 256 → k < 256
+pub point-put : (at : ℕ) (b s : List ℕ) {a k x y z : ℕ} → a ≡ leAt 1 b 6 → k ≡ leAt 1 b 7 → x ≡ leAt 2 b 0 → y ≡ leAt 2 b 2 → z ≡ leAt 2 b 4 → a < 256 → k < 256
     → set (set (set (set s at (0x4000_0000 + a + 0x100 * k)) (at + 1) x) (at + 2) y) (at + 3) z ≡ put at (pointWords (pointOf asShorts b)) s
 unfolding pointWords pointOf vecWords asShorts
 point-put at b s {a} {k} ea ek ex ey ez h l = four-put at _ _ _ _ s ∙ rw (← ea, ← ek, ← ex, ← ey, ← ez, first-word a k h l)
 
-pub point-length : (p : Point) → length (pointWords p) ≡ 4
+pub point-length : (p : NavPoint) → length (pointWords p) ≡ 4
 unfolding pointWords vecWords
 point-length p = refl
 

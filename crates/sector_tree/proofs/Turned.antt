@@ -4,15 +4,15 @@ use native.Mathlib.Nat.{mod-eq-of-lt}
 use native.Mathlib.Omega.{arith}
 use mathlib.Core.Path.{_≡_, sym, ap, _∙_}
 use mathlib.Core.List.{List, [], _∷_, _++_}
-use lib.ListN.{length, getD}
-use Rattle.fields.specs.Bytes.{le, over, put}
+use lib.ListN.{length}
+use Rattle.fields.specs.Bytes.{leAt, over, put}
 use Rattle.fields.proofs.Puts.{length-put, put-next, put-inside, stored}
 use Rattle.math.specs.declared.vec3.Vec3 as Floats
 use Rattle.strip.specs.Cell.{All, vecWords, pointWords}
 use Rattle.grammar.specs.Derives.{pointOf}
-use Rattle.records.specs.Back.{axisBits, backBy}
+use Rattle.records.specs.Back.{backBy}
 use Rattle.sector_tree.specs.Walk.{Walked}
-use Rattle.sector_tree.specs.declared.Spot.{Spot}
+use Rattle.sector_tree.specs.declared.TreeCursor.{TreeCursor}
 use Rattle.sector_tree.specs.Write.{asShorts, pointsWords, pointsIn, Fits, Written, turnedAt, turned}
 use Rattle.sector_tree.proofs.Shorts.{Shorts}
 use Rattle.sector_tree.proofs.Stores.{words-cons, words-next, put-none, point-length}
@@ -21,8 +21,8 @@ module _ (lo size : Floats.Vec3) where
   -- the record at a place, whatever follows it
   record-turned : (at h x y z : ℕ) (rest old : List ℕ) → at + 4 ≤ length old
       → turnedAt lo size at (put at (h ∷ x ∷ y ∷ z ∷ rest) old)
-      ≡ put at (h ∷ axisBits (x % 65536) (lo .x) (size .x) ∷ axisBits (y % 65536) (lo .y) (size .y) ∷ axisBits (z % 65536) (lo .z) (size .z) ∷ rest) old
-  unfolding turnedAt put over
+      ≡ put at (h ∷ (vecWords (backBy lo size (x % 65536) (y % 65536) (z % 65536)) ++ rest)) old
+  unfolding turnedAt put over vecWords
   record-turned at h x y z rest old room =
       let rec : List ℕ = h ∷ x ∷ y ∷ z ∷ rest in
       rw (stored at rec old 1 (omega arith) (omega arith), stored at rec old 2 (omega arith) (omega arith), stored at rec old 3 (omega arith) (omega arith))
@@ -32,7 +32,7 @@ module _ (lo size : Floats.Vec3) where
       → turnedAt lo size at (put at (pointWords (pointOf asShorts p) ++ rest) old) ≡ put at (pointWords (pointOf (backBy lo size) p) ++ rest) old
   unfolding pointWords pointOf vecWords asShorts backBy
   point-turned at p rest old (x, y, z) room =
-      record-turned at _ (le 2 p 0) (le 2 p 2) (le 2 p 4) rest old room ∙ rw (mod-eq-of-lt x, mod-eq-of-lt y, mod-eq-of-lt z)
+      record-turned at _ (leAt 2 p 0) (leAt 2 p 2) (leAt 2 p 4) rest old room ∙ rw (mod-eq-of-lt x, mod-eq-of-lt y, mod-eq-of-lt z)
 
   first-turned : (at : ℕ) (p : List ℕ) (ps : List (List ℕ)) (old : List ℕ) → Shorts p → at + 4 ≤ length old
       → turnedAt lo size at (put at (pointsWords asShorts (p ∷ ps)) old) ≡ put (at + 4) (pointsWords asShorts ps) (put at (pointWords (pointOf (backBy lo size) p)) old)
@@ -49,12 +49,6 @@ module _ (lo size : Floats.Vec3) where
       let old' = put at (pointWords (pointOf (backBy lo size) p)) old in
       let room' : at + 4 + 4 * length ps ≤ length old' = rw length-put (omega arith) in
       ap (turned lo size (length ps) (at + 4)) (first-turned at p ps old (q .0) (omega arith)) ∙ points-turned ps (at + 4) old' (q .1) room' ∙ words-next (backBy lo size) at p ps old
-
-  -- the code's stores
-  pub turn-put : (at : ℕ) (s : List ℕ) {x y z : ℕ} → x ≡ axisBits (getD s (at + 1) 0 % 65536) (lo .x) (size .x) → y ≡ axisBits (getD s (at + 2) 0 % 65536) (lo .y) (size .y)
-      → z ≡ axisBits (getD s (at + 3) 0 % 65536) (lo .z) (size .z) → put (at + 1) (x ∷ y ∷ z ∷ []) s ≡ turnedAt lo size at s
-  unfolding turnedAt
-  turn-put at s ex ey ez = rw (← ex, ← ey, ← ez)
 
   -- one turn of the loop
   pub turned-more : (n i at : ℕ) (s : List ℕ) {t : List ℕ} → i < n → t ≡ turnedAt lo size (at + 4 * i) s
@@ -77,7 +71,7 @@ module _ (lo size : Floats.Vec3) where
 
 -- ---- the two steps together
 
-module _ {w : Walked} {at : ℕ} {old mid : List ℕ} {r : Spot} (f : Fits w at (length old)) (t : Written w at old r mid) where
+module _ {w : Walked} {at : ℕ} {old mid : List ℕ} {r : TreeCursor} (f : Fits w at (length old)) (t : Written w at old r mid) where
   pub count-is : r .at ≡ at + 4 * length (f .points)
   count-is = t (f .left) (f .points) (f .is) .at
 

@@ -5,6 +5,7 @@ use mathlib.Core.List.{List, [], _∷_, _++_}
 use Rattle.resource.specs.Section.{good, resolved}
 use Rattle.grammar.specs.Trees.{subsTo}
 use Rattle.sector_tree.specs.Sector.{pointsOf, goodData}
+use Rattle.fields.specs.Sizes.{SECTOR-SIZE}
 
 -- the visits left and the points in order, each its bytes; or the number of the refusal
 pub data Walked : Type 0 where
@@ -24,7 +25,7 @@ checked true true w = w
 
 -- the bytes of the sector at an address
 unfoldable pub sectorAt : (system graphics : List ℕ) → ℕ → List ℕ
-sectorAt system graphics va = resolved system graphics va 96
+sectorAt system graphics va = resolved system graphics va SECTOR-SIZE
 
 -- With so many visits left, over the addresses of sectors in order: each spends a visit, 33 where none is left, and its subs 3, 2, 1, 0 come before
 -- what follows it.
@@ -33,5 +34,5 @@ walk system graphics zero [] = done zero []
 walk system graphics zero (va ∷ vas) = refused 33
 walk system graphics (suc n) [] = done (suc n) []
 walk system graphics (suc n) (va ∷ vas) =
-    checked (good system graphics va 96) (goodData system graphics (sectorAt system graphics va))
+    checked (good system graphics va SECTOR-SIZE) (goodData system graphics (sectorAt system graphics va))
     (also (pointsOf system graphics (sectorAt system graphics va)) (walk system graphics n (subsTo (sectorAt system graphics va) 4 ++ vas)))

@@ -5,10 +5,10 @@ use mathlib.Core.List.{List, [], _∷_, map}
 use lib.ListN.{length, getD}
 use Rattle.fields.specs.Bytes.{put}
 use Rattle.math.specs.declared.vec3.Vec3 as Floats
-use Rattle.strip.specs.Cell.{Vec3, each, pointWords}
+use Rattle.strip.specs.Cell.{Vec3, each, vecWords, pointWords}
 use Rattle.grammar.specs.Derives.{pointOf}
-use Rattle.records.specs.Back.{axisBits}
-use Rattle.sector_tree.specs.declared.Spot.{Spot}
+use Rattle.records.specs.Back.{backBy}
+use Rattle.sector_tree.specs.declared.TreeCursor.{TreeCursor}
 use Rattle.sector_tree.specs.Walk.{Walked}
 use Rattle.sector_tree.specs.Walk.Walked.{done, refused}
 
@@ -33,20 +33,17 @@ unfoldable pub asShorts : ℕ → ℕ → ℕ → Vec3
 asShorts x y z = record { x = x; y = y; z = z }
 
 -- of an accepted walk with the points ps and l visits left, the points stand from a word on, and the rest is as it was
-pub record Stands (l : ℕ) (ps : List (List ℕ)) (from : ℕ) (old : List ℕ) (r : Spot) (new : List ℕ) : Type 0 where
+pub record Stands (l : ℕ) (ps : List (List ℕ)) (from : ℕ) (old : List ℕ) (r : TreeCursor) (new : List ℕ) : Type 0 where
   pub left : r .left ≡ l
   pub at : r .at ≡ from + 4 * length ps
   pub strip : new ≡ put from (pointsWords asShorts ps) old
 
-abbrev pub Written : Walked → ℕ → List ℕ → Spot → List ℕ → Type 0
+abbrev pub Written : Walked → ℕ → List ℕ → TreeCursor → List ℕ → Type 0
 Written w at old r new = (l : ℕ) (ps : List (List ℕ)) → w ≡ done l ps → Stands l ps at old r new
 
 -- then they are turned back, one record after the other
 unfoldable pub turnedAt : Floats.Vec3 → Floats.Vec3 → ℕ → List ℕ → List ℕ
-turnedAt lo size at s =
-    put (at + 1)
-    (axisBits (getD s (at + 1) 0 % 65536) (lo .x) (size .x) ∷ axisBits (getD s (at + 2) 0 % 65536) (lo .y) (size .y) ∷ axisBits (getD s (at + 3) 0 % 65536) (lo .z) (size .z) ∷ [])
-    s
+turnedAt lo size at s = put (at + 1) (vecWords (backBy lo size (getD s (at + 1) 0 % 65536) (getD s (at + 2) 0 % 65536) (getD s (at + 3) 0 % 65536))) s
 
 unfoldable pub turned : Floats.Vec3 → Floats.Vec3 → ℕ → ℕ → List ℕ → List ℕ
 turned lo size zero at s = s

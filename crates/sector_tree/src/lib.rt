@@ -4,22 +4,26 @@ ghost use mathlib.Core.Bool.{true};
 ghost use mathlib.Core.List.{[], _∷_};
 ghost use Prim.Native.Nat.{_+_, _*_, _^_, _≤_, _<_};
 ghost use lib.ListN.{length};
-ghost use Rattle.fields.specs.Bytes.{put, cut};
+ghost use Rattle.fields.specs.Bytes.{leAt, put, cut};
 ghost use Rattle.strip.specs.Outcome.{shown};
 ghost use Rattle.strip.specs.Cell.{pointWords};
 ghost use Rattle.grammar.specs.Trees.{subsTo};
 ghost use Rattle.grammar.specs.Derives.{pointOf};
-ghost use Rattle.records.specs.Back.{backBy};
+ghost use Rattle.records.specs.Back.{backIn};
 ghost use Rattle.sector_tree.specs.Sector.{goodData, pointsOf};
 ghost use Rattle.sector_tree.specs.Walk.{walk};
 ghost use Rattle.sector_tree.specs.Answer.{paper, treeOutcome, foundOf, Few, Small, Counted};
 ghost use Rattle.sector_tree.specs.Write.{asShorts, pointsWords, pointsIn, Fits, Written, turnedAt, turned};
+use cell_record::CellRecord;
+use fields::sizes::POINT_SIZE;
+use fields::sizes::SECTOR_DATA_SIZE;
+use fields::sizes::SECTOR_SIZE;
 use fields::u8_le;
 use fields::u16_le;
 use fields::u64_le;
 use math::vec3::Vec3;
-use records::words::axis_bits;
-use records::words::put3;
+use quantise::short::Shorts;
+use records::words::put_position;
 use resource::resolve;
 use strip::Refusal;
 
@@ -54,19 +58,27 @@ fn find_points<'a>(system: &'a [u8], graphics: &'a [u8], sector: &'a [u8]) -> Fo
     if va == 0 {
         return Found::Points(0);
     }
-    let data = resolve(system, graphics, va, 32);
-    if data.len() < 32 {
+    let data = resolve(system, graphics, va, SECTOR_DATA_SIZE);
+    if data.len() < SECTOR_DATA_SIZE {
         return Found::Bad;
     }
     let n = u16_le(data, 0x1A) as usize;
     if n == 0 {
         return Found::Points(0);
     }
-    let points = resolve(system, graphics, u64_le(data, 0x10), 8 * n);
-    if points.len() < 8 * n {
+    let points = resolve(system, graphics, u64_le(data, 0x10), POINT_SIZE * n);
+    if points.len() < POINT_SIZE * n {
         return Found::Bad;
     }
     Found::Points(n)
+}
+
+// The address of a sector's sub i.
+fn sub_at(sector: &[u8], i: usize) -> u64
+    requires { ⌜ i < 4 ⌝ }
+    ensures { λ r. ⌜ r ≡ leAt 8 (now (sector .entry)) (0x34 + 8 * i) ⌝ }
+{
+    u64_le(sector, 0x34 + 8 * i)
 }
 
 // The sector at va and all below it, with `left` visits left and `points` points counted before it.
@@ -83,8 +95,8 @@ fn visit_sector<'a>(
     if left == 0 {
         return Walk::Refused(33);
     }
-    let sector = resolve(system, graphics, va, 96);
-    if sector.len() < 96 {
+    let sector = resolve(system, graphics, va, SECTOR_SIZE);
+    if sector.len() < SECTOR_SIZE {
         return Walk::Refused(32);
     }
     match find_points(system, graphics, sector) {
@@ -109,7 +121,7 @@ fn visit_subs<'a>(
     let mut i = 4;
     while i > 0 {
         i -= 1;
-        let sub = u64_le(sector, 0x34 + 8 * i);
+        let sub = sub_at(sector, i);
         if sub != 0 {
             match visit_sector(system, graphics, sub, l, p) {
                 Walk::Refused(number) => {
@@ -189,18 +201,18 @@ fn put_sector_points<'a>(
     if va == 0 {
         return at;
     }
-    let data = resolve(system, graphics, va, 32);
+    let data = resolve(system, graphics, va, SECTOR_DATA_SIZE);
     let n = u16_le(data, 0x1A) as usize;
     if n == 0 {
         return at;
     }
-    let points = resolve(system, graphics, u64_le(data, 0x10), 8 * n);
+    let points = resolve(system, graphics, u64_le(data, 0x10), POINT_SIZE * n);
     put_points(points, n, strip, at);
     at + 4 * n
 }
 
 // Where a writing walk stands: the visits left, and the strip's next word.
-struct Spot {
+struct TreeCursor {
     left: usize,
     at: usize,
 }
@@ -213,11 +225,11 @@ fn put_sector<'a>(
     left: usize,
     strip: &mut [u32],
     at: usize,
-) -> Spot
+) -> TreeCursor
     requires { ⌜ Fits (walk (now system) (now graphics) left (va ∷ [])) at (length (now strip)) ⌝ }
     ensures { λ r. ⌜ Written (walk (now (system .entry)) (now (graphics .entry)) left (va ∷ [])) at (now (strip .entry)) r (now (strip .exit)) ⌝ }
 {
-    let sector = resolve(system, graphics, va, 96);
+    let sector = resolve(system, graphics, va, SECTOR_SIZE);
     let next = put_sector_points(system, graphics, sector, strip, at);
     put_subs(system, graphics, sector, left - 1, strip, next)
 }
@@ -230,7 +242,7 @@ fn put_subs<'a>(
     left: usize,
     strip: &mut [u32],
     at: usize,
-) -> Spot
+) -> TreeCursor
     requires { ⌜ Fits (walk (now system) (now graphics) left (subsTo (now sector) 4)) at (length (now strip)) ⌝ }
     ensures { λ r. ⌜ Written (walk (now (system .entry)) (now (graphics .entry)) left (subsTo (now (sector .entry)) 4)) at (now (strip .entry)) r (now (strip .exit)) ⌝ }
 {
@@ -239,14 +251,14 @@ fn put_subs<'a>(
     let mut i = 4;
     while i > 0 {
         i -= 1;
-        let va = u64_le(sector, 0x34 + 8 * i);
+        let va = sub_at(sector, i);
         if va != 0 {
             let r = put_sector(system, graphics, va, l, strip, e);
             l = r.left;
             e = r.at;
         }
     }
-    Spot { left: l, at: e }
+    TreeCursor { left: l, at: e }
 }
 
 // The position of the point at `at`, turned back.
@@ -254,10 +266,12 @@ fn turn_point(strip: &mut [u32], at: usize, bb_min: Vec3, bb_size: Vec3)
     requires { ⌜ at + 4 ≤ length (now strip) ⌝ }
     ensures { λ _. ⌜ now (strip .exit) ≡ turnedAt «bb_min» «bb_size» at (now (strip .entry)) ⌝ }
 {
-    let x = axis_bits((strip[at + 1] % 0x1_0000) as u16, bb_min.x, bb_size.x);
-    let y = axis_bits((strip[at + 2] % 0x1_0000) as u16, bb_min.y, bb_size.y);
-    let z = axis_bits((strip[at + 3] % 0x1_0000) as u16, bb_min.z, bb_size.z);
-    put3(strip, at + 1, x, y, z);
+    let q = Shorts {
+        x: (strip[at + 1] % 0x1_0000) as u16,
+        y: (strip[at + 2] % 0x1_0000) as u16,
+        z: (strip[at + 3] % 0x1_0000) as u16,
+    };
+    put_position(q, bb_min, bb_size, strip, at + 1);
 }
 
 // Those of the n points from `at` on.
@@ -272,23 +286,24 @@ fn turn_points(strip: &mut [u32], at: usize, n: usize, bb_min: Vec3, bb_size: Ve
     }
 }
 
-// The points of the tree at root, in the box from bb_min on of the size bb_size, go to the strip from the word `at` on; the word after them. It
-// writes what `read_sector_tree` accepted, and has nothing to refuse.
+// The points of the tree at root, in the cell's box, go to the strip from the word `at` on; the word after them. It writes
+// what `read_sector_tree` accepted, and has nothing to refuse.
 pub fn put_tree_points<'a>(
     system: &'a [u8],
     graphics: &'a [u8],
     root: u64,
-    bb_min: Vec3,
-    bb_size: Vec3,
+    cell: CellRecord,
     strip: &mut [u32],
     at: usize,
 ) -> usize
     requires { ⌜ Fits (walk (now system) (now graphics) 4096 (root ∷ [])) at (length (now strip)) ⌝ }
     ensures next { λ r. ⌜ r ≡ at + 4 * length (pointsIn (walk (now (system .entry)) (now (graphics .entry)) 4096 (root ∷ []))) ⌝ }
-    ensures content { λ _. ⌜ now (strip .exit) ≡ put at (pointsWords (backBy «bb_min» «bb_size») (pointsIn (walk (now (system .entry)) (now (graphics .entry)) 4096 (root ∷ [])))) (now (strip .entry)) ⌝ }
+    ensures content { λ _. ⌜ now (strip .exit) ≡ put at (pointsWords (backIn cell) (pointsIn (walk (now (system .entry)) (now (graphics .entry)) 4096 (root ∷ [])))) (now (strip .entry)) ⌝ }
 {
     let r = put_sector(system, graphics, root, 4096, strip, at);
     let next = r.at;
+    let bb_min = cell.bb_min;
+    let bb_size = cell.bb_size;
     turn_points(strip, at, (next - at) / 4, bb_min, bb_size);
     next
 }

@@ -19,7 +19,7 @@ use Rattle.pages.proofs.Placed.{pages-short}
 use Rattle.pages.proofs.Sizes.{pages-length}
 use Rattle.quadtree.proofs.Tellings.{leaves-length}
 use Rattle.sectors.specs.declared.Spot.{Spot}
-use Rattle.sectors.specs.Written.{Room, Wrote}
+use Rattle.sectors.specs.Written.{TreeRoom, Wrote}
 use Rattle.sectors.proofs.Steps.{laid-of}
 
 -- ---- its points
@@ -67,7 +67,7 @@ sectors-end n t =
       end-append (endPolygons n t) s (ps ++ ls),
     ) (end-ge (endSectors n t) (ps ++ ls))
 
-pub cell-room : (c : Cell) → Accepted c → Room (sectors c) (endPolygons (counts c) (sectors c)) 0
+pub cell-room : (c : Cell) → Accepted c → TreeRoom (sectors c) (endPolygons (counts c) (sectors c)) 0
 unfolding endSectors sizes
 cell-room c a =
     let n = counts c in

@@ -13,7 +13,7 @@ use Rattle.fields.proofs.Bytes.{length-bytes}
 use Rattle.fields.proofs.Puts.{put-nil, put-next}
 use Rattle.fields.proofs.Rows.{length-rows}
 use Rattle.math.specs.declared.vec3.Vec3.{Vec3 as Floats}
-use Rattle.strip.specs.Cell.{Point}
+use Rattle.strip.specs.Cell.{NavPoint}
 use Rattle.strip.specs.Reading.{itemsAt, pointAt, pointsAt}
 use Rattle.pages.specs.Sectors.{pointRow, pointItems}
 use Rattle.quadtree.specs.Work.{pickedFrom}
@@ -34,19 +34,19 @@ unfolding les
 put-id = put-keep 2 (les 2) (leBytes 2) refl (λ x xs. refl) (length-bytes 2)
 
 module _ (lo size : Floats) where
-  pub put-point : (p : ℕ) (b : Bool) (t : Point) (ts : List Point) (out : List ℕ)
+  pub put-point : (p : ℕ) (b : Bool) (t : NavPoint) (ts : List NavPoint) (out : List ℕ)
       → put (p + 8 * cond b 1 0) (cat (pointItems lo size ts)) (put p (cat (pointItems lo size (cond b (t ∷ []) []))) out) ≡ put p (cat (pointItems lo size (cond b (t ∷ ts) ts))) out
   unfolding pointItems cat
-  put-point = put-keep 8 (λ (ts : List Point). cat (pointItems lo size ts)) (λ (t : Point). rowBytes (pointRow lo size t)) refl (λ t ts. refl) (λ t. length-rows (pointRow lo size t))
+  put-point = put-keep 8 (λ (ts : List NavPoint). cat (pointItems lo size ts)) (λ (t : NavPoint). rowBytes (pointRow lo size t)) refl (λ t ts. refl) (λ t. length-rows (pointRow lo size t))
 
 -- ---- the points with a leaf, i of them passed
 
-module _ (leafs s : List ℕ) (k : ℕ) where
-  pub points-turn : (at i n : ℕ) → i < n → pickedFrom leafs k i (pointsAt s at (n - i))
-      ≡ cond (eqb (getD leafs i 0) k) (pointAt s at ∷ pickedFrom leafs k (i + 1) (pointsAt s (at + 4) (n - (i + 1)))) (pickedFrom leafs k (i + 1) (pointsAt s (at + 4) (n - (i + 1))))
+module _ (numbers s : List ℕ) (k : ℕ) where
+  pub points-turn : (at i n : ℕ) → i < n → pickedFrom numbers k i (pointsAt s at (n - i))
+      ≡ cond (eqb (getD numbers i 0) k) (pointAt s at ∷ pickedFrom numbers k (i + 1) (pointsAt s (at + 4) (n - (i + 1)))) (pickedFrom numbers k (i + 1) (pointsAt s (at + 4) (n - (i + 1))))
   unfolding pickedFrom itemsAt
   points-turn at i n h = let e : n - i ≡ suc (n - (i + 1)) = omega arith in rw e
 
-  pub points-end : (at i n : ℕ) → n ≤ i → pickedFrom leafs k i (pointsAt s at (n - i)) ≡ []
+  pub points-end : (at i n : ℕ) → n ≤ i → pickedFrom numbers k i (pointsAt s at (n - i)) ≡ []
   unfolding pickedFrom itemsAt
   points-end at i n h = let e : n - i ≡ 0 = omega arith in rw e

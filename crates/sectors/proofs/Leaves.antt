@@ -10,7 +10,7 @@ use Rattle.fields.proofs.Bytes.{length-les}
 use Rattle.fields.proofs.Rows.{length-rows}
 use Rattle.math.specs.declared.vec3.Vec3.{Vec3 as Floats}
 use Rattle.quantise.specs.declared.bounds.Aabb.{Aabb}
-use Rattle.strip.specs.Cell.{Point}
+use Rattle.strip.specs.Cell.{NavPoint}
 use Rattle.blocks.specs.declared.Layout.{Layout}
 use Rattle.blocks.specs.Layout.{placeOf, behind, endOf, address, Laid}
 use Rattle.blocks.proofs.Layouts.{end-append, end-ge, place-ge, laid-then, laid-before}
@@ -19,9 +19,9 @@ use Rattle.pages.specs.Sectors.{pointCount, leafCounts, sizes, sectorRow, dataR
 use Rattle.pages.specs.Sectors.Sector.{leaf}
 use Rattle.pages.proofs.Sizes.{block-size, length-points}
 use Rattle.sectors.specs.declared.Spot.{Spot}
-use Rattle.sectors.specs.Written.{Room, Wrote}
+use Rattle.sectors.specs.Written.{TreeRoom, Wrote}
 
-module _ (b : Aabb) (is : List ℕ) (ts : List Point) {end first : ℕ} (room : Room (leaf b is ts) end first) where
+module _ (b : Aabb) (is : List ℕ) (ts : List NavPoint) {end first : ℕ} (room : TreeRoom (leaf b is ts) end first) where
   abbrev dataAt : ℕ
   dataAt = dataFrom end (length is) (length ts)
 
@@ -59,11 +59,11 @@ module _ (lo size : Floats) where
   pub ids-ends : (is : List ℕ) {l r : Layout} {xs ys : List ℕ} → Laid l (blockOf (les 2 is)) r xs ys → r .at ≡ endOf (l .at) (sizeOf (2 * length is))
   ids-ends is {l} h = h .ends ∙ ap (endOf (l .at)) (block-size (2 * length is) (les 2 is) (length-les 2 is))
 
-  pub points-ends : (ts : List Point) {l r : Layout} {xs ys : List ℕ} → Laid l (blockOf (cat (pointItems lo size ts))) r xs ys → r .at ≡ endOf (l .at) (sizeOf (8 * length ts))
+  pub points-ends : (ts : List NavPoint) {l r : Layout} {xs ys : List ℕ} → Laid l (blockOf (cat (pointItems lo size ts))) r xs ys → r .at ≡ endOf (l .at) (sizeOf (8 * length ts))
   points-ends ts {l} h = h .ends ∙ ap (endOf (l .at)) (block-size (8 * length ts) (cat (pointItems lo size ts)) (length-points lo size ts))
 
   -- the blocks, from what each step of the writer was given and left: its own names of the places, addresses and counts with what they are
-  pub leaf-wrote : (b : Aabb) (is : List ℕ) (ts : List Point) {spot r : Spot} {l1 l2 l3 : Layout} {at d ia pa m n : ℕ} {xs y0 y1 y2 y3 ys : List ℕ}
+  pub leaf-wrote : (b : Aabb) (is : List ℕ) (ts : List NavPoint) {spot r : Spot} {l1 l2 l3 : Layout} {at d ia pa m n : ℕ} {xs y0 y1 y2 y3 ys : List ℕ}
       → l1 .at ≡ behind (spot .layout .at) 96 → y0 ≡ put (spot .layout .at) (zeros (placeOf (spot .layout .at) 96 - spot .layout .at)) xs
       → Laid l1 (blockOf (les 2 is)) l2 y0 y1
       → Laid l2 (blockOf (cat (pointItems lo size ts))) l3 y1 y2

@@ -4,7 +4,11 @@ use mathlib.Core.Path.{_≡_, ap, _∙_}
 use mathlib.Core.List.{List, [], _∷_, _++_, append-assoc}
 use native.Mathlib.Omega.{arith}
 use lib.ListN.{getD}
-use lib.Ieee.{binary32, toBits}
+use lib.IntN.{ℤ}
+use lib.Ieee.{Float, binary32, toBits}
+use mathlib.Core.Bool.{true, false}
+use mir.Syntax.{w16}
+use mir.Val.{toZ, ofZ}
 use Rattle.fields.specs.Bytes.{leBytes, les}
 use Rattle.fields.specs.Rows.{rowBytes, field}
 use Rattle.fields.proofs.Bytes.{le-address, le-pair, zero-words}
@@ -12,13 +16,20 @@ use Rattle.math.specs.declared.vec3.Vec3.{Vec3 as Floats}
 use Rattle.quantise.specs.Short.{shorts}
 use Rattle.quantise.specs.Quarter.{quarterFloor, quarterCeil, bits16}
 use Rattle.quantise.specs.declared.bounds.Aabb.{Aabb}
+use Rattle.quantise.proofs.Quarters.{side-read}
 use Rattle.strip.specs.Reading.{vecAt, pointAt}
 use Rattle.pages.specs.Items.{floats}
-use Rattle.pages.specs.Sectors.{nanBits, sectorRow, dataRow, pointRow}
+use Rattle.pages.specs.Sectors.{nanWord, sectorRow, dataRow, pointRow}
 
 -- an axis of a quarter box, as a word and as two fields
 axis-bytes : (x a b : ℕ) → (x ≡ a + 65536 * b) × (a < 65536) → leBytes 4 x ≡ leBytes 2 a ++ leBytes 2 b
 axis-bytes x a b h = ap (leBytes 4) (h .0) ∙ le-pair a b (h .1)
+
+-- where its sides are those of two floats
+pub axis-word : (lo hi : Float) (a b : ℤ) (x : ℕ) → a ≡ quarterFloor lo → b ≡ quarterCeil hi
+    → (x ≡ bits16 (toZ w16 (ofZ w16 a)) + 65536 * bits16 (toZ w16 (ofZ w16 b))) × (bits16 (toZ w16 (ofZ w16 a)) < 65536)
+    → (x ≡ bits16 (quarterFloor lo) + 65536 * bits16 (quarterCeil hi)) × (bits16 (quarterFloor lo) < 65536)
+axis-word lo hi a b x ea eb h = rw (side-read false lo a ea, side-read true hi b eb) at h
 
 pub sector-words : (b : Aabb) (x y z d s0 s1 s2 s3 : ℕ)
     → (x ≡ bits16 (quarterFloor (b .min .x)) + 65536 * bits16 (quarterCeil (b .max .x))) × (bits16 (quarterFloor (b .min .x)) < 65536)
@@ -26,8 +37,8 @@ pub sector-words : (b : Aabb) (x y z d s0 s1 s2 s3 : ℕ)
     → (z ≡ bits16 (quarterFloor (b .min .z)) + 65536 * bits16 (quarterCeil (b .max .z))) × (bits16 (quarterFloor (b .min .z)) < 65536)
     → d < 2 ^ 32 → s0 < 2 ^ 32 → s1 < 2 ^ 32 → s2 < 2 ^ 32 → s3 < 2 ^ 32
     → les 4
-    (toBits binary32 (b .min .x) ∷ toBits binary32 (b .min .y) ∷ toBits binary32 (b .min .z) ∷ nanBits
-    ∷ toBits binary32 (b .max .x) ∷ toBits binary32 (b .max .y) ∷ toBits binary32 (b .max .z) ∷ nanBits
+    (toBits binary32 (b .min .x) ∷ toBits binary32 (b .min .y) ∷ toBits binary32 (b .min .z) ∷ nanWord
+    ∷ toBits binary32 (b .max .x) ∷ toBits binary32 (b .max .y) ∷ toBits binary32 (b .max .z) ∷ nanWord
     ∷ x ∷ y ∷ z ∷ d ∷ 0 ∷ s0 ∷ 0 ∷ s1 ∷ 0 ∷ s2 ∷ 0 ∷ s3 ∷ 0 ∷ 0 ∷ 0 ∷ 0 ∷ [])
     ≡ rowBytes (sectorRow b d s0 s1 s2 s3)
 unfolding les rowBytes

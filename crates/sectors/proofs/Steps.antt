@@ -11,7 +11,7 @@ use Rattle.fields.proofs.Rows.{length-rows}
 use Rattle.math.specs.declared.vec3.Vec3.{Vec3 as Floats}
 use Rattle.quantise.specs.declared.quarter.QuarterBox.{QuarterBox}
 use Rattle.quantise.specs.declared.bounds.Aabb.{Aabb}
-use Rattle.strip.specs.Cell.{Point, All}
+use Rattle.strip.specs.Cell.{NavPoint, All}
 use Rattle.blocks.specs.Layout.{placeOf, behind, endOf, Laid}
 use Rattle.blocks.proofs.Layouts.{end-append, end-ge, laid-then, laid-before}
 use Rattle.pages.specs.Accepted.{FewIn}
@@ -21,7 +21,7 @@ use Rattle.pages.specs.Sectors.Sector.{leaf, node}
 use Rattle.strip.proofs.Alls.{all-apart}
 use Rattle.pages.proofs.Sizes.{tree-lengths}
 use Rattle.sectors.specs.declared.Spot.{Spot}
-use Rattle.sectors.specs.Written.{Room, Wrote}
+use Rattle.sectors.specs.Written.{TreeRoom, Wrote}
 
 -- where the writer stands
 pub record Stand (p : Spot) (end leaf' first : ℕ) : Type 0 where
@@ -35,7 +35,7 @@ unfolding sizes
 sector-first end (leaf b is ts) = end-ge (behind end 96) (sizeOf (2 * length is) ++ (sizeOf (8 * length ts) ++ (32 ∷ [])))
 sector-first end (node b t0 t1 t2 t3) = end-ge (behind end 96) (sizes t0 ++ (sizes t1 ++ (sizes t2 ++ sizes t3)))
 
-pub first-small : (t : Sector) {end first : ℕ} → Room t end first → behind end 96 < 2 ^ 28
+pub first-small : (t : Sector) {end first : ℕ} → TreeRoom t end first → behind end 96 < 2 ^ 28
 first-small t {end} r = omega (arith, r .small, sector-first end t)
 
 module _ (lo size : Floats) where
@@ -57,7 +57,7 @@ module _ (lo size : Floats) where
 
 -- ---- rooms for the subs
 
-module _ (b : Aabb) (t0 t1 t2 t3 : Sector) {end first : ℕ} (room : Room (node b t0 t1 t2 t3) end first) where
+module _ (b : Aabb) (t0 t1 t2 t3 : Sector) {end first : ℕ} (room : TreeRoom (node b t0 t1 t2 t3) end first) where
   ends-of : endOf end (sizes (node b t0 t1 t2 t3)) ≡ endOf (from3 end t0 t1 t2) (sizes t3)
   unfolding sizes
   ends-of =
@@ -77,30 +77,30 @@ module _ (b : Aabb) (t0 t1 t2 t3 : Sector) {end first : ℕ} (room : Room (node 
   unfolding pointCount
   numbers-of = room .numbers
 
-  pub room3 : Room t3 (from3 end t0 t1 t2) (first + (pointCount t0 + (pointCount t1 + pointCount t2)))
+  pub room3 : TreeRoom t3 (from3 end t0 t1 t2) (first + (pointCount t0 + (pointCount t1 + pointCount t2)))
   room3 = record { few = few-of .3; small = omega (arith, ends-of, room .small); numbers = omega (arith, numbers-of) }
 
-  pub room2 : Room t2 (from2 end t0 t1) (first + (pointCount t0 + pointCount t1))
+  pub room2 : TreeRoom t2 (from2 end t0 t1) (first + (pointCount t0 + pointCount t1))
   room2 =
       let g = end-ge (from3 end t0 t1 t2) (sizes t3) in
       record { few = few-of .2; small = omega (arith, room3 .small); numbers = omega (arith, numbers-of) }
 
-  pub room1 : Room t1 (from1 end t0) (first + pointCount t0)
+  pub room1 : TreeRoom t1 (from1 end t0) (first + pointCount t0)
   room1 =
       let g = end-ge (from2 end t0 t1) (sizes t2) in
       record { few = few-of .1; small = omega (arith, room2 .small); numbers = omega (arith, numbers-of) }
 
-  pub room0 : Room t0 (from0 end) first
+  pub room0 : TreeRoom t0 (from0 end) first
   room0 =
       let g = end-ge (from1 end t0) (sizes t1) in
       record { few = few-of .0; small = omega (arith, room1 .small); numbers = omega (arith, numbers-of) }
 
 -- ---- a tree that is grown, its subs written from where the writer stands
 
-module _ (lo size : Floats) (ids : QuarterBox → List ℕ) (stored : ℕ → List Point) (d : ℕ) where
+module _ (lo size : Floats) (ids : QuarterBox → List ℕ) (stored : ℕ → List NavPoint) (d : ℕ) where
   -- the same by the names of the code
-  moved-room : {p : Spot} {end k first : ℕ} {c b : Aabb} → c ≡ b → Stand p end k first → Room (grown ids stored d k b) end first
-      → Room (grown ids stored d (p .leaf) c) (p .layout .at) (p .first)
+  moved-room : {p : Spot} {end k first : ℕ} {c b : Aabb} → c ≡ b → Stand p end k first → TreeRoom (grown ids stored d k b) end first
+      → TreeRoom (grown ids stored d (p .leaf) c) (p .layout .at) (p .first)
   moved-room e s h = rw (e, s .ends, s .leaves, s .points) h
 
   moved : {p r : Spot} {end k first : ℕ} {c b : Aabb} {xs ys : List ℕ} → c ≡ b → Stand p end k first
@@ -109,7 +109,7 @@ module _ (lo size : Floats) (ids : QuarterBox → List ℕ) (stored : ℕ → Li
       subst (λ (j : ℕ). Wrote lo size (grown ids stored d j b) (4 ^ d) p r xs ys) (s .leaves)
       (subst (λ (a : Aabb). Wrote lo size (grown ids stored d (p .leaf) a) (4 ^ d) p r xs ys) e h)
 
-  module _ (b : Aabb) (spot : Spot) (room : Room (grown ids stored (suc d) (spot .leaf) b) (spot .layout .at) (spot .first)) where
+  module _ (b : Aabb) (spot : Spot) (room : TreeRoom (grown ids stored (suc d) (spot .leaf) b) (spot .layout .at) (spot .first)) where
     abbrev g0 : Sector
     g0 = grown ids stored d (spot .leaf) (sub0 b)
 
@@ -122,19 +122,19 @@ module _ (lo size : Floats) (ids : QuarterBox → List ℕ) (stored : ℕ → Li
     abbrev g3 : Sector
     g3 = grown ids stored d (spot .leaf + 3 * 4 ^ d) (sub3 b)
 
-    as-node : Room (node b g0 g1 g2 g3) (spot .layout .at) (spot .first)
+    as-node : TreeRoom (node b g0 g1 g2 g3) (spot .layout .at) (spot .first)
     unfolding grown
     as-node = room
 
     module _ {p0 : Spot} {c0 : Aabb} (e0 : c0 ≡ sub0 b) (s0 : Stand p0 (from0 (spot .layout .at)) (spot .leaf) (spot .first)) where
-      pub next0 : Room (grown ids stored d (p0 .leaf) c0) (p0 .layout .at) (p0 .first)
+      pub next0 : TreeRoom (grown ids stored d (p0 .leaf) c0) (p0 .layout .at) (p0 .first)
       next0 = moved-room e0 s0 (room0 b g0 g1 g2 g3 as-node)
 
       module _ {p1 : Spot} {c1 : Aabb} {x0 y0 : List ℕ} (e1 : c1 ≡ sub1 b) (w0 : Wrote lo size (grown ids stored d (p0 .leaf) c0) (4 ^ d) p0 p1 x0 y0) where
         pub stand1 : Stand p1 (from1 (spot .layout .at) g0) (spot .leaf + 4 ^ d) (spot .first + pointCount g0)
         stand1 = stand-of lo size s0 (moved e0 s0 w0)
 
-        pub next1 : Room (grown ids stored d (p1 .leaf) c1) (p1 .layout .at) (p1 .first)
+        pub next1 : TreeRoom (grown ids stored d (p1 .leaf) c1) (p1 .layout .at) (p1 .first)
         next1 = moved-room e1 stand1 (room1 b g0 g1 g2 g3 as-node)
 
         module _ {p2 : Spot} {c2 : Aabb} {y1 : List ℕ} (e2 : c2 ≡ sub2 b) (w1 : Wrote lo size (grown ids stored d (p1 .leaf) c1) (4 ^ d) p1 p2 y0 y1) where
@@ -143,7 +143,7 @@ module _ (lo size : Floats) (ids : QuarterBox → List ℕ) (stored : ℕ → Li
               let s = stand-of lo size stand1 (moved e1 stand1 w1) in
               record { ends = s .ends; leaves = omega (arith, s .leaves); points = omega (arith, s .points) }
 
-          pub next2 : Room (grown ids stored d (p2 .leaf) c2) (p2 .layout .at) (p2 .first)
+          pub next2 : TreeRoom (grown ids stored d (p2 .leaf) c2) (p2 .layout .at) (p2 .first)
           next2 = moved-room e2 stand2 (room2 b g0 g1 g2 g3 as-node)
 
           module _ {p3 : Spot} {c3 : Aabb} {y2 : List ℕ} (e3 : c3 ≡ sub3 b) (w2 : Wrote lo size (grown ids stored d (p2 .leaf) c2) (4 ^ d) p2 p3 y1 y2) where
@@ -152,7 +152,7 @@ module _ (lo size : Floats) (ids : QuarterBox → List ℕ) (stored : ℕ → Li
                 let s = stand-of lo size stand2 (moved e2 stand2 w2) in
                 record { ends = s .ends; leaves = omega (arith, s .leaves); points = omega (arith, s .points) }
 
-            pub next3 : Room (grown ids stored d (p3 .leaf) c3) (p3 .layout .at) (p3 .first)
+            pub next3 : TreeRoom (grown ids stored d (p3 .leaf) c3) (p3 .layout .at) (p3 .first)
             next3 = moved-room e3 stand3 (room3 b g0 g1 g2 g3 as-node)
 
             -- all four, and the sector, which is stored last

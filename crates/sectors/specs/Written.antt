@@ -14,11 +14,11 @@ use Rattle.quadtree.specs.Work.{treeBy}
 use Rattle.sectors.specs.declared.Spot.{Spot}
 
 -- the tree by the words of quarter boxes and leaves, of as many points, whose records stand in the strip from a place on
-abbrev pub treeIn : (boxes leafs strip : List ℕ) (at : ℕ) → ℕ → ℕ → Aabb → Sector
-treeIn boxes leafs strip at = treeBy boxes leafs (pointsAt strip at (length leafs))
+abbrev pub treeIn : (boxes numbers strip : List ℕ) (at : ℕ) → ℕ → ℕ → Aabb → Sector
+treeIn boxes numbers strip at = treeBy boxes numbers (pointsAt strip at (length numbers))
 
 -- a tree can be laid out behind `end`, its first point having the number `first`: no leaf has too much, and addresses and numbers keep to their bits
-pub record Room (t : Sector) (end first : ℕ) : Type 0 where
+pub record TreeRoom (t : Sector) (end first : ℕ) : Type 0 where
   pub few : All FewIn (leafCounts t)
   pub small : endOf end (sizes t) < 2 ^ 28
   pub numbers : first + pointCount t < 2 ^ 32

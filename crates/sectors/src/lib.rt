@@ -10,10 +10,13 @@ ghost use Rattle.fields.specs.Rows.{rowBytes};
 ghost use Rattle.strip.specs.Reading.{pointAt, pointsAt};
 ghost use Rattle.blocks.specs.Layout.{behind, endOf, Laid};
 ghost use Rattle.pages.specs.Optional.{blockOf, sizeOf, addressOf};
-ghost use Rattle.pages.specs.Sectors.{idsOf, quarters, sectorRow, dataRow, sectorAddress, pointRow, pointItems};
-ghost use Rattle.quadtree.specs.Work.{boxBy, boxesIn, pickedFrom};
-ghost use Rattle.sectors.specs.Written.{treeIn, Room, Wrote};
+ghost use Rattle.pages.specs.Sectors.{leafIds, quarters, sectorRow, dataRow, sectorAddress, pointRow, pointItems};
+ghost use Rattle.quadtree.specs.Work.{boxesIn, pickedFrom};
+ghost use Rattle.sectors.specs.Written.{treeIn, TreeRoom, Wrote};
 use blocks::Layout;
+use fields::sizes::POINT_SIZE;
+use fields::sizes::SECTOR_DATA_SIZE;
+use fields::sizes::SECTOR_SIZE;
 use math::num::bits_of_float;
 use math::vec3::Vec3;
 use math::vec3::floats_at;
@@ -22,12 +25,10 @@ use quadtree::leaves::leaf_ids;
 use quadtree::leaves::meets_at;
 use quadtree::leaves::quarter_pair;
 use quantise::bounds::Aabb;
+use quantise::quarter::QuarterBox;
+use quantise::quarter::quarter_box;
 
 const SYSTEM_BASE: usize = 0x5000_0000;
-
-const SECTOR_SIZE: usize = 96;
-
-const DATA_SIZE: usize = 32;
 
 const NAN: u32 = 0x7FC0_0000;
 
@@ -41,8 +42,8 @@ pub struct Spot {
 // The points of a cell: where their records begin in the strip, and the box in which their shorts are measured, bb_min and bb_size.
 pub struct Points {
     pub at: usize,
-    pub lo: Vec3,
-    pub size: Vec3,
+    pub bb_min: Vec3,
+    pub bb_size: Vec3,
 }
 
 // The address of a block of `size` bytes that is laid out next; 0 where there is none.
@@ -62,6 +63,7 @@ fn put_sector(out: &mut [u8], at: usize, b: Aabb, data: u32, s0: u32, s1: u32, s
 {
     let min = b.min;
     let max = b.max;
+    let q = quarter_box(min, max);
     let words = [
         bits_of_float(min.x),
         bits_of_float(min.y),
@@ -71,9 +73,9 @@ fn put_sector(out: &mut [u8], at: usize, b: Aabb, data: u32, s0: u32, s1: u32, s
         bits_of_float(max.y),
         bits_of_float(max.z),
         NAN,
-        quarter_pair(min.x, max.x),
-        quarter_pair(min.y, max.y),
-        quarter_pair(min.z, max.z),
+        quarter_pair(q.x_min, q.x_max),
+        quarter_pair(q.y_min, q.y_max),
+        quarter_pair(q.z_min, q.z_max),
         data,
         0,
         s0,
@@ -116,7 +118,7 @@ fn lay_data(
     requires { ⌜ behind (l .at) 32 < 2 ^ 28 ⌝ }
     ensures { λ r. ⌜ Laid l (rowBytes (dataRow first ids points «id_count» «point_count») ∷ []) r (now (out .entry)) (now (out .exit)) ⌝ }
 {
-    let at = blocks::pad(out, l, DATA_SIZE);
+    let at = blocks::pad(out, l, SECTOR_DATA_SIZE);
     let words = [
         first,
         0,
@@ -128,7 +130,7 @@ fn lay_data(
         0,
     ];
     fields::put_all(out, at, 4, &words);
-    l.alloc(DATA_SIZE)
+    l.alloc(SECTOR_DATA_SIZE)
 }
 
 // The number of a polygon from p on, where the test passed. The answer is the place behind it.
@@ -144,42 +146,41 @@ fn put_id_if(out: &mut [u8], p: usize, test: bool, id: usize) -> usize
     p
 }
 
-// The numbers of the polygons that meet the leaf whose sides are qx and qy.
-fn put_ids(out: &mut [u8], at: usize, boxes: &[u32], qx: u32, qy: u32)
-    requires { ⌜ at + 2 * length (idsOf (boxBy qx qy 0) 0 (boxesIn (now boxes))) < 2 ^ 32 ⌝ }
-    ensures { λ _. ⌜ now (out .exit) ≡ put at (les 2 (idsOf (boxBy qx qy 0) 0 (boxesIn (now (boxes .entry))))) (now (out .entry)) ⌝ }
+// The numbers of the polygons that meet the leaf with the quarter box q.
+fn put_ids(out: &mut [u8], at: usize, boxes: &[u32], q: QuarterBox)
+    requires { ⌜ at + 2 * length (leafIds q 0 (boxesIn (now boxes))) < 2 ^ 32 ⌝ }
+    ensures { λ _. ⌜ now (out .exit) ≡ put at (les 2 (leafIds q 0 (boxesIn (now (boxes .entry))))) (now (out .entry)) ⌝ }
 {
     let polys = boxes.len() / 3;
     let mut p = at;
     let mut i = 0;
     while i < polys {
-        p = put_id_if(out, p, meets_at(boxes, 3 * i, qx, qy), i);
+        p = put_id_if(out, p, meets_at(boxes, 3 * i, q), i);
         i += 1;
     }
 }
 
 // The block of a leaf's n ids, if there are any.
 fn lay_ids(out: &mut [u8], l: Layout, boxes: &[u32], b: Aabb, n: usize) -> Layout
-    requires { ⌜ (n ≡ length (idsOf (quarters b) 0 (boxesIn (now boxes)))) × (n ≤ 8192) × (endOf (l .at) (sizeOf (2 * n)) < 2 ^ 28) ⌝ }
-    ensures { λ r. ⌜ Laid l (blockOf (les 2 (idsOf (quarters b) 0 (boxesIn (now (boxes .entry)))))) r (now (out .entry)) (now (out .exit)) ⌝ }
+    requires { ⌜ (n ≡ length (leafIds (quarters b) 0 (boxesIn (now boxes)))) × (n ≤ 8192) × (endOf (l .at) (sizeOf (2 * n)) < 2 ^ 28) ⌝ }
+    ensures { λ r. ⌜ Laid l (blockOf (les 2 (leafIds (quarters b) 0 (boxesIn (now (boxes .entry)))))) r (now (out .entry)) (now (out .exit)) ⌝ }
 {
     if n == 0 {
         return l;
     }
-    let qx = quarter_pair(b.min.x, b.max.x);
-    let qy = quarter_pair(b.min.y, b.max.y);
+    let q = quarter_box(b.min, b.max);
     let at = blocks::pad(out, l, 2 * n);
-    put_ids(out, at, boxes, qx, qy);
+    put_ids(out, at, boxes, q);
     l.alloc(2 * n)
 }
 
 // The point whose record stands at `at`: shorts, angle, kind.
-fn put_point(out: &mut [u8], p: usize, strip: &[u32], at: usize, lo: Vec3, size: Vec3)
+fn put_point(out: &mut [u8], p: usize, strip: &[u32], at: usize, bb_min: Vec3, bb_size: Vec3)
     requires { ⌜ at + 4 ≤ length (now strip) ⌝ }
-    ensures { λ _. ⌜ now (out .exit) ≡ put p (rowBytes (pointRow lo size (pointAt (now (strip .entry)) at))) (now (out .entry)) ⌝ }
+    ensures { λ _. ⌜ now (out .exit) ≡ put p (rowBytes (pointRow «bb_min» «bb_size» (pointAt (now (strip .entry)) at))) (now (out .entry)) ⌝ }
 {
     let position = floats_at(strip, at + 1);
-    let q = quantise::short::quantise(position, lo, size);
+    let q = quantise::short::quantise(position, bb_min, bb_size);
     let bytes = (strip[at] % 65536) as u16;
     let words = [fields::pair(q.x, q.y), fields::pair(q.z, bytes)];
     fields::put_all(out, p, 4, &words);
@@ -192,15 +193,15 @@ fn put_point_if(
     test: bool,
     strip: &[u32],
     at: usize,
-    lo: Vec3,
-    size: Vec3,
+    bb_min: Vec3,
+    bb_size: Vec3,
 ) -> usize
     requires { ⌜ (p < 2 ^ 32) × (at + 4 ≤ length (now strip)) ⌝ }
     ensures { λ r. ⌜ r ≡ p + 8 * cond test 1 0 ⌝ }
-    ensures { λ _. ⌜ now (out .exit) ≡ put p (cat (pointItems lo size (cond test (pointAt (now (strip .entry)) at ∷ []) []))) (now (out .entry)) ⌝ }
+    ensures { λ _. ⌜ now (out .exit) ≡ put p (cat (pointItems «bb_min» «bb_size» (cond test (pointAt (now (strip .entry)) at ∷ []) []))) (now (out .entry)) ⌝ }
 {
     if test {
-        put_point(out, p, strip, at, lo, size);
+        put_point(out, p, strip, at, bb_min, bb_size);
         return p + 8;
     }
     p
@@ -210,22 +211,22 @@ fn put_point_if(
 fn put_points<'a>(
     out: &mut [u8],
     at: usize,
-    leafs: &'a [u32],
+    leaf_numbers: &'a [u32],
     strip: &'a [u32],
     points: Points,
     k: u32,
 )
-    requires { ⌜ (points .at + 4 * length (now leafs) ≤ length (now strip))
-        × (at + 8 * length (pickedFrom (now leafs) k 0 (pointsAt (now strip) (points .at) (length (now leafs)))) < 2 ^ 32) ⌝ }
-    ensures { λ _. ⌜ now (out .exit) ≡ put at (cat (pointItems (points .lo) (points .size) (pickedFrom (now (leafs .entry)) k 0 (pointsAt (now (strip .entry)) (points .at) (length (now (leafs .entry))))))) (now (out .entry)) ⌝ }
+    requires { ⌜ (points .at + 4 * length (now «leaf_numbers») ≤ length (now strip))
+        × (at + 8 * length (pickedFrom (now «leaf_numbers») k 0 (pointsAt (now strip) (points .at) (length (now «leaf_numbers»)))) < 2 ^ 32) ⌝ }
+    ensures { λ _. ⌜ now (out .exit) ≡ put at (cat (pointItems (points .«bb_min») (points .«bb_size») (pickedFrom (now («leaf_numbers» .entry)) k 0 (pointsAt (now (strip .entry)) (points .at) (length (now («leaf_numbers» .entry))))))) (now (out .entry)) ⌝ }
 {
-    let lo = points.lo;
-    let size = points.size;
+    let bb_min = points.bb_min;
+    let bb_size = points.bb_size;
     let mut place = points.at;
     let mut p = at;
     let mut i = 0;
-    while i < leafs.len() {
-        p = put_point_if(out, p, leafs[i] == k, strip, place, lo, size);
+    while i < leaf_numbers.len() {
+        p = put_point_if(out, p, leaf_numbers[i] == k, strip, place, bb_min, bb_size);
         place += 4;
         i += 1;
     }
@@ -235,22 +236,22 @@ fn put_points<'a>(
 fn lay_points<'a>(
     out: &mut [u8],
     l: Layout,
-    leafs: &'a [u32],
+    leaf_numbers: &'a [u32],
     strip: &'a [u32],
     points: Points,
     k: u32,
     n: usize,
 ) -> Layout
-    requires { ⌜ (points .at + 4 * length (now leafs) ≤ length (now strip))
-        × (n ≡ length (pickedFrom (now leafs) k 0 (pointsAt (now strip) (points .at) (length (now leafs))))) × (n ≤ 2048) × (endOf (l .at) (sizeOf (8 * n)) < 2 ^ 28) ⌝ }
-    ensures { λ r. ⌜ Laid l (blockOf (cat (pointItems (points .lo) (points .size) (pickedFrom (now (leafs .entry)) k 0 (pointsAt (now (strip .entry)) (points .at) (length (now (leafs .entry)))))))) r (now (out .entry)) (now (out .exit)) ⌝ }
+    requires { ⌜ (points .at + 4 * length (now «leaf_numbers») ≤ length (now strip))
+        × (n ≡ length (pickedFrom (now «leaf_numbers») k 0 (pointsAt (now strip) (points .at) (length (now «leaf_numbers»))))) × (n ≤ 2048) × (endOf (l .at) (sizeOf (8 * n)) < 2 ^ 28) ⌝ }
+    ensures { λ r. ⌜ Laid l (blockOf (cat (pointItems (points .«bb_min») (points .«bb_size») (pickedFrom (now («leaf_numbers» .entry)) k 0 (pointsAt (now (strip .entry)) (points .at) (length (now («leaf_numbers» .entry)))))))) r (now (out .entry)) (now (out .exit)) ⌝ }
 {
     if n == 0 {
         return l;
     }
-    let at = blocks::pad(out, l, 8 * n);
-    put_points(out, at, leafs, strip, points, k);
-    l.alloc(8 * n)
+    let at = blocks::pad(out, l, POINT_SIZE * n);
+    put_points(out, at, leaf_numbers, strip, points, k);
+    l.alloc(POINT_SIZE * n)
 }
 
 // A leaf: its sector, ids, points, data.
@@ -259,27 +260,27 @@ fn write_leaf<'a>(
     spot: Spot,
     b: Aabb,
     boxes: &'a [u32],
-    leafs: &'a [u32],
+    leaf_numbers: &'a [u32],
     strip: &'a [u32],
     points: Points,
 ) -> Spot
-    requires { ⌜ (spot .leaf + 1 < 2 ^ 32) × (points .at + 4 * length (now leafs) ≤ length (now strip)) ⌝ }
-    requires { ⌜ Room (treeIn (now boxes) (now leafs) (now strip) (points .at) 0 (spot .leaf) b) (spot .layout .at) (spot .first) ⌝ }
-    ensures { λ r. ⌜ Wrote (points .lo) (points .size) (treeIn (now (boxes .entry)) (now (leafs .entry)) (now (strip .entry)) (points .at) 0 (spot .leaf) b) 1 spot r (now (out .entry)) (now (out .exit)) ⌝ }
+    requires { ⌜ (spot .leaf + 1 < 2 ^ 32) × (points .at + 4 * length (now «leaf_numbers») ≤ length (now strip)) ⌝ }
+    requires { ⌜ TreeRoom (treeIn (now boxes) (now «leaf_numbers») (now strip) (points .at) 0 (spot .leaf) b) (spot .layout .at) (spot .first) ⌝ }
+    ensures { λ r. ⌜ Wrote (points .«bb_min») (points .«bb_size») (treeIn (now (boxes .entry)) (now («leaf_numbers» .entry)) (now (strip .entry)) (points .at) 0 (spot .leaf) b) 1 spot r (now (out .entry)) (now (out .exit)) ⌝ }
 {
     let leaf = spot.leaf;
     let first = spot.first;
     let l = spot.layout;
     let m = leaf_ids(boxes, b);
-    let n = count_points(leafs, leaf);
+    let n = count_points(leaf_numbers, leaf);
     let at = blocks::pad(out, l, SECTOR_SIZE);
     let l1 = l.alloc(SECTOR_SIZE);
     let l2 = lay_ids(out, l1, boxes, b, m);
-    let l3 = lay_points(out, l2, leafs, strip, points, leaf, n);
+    let l3 = lay_points(out, l2, leaf_numbers, strip, points, leaf, n);
     let ids_at = address_of(l1, 2 * m);
-    let points_at = address_of(l2, 8 * n);
+    let points_at = address_of(l2, POINT_SIZE * n);
     let l4 = lay_data(out, l3, first, ids_at, points_at, m as u16, n as u16);
-    let data_at = address_of(l3, DATA_SIZE);
+    let data_at = address_of(l3, SECTOR_DATA_SIZE);
     put_sector(out, at, b, data_at, 0, 0, 0, 0);
     Spot {
         layout: l4,
@@ -295,16 +296,16 @@ pub fn write_sector<'a>(
     b: Aabb,
     depth: u32,
     boxes: &'a [u32],
-    leafs: &'a [u32],
+    leaf_numbers: &'a [u32],
     strip: &'a [u32],
     points: Points,
 ) -> Spot
-    requires { ⌜ (spot .leaf + 4 ^ depth < 2 ^ 32) × (points .at + 4 * length (now leafs) ≤ length (now strip)) ⌝ }
-    requires { ⌜ Room (treeIn (now boxes) (now leafs) (now strip) (points .at) depth (spot .leaf) b) (spot .layout .at) (spot .first) ⌝ }
-    ensures { λ r. ⌜ Wrote (points .lo) (points .size) (treeIn (now (boxes .entry)) (now (leafs .entry)) (now (strip .entry)) (points .at) depth (spot .leaf) b) (4 ^ depth) spot r (now (out .entry)) (now (out .exit)) ⌝ }
+    requires { ⌜ (spot .leaf + 4 ^ depth < 2 ^ 32) × (points .at + 4 * length (now «leaf_numbers») ≤ length (now strip)) ⌝ }
+    requires { ⌜ TreeRoom (treeIn (now boxes) (now «leaf_numbers») (now strip) (points .at) depth (spot .leaf) b) (spot .layout .at) (spot .first) ⌝ }
+    ensures { λ r. ⌜ Wrote (points .«bb_min») (points .«bb_size») (treeIn (now (boxes .entry)) (now («leaf_numbers» .entry)) (now (strip .entry)) (points .at) depth (spot .leaf) b) (4 ^ depth) spot r (now (out .entry)) (now (out .exit)) ⌝ }
 {
     if depth == 0 {
-        return write_leaf(out, spot, b, boxes, leafs, strip, points);
+        return write_leaf(out, spot, b, boxes, leaf_numbers, strip, points);
     }
     let d = depth - 1;
     let subs = quadtree::boxes::split(b);
@@ -316,10 +317,10 @@ pub fn write_sector<'a>(
         leaf: spot.leaf,
         first: spot.first,
     };
-    let p1 = write_sector(out, p0, subs.s0, d, boxes, leafs, strip, points);
-    let p2 = write_sector(out, p1, subs.s1, d, boxes, leafs, strip, points);
-    let p3 = write_sector(out, p2, subs.s2, d, boxes, leafs, strip, points);
-    let p4 = write_sector(out, p3, subs.s3, d, boxes, leafs, strip, points);
+    let p1 = write_sector(out, p0, subs.s0, d, boxes, leaf_numbers, strip, points);
+    let p2 = write_sector(out, p1, subs.s1, d, boxes, leaf_numbers, strip, points);
+    let p3 = write_sector(out, p2, subs.s2, d, boxes, leaf_numbers, strip, points);
+    let p4 = write_sector(out, p3, subs.s3, d, boxes, leaf_numbers, strip, points);
     put_node(out, at, b, l0, p1.layout, p2.layout, p3.layout);
     p4
 }

@@ -3,22 +3,13 @@ use Prim.Native.Nat.{ℕ}
 use mathlib.Core.Path.{_≡_, sym, _∙_}
 use mathlib.Core.Bool.{Bool, true, false, not, _&&_, and-eq-true-iff}
 use Rattle.strip.specs.Cell.{Vec3, Head}
-use Rattle.strip.specs.Box.{finite, finiteVec, finiteBox}
-
-pub record FiniteVec (v : Vec3) : Type 0 where
-  pub x : finite (v .x) ≡ true
-  pub y : finite (v .y) ≡ true
-  pub z : finite (v .z) ≡ true
-
-pub record FiniteBox (h : Head) : Type 0 where
-  pub min : FiniteVec (h .bb-min)
-  pub max : FiniteVec (h .bb-max)
-  pub size : FiniteVec (h .bb-size)
+use Rattle.strip.specs.Box.{finiteBits, finiteVec, finiteBox}
+pub use Rattle.strip.specs.Box.{FiniteVec, FiniteBox}
 
 vec-finite : (v : Vec3) → finiteVec v ≡ true → FiniteVec v
 vec-finite v e =
-    let (f, g) = and-eq-true-iff (finite (v .x)) (finite (v .y) && finite (v .z)) .0 e in
-    let (h, i) = and-eq-true-iff (finite (v .y)) (finite (v .z)) .0 g in
+    let (f, g) = and-eq-true-iff (finiteBits (v .x)) (finiteBits (v .y) && finiteBits (v .z)) .0 e in
+    let (h, i) = and-eq-true-iff (finiteBits (v .y)) (finiteBits (v .z)) .0 g in
     record { x = f; y = h; z = i }
 
 pub box-finite : (h : Head) → finiteBox h ≡ true → FiniteBox h

@@ -8,7 +8,7 @@ use native.Mathlib.Numerals.{add-one}
 use lib.ListN.{length, drop, drop-of-length-le}
 use lib.Seq.{drop-cons}
 use Rattle.fields.specs.Rows.{pack, field}
-use Rattle.strip.specs.Cell.{Cell, Polygon, Portal, Point, vecWords, halfWords, edgeWords, each, polygonHeadAs, polygonWordsAs, polygonWords, portalWords, pointWords, headWords, endWords, encodeAs, encode}
+use Rattle.strip.specs.Cell.{Cell, NavPoly, NavPortal, NavPoint, vecWords, halfWords, edgeWords, each, polygonHeadAs, polygonWordsAs, polygonWords, portalWords, pointWords, headWords, endWords, encodeAs, encode}
 use Rattle.strip.specs.Reading.{word, itemsAt, wordsAt, vecAt, vecsAt, edgeAt, edgesAt, polyAt, polygonOf, polygonAt, portalAt, pointAt, headAt}
 use Rattle.strip.specs.Scan.{Rest, Scanned, kindOf, onRecord, withPolygon, withPortal, withPoint, withHead, restFrom, restAt, scan}
 use Rattle.strip.specs.declared.Record.{Record}
@@ -102,7 +102,7 @@ module _ (s : List ℕ) where
       ∙ ap (λ (h : ℕ). (h ∷ word s (at + 1) ∷ word s (at + 2) ∷ word s (at + 3) ∷ l ++ v ++ e) ++ d) (sym (polygon-head at k))
 
 -- the words after the cell's record
-unfoldable pub restWords : List Polygon → List Portal → List Point → List ℕ
+unfoldable pub restWords : List NavPoly → List NavPortal → List NavPoint → List ℕ
 restWords ps qs ts = each polygonWords ps ++ (each portalWords qs ++ (each pointWords ts ++ endWords))
 
 -- a part in front of the others

@@ -8,7 +8,7 @@ use native.Mathlib.Omega.{arith}
 use lib.ListN.{length}
 use lib.Dec.{ltb}
 use borrow.Author.Tests.{ltb-true}
-use Rattle.strip.specs.Cell.{Cell, Polygon, Portal, Point, encode, All, HalfFits, EdgeFits, PolygonFits, PortalFits, PointFits, Fits, Words, InRange}
+use Rattle.strip.specs.Cell.{Cell, NavPoly, NavPortal, NavPoint, encode, All, HalfFits, EdgeFits, PolygonFits, PortalFits, PointFits, Fits, Words, InRange}
 use Rattle.strip.specs.Reading.{word, itemsAt, wordsAt, edgesAt, halfAt, polyAt, polygonOf, polygonAt, portalAt, pointAt, headAt}
 use Rattle.strip.specs.Scan.{Rest, Scanned, allBelow, edgesFit, polyFits, portalFits, onRecord, withPolygon, withPortal, withPoint, withHead, restFrom, restAt, scan}
 use Rattle.strip.specs.declared.Record.{Record}
@@ -70,7 +70,7 @@ module _ (s : List ℕ) where
   point-fits at = record { angle = omega arith; kind = omega arith }
 
 -- the lists of the rest
-record Lists (ps : List Polygon) (qs : List Portal) (ts : List Point) : Type 0 where
+record Lists (ps : List NavPoly) (qs : List NavPortal) (ts : List NavPoint) : Type 0 where
   polys : All PolygonFits ps
   portals : All PortalFits qs
   points : All PointFits ts
@@ -79,15 +79,15 @@ abbrev FitsRest : Rest → Type 0
 FitsRest (Rest.good ps qs ts) = Lists ps qs ts
 FitsRest (Rest.bad place) = Unit
 
-fits-polygon : (p : Polygon) → PolygonFits p → (r : Rest) → FitsRest r → FitsRest (withPolygon p r)
+fits-polygon : (p : NavPoly) → PolygonFits p → (r : Rest) → FitsRest r → FitsRest (withPolygon p r)
 fits-polygon p f (Rest.good ps qs ts) h = record { polys = (f, h .polys); portals = h .portals; points = h .points }
 fits-polygon p f (Rest.bad place) h = tt
 
-fits-portal : (q : Portal) → PortalFits q → (r : Rest) → FitsRest r → FitsRest (withPortal q r)
+fits-portal : (q : NavPortal) → PortalFits q → (r : Rest) → FitsRest r → FitsRest (withPortal q r)
 fits-portal q f (Rest.good ps qs ts) h = record { polys = h .polys; portals = (f, h .portals); points = h .points }
 fits-portal q f (Rest.bad place) h = tt
 
-fits-point : (t : Point) → PointFits t → (r : Rest) → FitsRest r → FitsRest (withPoint t r)
+fits-point : (t : NavPoint) → PointFits t → (r : Rest) → FitsRest r → FitsRest (withPoint t r)
 fits-point t f (Rest.good ps qs ts) h = record { polys = h .polys; portals = h .portals; points = (f, h .points) }
 fits-point t f (Rest.bad place) h = tt
 

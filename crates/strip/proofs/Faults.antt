@@ -5,40 +5,29 @@ use mathlib.Core.Logic.{_↔_}
 use mathlib.Core.List.{List}
 use native.Mathlib.Omega.{arith}
 use lib.ListN.{length}
-use Rattle.strip.specs.Cell.{Head, Polygon, Portal, Point}
+use Rattle.strip.specs.Cell.{Head, NavPoly, NavPortal, NavPoint}
 use Rattle.strip.specs.Reading.{polyAt, polygonAt, portalAt, pointAt, headAt}
 use Rattle.strip.specs.Scan.{Rest, Scanned, recordAt, onRecord, withPolygon, withPortal, withPoint, withHead, restAt, scan}
 use Rattle.strip.specs.declared.Record.{Record}
 use Rattle.strip.specs.declared.Record.the-variants.{Cell as IsCell, Polygon as IsPolygon, Portal as IsPortal, Point as IsPoint, End as IsEnd, Bad as IsBad}
-use Rattle.strip.proofs.Judged.{Place, Judged, cell, polygon, portal, point, end, bad, judged, poly-next, rest-step, Goes, nextOf, rankOf}
-
--- the positions that good records lead to from the strip's start, with the rank of the last of them
-pub data Reached (s : List ℕ) : ℕ → ℕ → Type 0 where
-  start : Reached s 0 0
-  step : {at rank : ℕ} → Reached s at rank → (r : Record) → recordAt s at rank ≡ r → Goes r → Reached s (nextOf at r) (rankOf r)
-
--- the first record that is not good, and its place
-pub record Fault (s : List ℕ) (place : ℕ) : Type 0 where
-  pub at : ℕ
-  pub rank : ℕ
-  pub reached : Reached s at rank
-  pub found : recordAt s at rank ≡ IsBad place
-  pub named : Place s at place
+use Rattle.strip.specs.Faults.{Place, Goes, nextOf, rankOf, Reached, start, step}
+use Rattle.strip.proofs.Judged.{Judged, cell, polygon, portal, point, end, bad, judged, poly-next, rest-step}
+pub use Rattle.strip.specs.Faults.{Fault}
 
 module _ (s : List ℕ) where
   abbrev Faulty : Rest → Type 0
   Faulty (Rest.good ps qs ts) = Unit
   Faulty (Rest.bad place) = Fault s place
 
-  faulty-polygon : (p : Polygon) (r : Rest) → Faulty r → Faulty (withPolygon p r)
+  faulty-polygon : (p : NavPoly) (r : Rest) → Faulty r → Faulty (withPolygon p r)
   faulty-polygon p (Rest.good ps qs ts) f = tt
   faulty-polygon p (Rest.bad place) f = f
 
-  faulty-portal : (q : Portal) (r : Rest) → Faulty r → Faulty (withPortal q r)
+  faulty-portal : (q : NavPortal) (r : Rest) → Faulty r → Faulty (withPortal q r)
   faulty-portal q (Rest.good ps qs ts) f = tt
   faulty-portal q (Rest.bad place) f = f
 
-  faulty-point : (t : Point) (r : Rest) → Faulty r → Faulty (withPoint t r)
+  faulty-point : (t : NavPoint) (r : Rest) → Faulty r → Faulty (withPoint t r)
   faulty-point t (Rest.good ps qs ts) f = tt
   faulty-point t (Rest.bad place) f = f
 

@@ -10,11 +10,12 @@ use lib.ListN.{length}
 use lib.Dec.{ltb, leb}
 use borrow.Author.Tests.{ltb-true, leb-true, leb-false}
 use Rattle.fields.specs.Rows.{field}
-use Rattle.strip.specs.Cell.{Head, Polygon, Portal, Point}
+use Rattle.strip.specs.Cell.{Head, NavPoly, NavPortal, NavPoint}
 use Rattle.strip.specs.Reading.{word, polyAt, polygonAt, portalAt, pointAt, headAt}
 use Rattle.strip.specs.Scan.{Rest, check, kindOf, firstGood, polyFits, portalFits, cellRecord, polygonRecord, portalRecord, pointRecord, endRecord, recordOf, recordAt, onRecord, withPolygon, withPortal, withPoint, restFrom, restAt, withHead, scan}
+use Rattle.strip.specs.Faults.{Place, here, short, more, nextOf}
 use Rattle.strip.specs.Outcome.{Paper, refusal, values, shown}
-use Rattle.strip.specs.Check.{onCell, counted, stripOutcome}
+use Rattle.strip.specs.Check.{onCell, countsOf, stripOutcome}
 use Rattle.strip.specs.declared.Counts.{Counts}
 use Rattle.strip.specs.declared.Poly.{Poly}
 use Rattle.strip.specs.declared.Record.{Record}
@@ -37,12 +38,6 @@ first low high limit rank w e =
     let a = both (leb low rank) (leb rank high && ltb (field 0 28 w) limit) e in
     let b = both (leb rank high) (ltb (field 0 28 w) limit) (a .1) in
     record { from = leb-true low rank (a .0); to = leb-true rank high (b .0); bits = ltb-true (field 0 28 w) limit (b .1) }
-
--- where a strip is bad: at the first word of the bad record; at its length, if it ends early or lacks its end; at the first word after the end
-pub data Place (s : List ℕ) (at : ℕ) : ℕ → Type 0 where
-  here : at < length s → Place s at at
-  short : Place s at (length s)
-  more : kindOf (word s at) ≡ 5 → at + 1 < length s → Place s at (at + 1)
 
 -- all that is known of a record
 pub data Judged (s : List ℕ) (at rank : ℕ) : Record → Type 0 where
@@ -117,7 +112,7 @@ rest-step s at rank =
     (λ n l a b. enough (length s - at) (suc (length s - n)) s n l (omega arith) (omega arith))
     (judged s at rank)
 
--- a good record, and one after which others come
+-- a good record
 abbrev pub Good : Record → Type 0
 Good IsCell = Unit
 Good (IsPolygon p) = Unit
@@ -125,31 +120,6 @@ Good IsPortal = Unit
 Good IsPoint = Unit
 Good IsEnd = Unit
 Good (IsBad place) = ⊥
-
-abbrev pub Goes : Record → Type 0
-Goes IsCell = Unit
-Goes (IsPolygon p) = Unit
-Goes IsPortal = Unit
-Goes IsPoint = Unit
-Goes IsEnd = ⊥
-Goes (IsBad place) = ⊥
-
--- where a good record ends, and its rank
-abbrev pub nextOf : ℕ → Record → ℕ
-nextOf at IsCell = at + 14
-nextOf at (IsPolygon p) = p .next
-nextOf at IsPortal = at + 11
-nextOf at IsPoint = at + 4
-nextOf at IsEnd = at + 1
-nextOf at (IsBad place) = at
-
-abbrev pub rankOf : Record → ℕ
-rankOf IsCell = 1
-rankOf (IsPolygon p) = 2
-rankOf IsPortal = 3
-rankOf IsPoint = 4
-rankOf IsEnd = 5
-rankOf (IsBad place) = 0
 
 ends : (s : List ℕ) (at rank : ℕ) {r : Record} → Judged s at rank r → Good r → (at < nextOf at r) × (nextOf at r ≤ length s)
 ends s at rank (cell k o r) g = omega arith
@@ -167,20 +137,20 @@ abbrev pub tally : ℕ → ℕ → ℕ → Rest → Paper Counts
 tally a b c (Rest.good ps qs ts) = values (record { polys = a + length ps; portals = b + length qs; points = c + length ts })
 tally a b c (Rest.bad place) = refusal 3 place
 
-tally-head : (h : Head) (r : Rest) → shown (onCell counted (withHead h r)) ≡ tally 0 0 0 r
+tally-head : (h : Head) (r : Rest) → shown (onCell countsOf (withHead h r)) ≡ tally 0 0 0 r
 tally-head h (Rest.good ps qs ts) = simp zero-add
 tally-head h (Rest.bad place) = refl
 
 module _ (a b c : ℕ) where
-  tally-polygon : (p : Polygon) (r : Rest) → tally a b c (withPolygon p r) ≡ tally (a + 1) b c r
+  tally-polygon : (p : NavPoly) (r : Rest) → tally a b c (withPolygon p r) ≡ tally (a + 1) b c r
   tally-polygon p (Rest.good ps qs ts) = let e : a + suc (length ps) ≡ a + 1 + length ps = omega arith in rw e
   tally-polygon p (Rest.bad place) = refl
 
-  tally-portal : (q : Portal) (r : Rest) → tally a b c (withPortal q r) ≡ tally a (b + 1) c r
+  tally-portal : (q : NavPortal) (r : Rest) → tally a b c (withPortal q r) ≡ tally a (b + 1) c r
   tally-portal q (Rest.good ps qs ts) = let e : b + suc (length qs) ≡ b + 1 + length qs = omega arith in rw e
   tally-portal q (Rest.bad place) = refl
 
-  tally-point : (t : Point) (r : Rest) → tally a b c (withPoint t r) ≡ tally a b (c + 1) r
+  tally-point : (t : NavPoint) (r : Rest) → tally a b c (withPoint t r) ≡ tally a b (c + 1) r
   tally-point t (Rest.good ps qs ts) = let e : c + suc (length ts) ≡ c + 1 + length ts = omega arith in rw e
   tally-point t (Rest.bad place) = refl
 

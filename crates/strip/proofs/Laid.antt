@@ -5,11 +5,12 @@ use mathlib.Core.Path.{_≡_, refl, ap, _∙_}
 use mathlib.Core.List.{List, [], _∷_}
 use native.Mathlib.Omega.{arith}
 use lib.ListN.{length}
-use Rattle.strip.specs.Cell.{Cell, Polygon, Portal, Point}
+use Rattle.strip.specs.Cell.{Cell, NavPoly, NavPortal, NavPoint}
 use Rattle.strip.specs.Reading.{itemsAt, after, polyAt, polygonAt, polygonsAt, afterPolygons, portalAt, portalsAt, pointAt, pointsAt, headAt}
 use Rattle.strip.specs.Scan.{Rest, Scanned, onRecord, withPolygon, withPortal, withPoint, withHead, restFrom, restAt, scan}
+pub use Rattle.strip.specs.Laid.{Well}
 use Rattle.strip.specs.Outcome.{values, shown, refusalOf}
-use Rattle.strip.specs.Check.{onCell, paper, counted, stripOutcome}
+use Rattle.strip.specs.Check.{onCell, paper, countsOf, stripOutcome}
 use Rattle.strip.specs.declared.Counts.{Counts}
 use Rattle.strip.specs.declared.Refusal.{Refusal}
 use Rattle.strip.specs.declared.StripAnswer.{StripAnswer}
@@ -17,7 +18,7 @@ use Rattle.strip.specs.declared.StripAnswer.the-variants.{WellFormed, Re
 use Rattle.strip.specs.declared.Record.{Record}
 use Rattle.strip.proofs.Judged.{Judged, cell, polygon, portal, point, end, bad, judged, rest-step}
 
-pub record Laid (s : List ℕ) (at rank : ℕ) (ps : List Polygon) (qs : List Portal) (ts : List Point) : Type 0 where
+pub record Laid (s : List ℕ) (at rank : ℕ) (ps : List NavPoly) (qs : List NavPortal) (ts : List NavPoint) : Type 0 where
   pub polys : ps ≡ polygonsAt s at (length ps)
   pub portals : qs ≡ portalsAt s (afterPolygons s at (length ps)) (length qs)
   pub points : ts ≡ pointsAt s (afterPolygons s at (length ps) + 11 * length qs) (length ts)
@@ -34,7 +35,7 @@ module _ (s : List ℕ) (at rank : ℕ) where
   unfolding itemsAt after
   laid-polygon o (Rest.good ps qs ts) h =
       record {
-        polys = ap (λ (l : List Polygon). polygonAt s at ∷ l) (h .polys);
+        polys = ap (λ (l : List NavPoly). polygonAt s at ∷ l) (h .polys);
         portals = h .portals;
         points = h .points;
         whole = h .whole;
@@ -48,7 +49,7 @@ module _ (s : List ℕ) (at rank : ℕ) where
   laid-portal o (Rest.good [] qs ts) h =
       record {
         polys = refl;
-        portals = ap (λ (l : List Portal). portalAt s at ∷ l) (h .portals);
+        portals = ap (λ (l : List NavPortal). portalAt s at ∷ l) (h .portals);
         points = h .points ∙ ap (λ n. pointsAt s n (length ts)) (omega arith);
         whole = h .whole ∙ omega arith;
         no-polys = λ k. refl;
@@ -63,7 +64,7 @@ module _ (s : List ℕ) (at rank : ℕ) where
       record {
         polys = refl;
         portals = refl;
-        points = ap (λ (l : List Point). pointAt s at ∷ l) (h .points ∙ ap (λ n. pointsAt s n (length ts)) (omega arith)) ∙ ap (λ n. pointsAt s n (suc (length ts))) (omega arith);
+        points = ap (λ (l : List NavPoint). pointAt s at ∷ l) (h .points ∙ ap (λ n. pointsAt s n (length ts)) (omega arith)) ∙ ap (λ n. pointsAt s n (suc (length ts))) (omega arith);
         whole = h .whole ∙ omega arith;
         no-polys = λ k. refl;
         no-portals = λ k. refl;
@@ -118,18 +119,7 @@ pub laid-out : (s : List ℕ) → LaidCell s (scan s)
 unfolding scan
 laid-out s = rw (rest-step s 0 0) (laid-first s (judged s 0 0))
 
--- What a pass knows of a strip that `check_strip` takes, with p polygons, q portals and t points: which cell it is, and where its lists stand.
-pub record Well (s : List ℕ) (p q t : ℕ) : Type 0 where
-  pub cell : Cell
-  pub is : scan s ≡ Scanned.ok cell
-  pub head : cell .head ≡ headAt s 0
-  pub polys : cell .polys ≡ polygonsAt s 14 p
-  pub portals : cell .portals ≡ portalsAt s (afterPolygons s 14 p) q
-  pub points : cell .points ≡ pointsAt s (afterPolygons s 14 p + 11 * q) t
-  pub whole : length s ≡ afterPolygons s 14 p + 11 * q + 4 * t + 1
-  pub long : 14 ≤ length s
-
-well-on : (s : List ℕ) (n : Counts) (d : Scanned) → scan s ≡ d → LaidCell s d → values n ≡ shown (onCell counted d) → Well s (n .polys) (n .portals) (n .points)
+well-on : (s : List ℕ) (n : Counts) (d : Scanned) → scan s ≡ d → LaidCell s d → values n ≡ shown (onCell countsOf d) → Well s (n .polys) (n .portals) (n .points)
 well-on s n (Scanned.ok c) e l k =
     let hp : length (c .polys) ≡ n .polys = cc in
     let hq : length (c .portals) ≡ n .portals = cc in
@@ -150,7 +140,7 @@ well-on s n (Scanned.fault number place) e l k = let z : _≡_ {A = ℕ} 0 1 = c
 pub well : (s : List ℕ) (n : Counts) (r : StripAnswer) → paper r ≡ shown (stripOutcome s) → r ≡ WellFormed n → Well s (n .polys) (n .portals) (n .points)
 well s n r k e = well-on s n (scan s) refl (laid-out s) (rw e at k)
 
-refused-on : (f : Refusal) (d : Scanned) → refusalOf f ≡ shown (onCell counted d) → d ≡ Scanned.fault (f .number) (f .place)
+refused-on : (f : Refusal) (d : Scanned) → refusalOf f ≡ shown (onCell countsOf d) → d ≡ Scanned.fault (f .number) (f .place)
 refused-on f (Scanned.ok c) k = let z : _≡_ {A = ℕ} 0 1 = cc in absurd (omega arith)
 refused-on f (Scanned.fault number place) k = cc
 

@@ -10,7 +10,7 @@ use lib.Seq.{getD-drop, drop-drop}
 use borrow.Author.Tests.{lt-ltb, le-leb}
 use Rattle.fields.specs.Rows.{pack, field}
 use Rattle.fields.proofs.Rows.{bits-back}
-use Rattle.strip.specs.Cell.{Cell, Vec3, Edge, Polygon, Portal, Point, vecWords, halfWords, edgeWords, joined, each, polygonHeadAs, polygonWordsAs, polygonWords, portalWords, pointWords, headWords, endWords, encodeAs, encode, All, EdgeFits, PolygonFits, PortalFits, PointFits, Fits}
+use Rattle.strip.specs.Cell.{Cell, Vec3, NavEdge, NavPoly, NavPortal, NavPoint, vecWords, halfWords, edgeWords, joined, each, polygonHeadAs, polygonWordsAs, polygonWords, portalWords, pointWords, headWords, endWords, encodeAs, encode, All, EdgeFits, PolygonFits, PortalFits, PointFits, Fits}
 use Rattle.strip.specs.Reading.{word, itemsAt, wordsAt, vecAt, vecsAt, edgeAt, edgesAt, layout, polyAt, polygonOf, portalAt, pointAt, headAt}
 use Rattle.strip.specs.Scan.{Rest, Scanned, allBelow, edgesFit, polyFits, portalFits, kindOf, firstGood, onRecord, withPolygon, withPortal, withPoint, cellRecord, polygonRecord, portalRecord, pointRecord, endRecord, recordOf, recordAt, restAt, scan}
 use Rattle.strip.specs.declared.Poly.{Poly}
@@ -39,7 +39,7 @@ module _ (s : List ℕ) where
   unfolding vecWords
   vec-back at v post e = (rw (here s at _ e, there s at _ e 1, there s at _ e 2), later s at _ e 3)
 
-  edge-back : (at : ℕ) (x : Edge) (post : List ℕ) → EdgeFits x → drop at s ≡ edgeWords x ++ post → (edgeAt s at ≡ x) × (drop (at + 6) s ≡ post)
+  edge-back : (at : ℕ) (x : NavEdge) (post : List ℕ) → EdgeFits x → drop at s ≡ edgeWords x ++ post → (edgeAt s at ≡ x) × (drop (at + 6) s ≡ post)
   unfolding edgeWords halfWords
   edge-back at x post f e =
       let t = there s at _ e in
@@ -78,7 +78,7 @@ module _ (s : List ℕ) where
   below-back (w ∷ l) at post p e =
       rw (here s at _ e, lt-ltb w 65536 (p .0)) (below-back l (at + 1) post (p .1) (later s at _ e 1))
 
-  edges-fit-back : (l : List Edge) (at : ℕ) (post : List ℕ) → All EdgeFits l → drop at s ≡ each edgeWords l ++ post → edgesFit s at (length l) ≡ true
+  edges-fit-back : (l : List NavEdge) (at : ℕ) (post : List ℕ) → All EdgeFits l → drop at s ≡ each edgeWords l ++ post → edgesFit s at (length l) ≡ true
   unfolding edgesFit each edgeWords halfWords
   edges-fit-back [] at post p e = refl
   edges-fit-back (x ∷ l) at post p e =
@@ -96,7 +96,7 @@ unfolding firstGood
 first-back low high limit rank w o q b = rw (le-leb low rank o, le-leb rank high q, lt-ltb (field 0 28 w) limit b)
 
 -- a polygon's words, and more after them
-spread : (p : Polygon) (post : List ℕ)
+spread : (p : NavPoly) (post : List ℕ)
     → polygonWords p ++ post ≡ polygonHeadAs 2 p ∷ p .flags0 ∷ p .flags1 ∷ p .flags2 ∷ (p .links ++ (each vecWords (p .vertices) ++ (each edgeWords (p .edges) ++ post)))
 unfolding polygonWordsAs
 spread p post = simp append-assoc
@@ -105,7 +105,7 @@ any : (l : List Vec3) → All (λ v. Unit) l
 any [] = tt
 any (v ∷ l) = (tt, any l)
 
-module _ (s : List ℕ) (at : ℕ) (p : Polygon) (post : List ℕ) (f : PolygonFits p) (e : drop at s ≡ polygonWords p ++ post) where
+module _ (s : List ℕ) (at : ℕ) (p : NavPoly) (post : List ℕ) (f : PolygonFits p) (e : drop at s ≡ polygonWords p ++ post) where
   -- the polygon's cursor, by its counts
   abbrev cursor : Poly
   cursor = layout at (length (p .links)) (length (p .vertices)) (length (p .edges))
@@ -178,7 +178,7 @@ module _ (s : List ℕ) (at : ℕ) (p : Polygon) (post : List ℕ) (f : PolygonF
   polygon-rest h rank o q =
       rest-step s at rank ∙ rw (polygon-record-back h rank o q, cursor-back, polygon-back)
 
-module _ (s : List ℕ) (at : ℕ) (q : Portal) (post : List ℕ) (f : PortalFits q) (e : drop at s ≡ portalWords q ++ post) where
+module _ (s : List ℕ) (at : ℕ) (q : NavPortal) (post : List ℕ) (f : PortalFits q) (e : drop at s ≡ portalWords q ++ post) where
   abbrev portal-row : List (ℕ × ℕ)
   portal-row = (8, q .kind) ∷ (8, q .angle) ∷ (12, 0) ∷ (4, 3) ∷ []
 
@@ -217,7 +217,7 @@ module _ (s : List ℕ) (at : ℕ) (q : Portal) (post : List ℕ) (f : PortalFit
         portal-back,
       )
 
-module _ (s : List ℕ) (at : ℕ) (q : Point) (post : List ℕ) (f : PointFits q) (e : drop at s ≡ pointWords q ++ post) where
+module _ (s : List ℕ) (at : ℕ) (q : NavPoint) (post : List ℕ) (f : PointFits q) (e : drop at s ≡ pointWords q ++ post) where
   abbrev point-row : List (ℕ × ℕ)
   point-row = (8, q .angle) ∷ (8, q .kind) ∷ (12, 0) ∷ (4, 4) ∷ []
 
@@ -265,12 +265,12 @@ end-rest s at rank o r e =
     )
 
 -- the lists one after the other, and the end
-some : (ps : List Polygon) (qs : List Portal) (ts : List Point) → 1 ≤ length (restWords ps qs ts)
+some : (ps : List NavPoly) (qs : List NavPortal) (ts : List NavPoint) → 1 ≤ length (restWords ps qs ts)
 unfolding restWords
 some ps qs ts = simp length-append (omega arith)
 
 module _ (s : List ℕ) where
-  points-back : (ts : List Point) (at rank : ℕ) → 1 ≤ rank → rank ≤ 4 → All PointFits ts → drop at s ≡ restWords [] [] ts → restAt s at rank ≡ Rest.good [] [] ts
+  points-back : (ts : List NavPoint) (at rank : ℕ) → 1 ≤ rank → rank ≤ 4 → All PointFits ts → drop at s ≡ restWords [] [] ts → restAt s at rank ≡ Rest.good [] [] ts
   unfolding restWords each
   points-back [] at rank o r f e = end-rest s at rank o r e
   points-back (t ∷ ts) at rank o r f e =
@@ -279,7 +279,7 @@ module _ (s : List ℕ) where
       point-rest s at t n (f .0) d (some [] [] ts) rank o r
       ∙ ap (withPoint t) (points-back ts (at + 4) 4 (omega arith) (omega arith) (f .1) (point-next s at t n (f .0) d))
 
-  portals-back : (qs : List Portal) (ts : List Point) (at rank : ℕ) → 1 ≤ rank → rank ≤ 3 → All PortalFits qs → All PointFits ts
+  portals-back : (qs : List NavPortal) (ts : List NavPoint) (at rank : ℕ) → 1 ≤ rank → rank ≤ 3 → All PortalFits qs → All PointFits ts
       → drop at s ≡ restWords [] qs ts → restAt s at rank ≡ Rest.good [] qs ts
   unfolding restWords each
   portals-back [] ts at rank o r f g e = points-back ts at rank o (omega arith) g e
@@ -289,7 +289,7 @@ module _ (s : List ℕ) where
       portal-rest s at q n (f .0) d (some [] qs ts) rank o r
       ∙ ap (withPortal q) (portals-back qs ts (at + 11) 3 (omega arith) (omega arith) (f .1) g (portal-next s at q n (f .0) d))
 
-  polygons-back : (ps : List Polygon) (qs : List Portal) (ts : List Point) (at rank : ℕ) → 1 ≤ rank → rank ≤ 2
+  polygons-back : (ps : List NavPoly) (qs : List NavPortal) (ts : List NavPoint) (at rank : ℕ) → 1 ≤ rank → rank ≤ 2
       → All PolygonFits ps → All PortalFits qs → All PointFits ts → drop at s ≡ restWords ps qs ts → restAt s at rank ≡ Rest.good ps qs ts
   unfolding restWords each
   polygons-back [] qs ts at rank o r f g h e = portals-back qs ts at rank o (omega arith) g h e

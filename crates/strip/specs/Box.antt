@@ -1,16 +1,28 @@
 -- The box of the cell's own record: whether its numbers are finite, by their bits. Definitions only.
 use Prim.Native.Nat.{ℕ, _%_, _^_}
-use mathlib.Core.Bool.{Bool, _&&_}
+use mathlib.Core.Path.{_≡_}
+use mathlib.Core.Bool.{Bool, true, _&&_}
 use lib.Dec.{ltb}
 use Rattle.strip.specs.Cell.{Vec3, Head}
 
 -- neither an infinity nor a NaN
-abbrev pub finite : ℕ → Bool
-finite w = ltb (w % 2 ^ 31) 0x7F80_0000
+abbrev pub finiteBits : ℕ → Bool
+finiteBits w = ltb (w % 2 ^ 31) 0x7F80_0000
 
 abbrev pub finiteVec : Vec3 → Bool
-finiteVec v = finite (v .x) && (finite (v .y) && finite (v .z))
+finiteVec v = finiteBits (v .x) && (finiteBits (v .y) && finiteBits (v .z))
 
 -- min, max and size
 unfoldable pub finiteBox : Head → Bool
 finiteBox h = finiteVec (h .bb-min) && (finiteVec (h .bb-max) && finiteVec (h .bb-size))
+
+-- the same of each of its words
+pub record FiniteVec (v : Vec3) : Type 0 where
+  pub x : finiteBits (v .x) ≡ true
+  pub y : finiteBits (v .y) ≡ true
+  pub z : finiteBits (v .z) ≡ true
+
+pub record FiniteBox (h : Head) : Type 0 where
+  pub min : FiniteVec (h .bb-min)
+  pub max : FiniteVec (h .bb-max)
+  pub size : FiniteVec (h .bb-size)

@@ -10,25 +10,25 @@ pub record Vec3 : Type 0 where
   pub z : ℕ
 
 -- one half of an edge
-pub record Half : Type 0 where
+pub record NavEdgeEnd : Type 0 where
   pub area : ℕ
   pub poly : ℕ
   pub unk3 : ℕ
   pub unk2 : ℕ
 
-pub record Edge : Type 0 where
-  pub a : Half
-  pub b : Half
+pub record NavEdge : Type 0 where
+  pub a : NavEdgeEnd
+  pub b : NavEdgeEnd
 
-pub record Polygon : Type 0 where
+pub record NavPoly : Type 0 where
   pub flags0 : ℕ
   pub flags1 : ℕ
   pub flags2 : ℕ
   pub links : List ℕ
   pub vertices : List Vec3
-  pub edges : List Edge
+  pub edges : List NavEdge
 
-pub record Portal : Type 0 where
+pub record NavPortal : Type 0 where
   pub kind : ℕ
   pub angle : ℕ
   pub flags-unk : ℕ
@@ -40,7 +40,7 @@ pub record Portal : Type 0 where
   pub area-to : ℕ
   pub area-unk : ℕ
 
-pub record Point : Type 0 where
+pub record NavPoint : Type 0 where
   pub angle : ℕ
   pub kind : ℕ
   pub position : Vec3
@@ -57,9 +57,9 @@ pub record Head : Type 0 where
 
 pub record Cell : Type 0 where
   pub head : Head
-  pub polys : List Polygon
-  pub portals : List Portal
-  pub points : List Point
+  pub polys : List NavPoly
+  pub portals : List NavPortal
+  pub points : List NavPoint
 
 -- The words of each record. A first word is a row of bits, the lowest first, with the kind in the top four.
 
@@ -81,30 +81,30 @@ headWords h =
     pack ((28, 0) ∷ (4, 1) ∷ []) ∷ h .content ∷ h .area ∷ h .version ∷ h .vft ∷ vecWords (h .bb-min) ++ vecWords (h .bb-max) ++ vecWords (h .bb-size)
 
 -- kind 2, the only kind of polygon; a strip's polygons are all of one kind, which is a parameter of its words
-unfoldable pub halfWords : Half → List ℕ
+unfoldable pub halfWords : NavEdgeEnd → List ℕ
 halfWords h = h .area ∷ h .poly ∷ joined (h .unk3) (h .unk2) ∷ []
 
-unfoldable pub edgeWords : Edge → List ℕ
+unfoldable pub edgeWords : NavEdge → List ℕ
 edgeWords e = halfWords (e .a) ++ halfWords (e .b)
 
-unfoldable pub polygonHeadAs : ℕ → Polygon → ℕ
+unfoldable pub polygonHeadAs : ℕ → NavPoly → ℕ
 polygonHeadAs kind p = pack ((12, length (p .vertices)) ∷ (12, length (p .edges)) ∷ (4, length (p .links)) ∷ (4, kind) ∷ [])
 
-unfoldable pub polygonWordsAs : ℕ → Polygon → List ℕ
+unfoldable pub polygonWordsAs : ℕ → NavPoly → List ℕ
 polygonWordsAs kind p =
     polygonHeadAs kind p ∷ p .flags0 ∷ p .flags1 ∷ p .flags2 ∷ p .links ++ each vecWords (p .vertices) ++ each edgeWords (p .edges)
 
-abbrev pub polygonWords : Polygon → List ℕ
+abbrev pub polygonWords : NavPoly → List ℕ
 polygonWords = polygonWordsAs 2
 
 -- kind 3
-unfoldable pub portalWords : Portal → List ℕ
+unfoldable pub portalWords : NavPortal → List ℕ
 portalWords p =
     pack ((8, p .kind) ∷ (8, p .angle) ∷ (12, 0) ∷ (4, 3) ∷ []) ∷ p .flags-unk ∷ vecWords (p .from) ++ vecWords (p .to) ++
     (joined (p .poly-from) (p .poly-to) ∷ joined (p .area-from) (p .area-to) ∷ p .area-unk ∷ [])
 
 -- kind 4
-unfoldable pub pointWords : Point → List ℕ
+unfoldable pub pointWords : NavPoint → List ℕ
 pointWords p = pack ((8, p .angle) ∷ (8, p .kind) ∷ (12, 0) ∷ (4, 4) ∷ []) ∷ vecWords (p .position)
 
 -- kind 5
@@ -125,15 +125,15 @@ abbrev pub All : {A : Type 0} → (A → Type 0) → List A → Type 0
 All P [] = Unit
 All P (a ∷ rest) = P a × All P rest
 
-pub record HalfFits (h : Half) : Type 0 where
+pub record HalfFits (h : NavEdgeEnd) : Type 0 where
   pub unk3 : h .unk3 < 2 ^ 16
   pub unk2 : h .unk2 < 2 ^ 8
 
-pub record EdgeFits (e : Edge) : Type 0 where
+pub record EdgeFits (e : NavEdge) : Type 0 where
   pub a : HalfFits (e .a)
   pub b : HalfFits (e .b)
 
-pub record PolygonFits (p : Polygon) : Type 0 where
+pub record PolygonFits (p : NavPoly) : Type 0 where
   pub vertex-count : length (p .vertices) < 2 ^ 12
   pub edge-count : length (p .edges) < 2 ^ 12
   pub link-count : length (p .links) < 2 ^ 4
@@ -141,7 +141,7 @@ pub record PolygonFits (p : Polygon) : Type 0 where
   pub links : All (λ w. w < 2 ^ 16) (p .links)
   pub edges : All EdgeFits (p .edges)
 
-pub record PortalFits (p : Portal) : Type 0 where
+pub record PortalFits (p : NavPortal) : Type 0 where
   pub kind : p .kind < 2 ^ 8
   pub angle : p .angle < 2 ^ 8
   pub flags-unk : p .flags-unk < 2 ^ 16
@@ -149,7 +149,7 @@ pub record PortalFits (p : Portal) : Type 0 where
   pub area-from : p .area-from < 2 ^ 16
   pub area-unk : p .area-unk < 2 ^ 8
 
-pub record PointFits (p : Point) : Type 0 where
+pub record PointFits (p : NavPoint) : Type 0 where
   pub angle : p .angle < 2 ^ 8
   pub kind : p .kind < 2 ^ 8
 

@@ -19,8 +19,8 @@ abbrev pub paper : StripAnswer → Paper Counts
 paper (WellFormed n) = values n
 paper (Refused r) = refusalOf r
 
-abbrev pub counted : Cell → Outcome Counts
-counted c = done (record { polys = length (c .polys); portals = length (c .portals); points = length (c .points) }) []
+abbrev pub countsOf : Cell → Outcome Counts
+countsOf c = done (record { polys = length (c .polys); portals = length (c .portals); points = length (c .points) }) []
 
 abbrev pub stripOutcome : List ℕ → Outcome Counts
-stripOutcome s = onCell counted (scan s)
+stripOutcome s = onCell countsOf (scan s)

@@ -4,3 +4,5 @@ pub mod Reading
 pub mod Scan
 pub mod Outcome
 pub mod Check
+pub mod Faults
+pub mod Laid

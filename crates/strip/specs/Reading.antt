@@ -4,7 +4,7 @@ use Prim.Native.Nat.{ℕ, zero, suc, _+_, _*_, _/_, _%_}
 use mathlib.Core.List.{List, [], _∷_}
 use lib.ListN.{getD}
 use Rattle.fields.specs.Rows.{field}
-use Rattle.strip.specs.Cell.{Vec3, Half, Edge, Polygon, Portal, Point, Head}
+use Rattle.strip.specs.Cell.{Vec3, NavEdgeEnd, NavEdge, NavPoly, NavPortal, NavPoint, Head}
 use Rattle.strip.specs.declared.Poly.{Poly}
 
 -- the word at a position
@@ -37,14 +37,14 @@ low16 w = w % 65536
 abbrev pub high16 : ℕ → ℕ
 high16 w = w / 65536
 
-abbrev pub halfAt : List ℕ → ℕ → Half
+abbrev pub halfAt : List ℕ → ℕ → NavEdgeEnd
 halfAt s at =
     record { area = word s at; poly = word s (at + 1); unk3 = low16 (word s (at + 2)); unk2 = high16 (word s (at + 2)) }
 
-abbrev pub edgeAt : List ℕ → ℕ → Edge
+abbrev pub edgeAt : List ℕ → ℕ → NavEdge
 edgeAt s at = record { a = halfAt s at; b = halfAt s (at + 3) }
 
-abbrev pub edgesAt : List ℕ → ℕ → ℕ → List Edge
+abbrev pub edgesAt : List ℕ → ℕ → ℕ → List NavEdge
 edgesAt s = itemsAt (edgeAt s) (λ at. at + 6)
 
 -- where the parts of the polygon at a position are, by its counts
@@ -66,7 +66,7 @@ unfolding layout
 polyAt s at = layout at (field 24 4 (word s at)) (field 0 12 (word s at)) (field 12 12 (word s at))
 
 -- the polygon that a cursor stands at
-unfoldable pub polygonOf : List ℕ → Poly → Polygon
+unfoldable pub polygonOf : List ℕ → Poly → NavPoly
 polygonOf s p =
     record {
       flags0 = word s (p .at + 1);
@@ -77,17 +77,17 @@ polygonOf s p =
       edges = edgesAt s (p .«edge_at») (p .edges);
     }
 
-abbrev pub polygonAt : List ℕ → ℕ → Polygon
+abbrev pub polygonAt : List ℕ → ℕ → NavPoly
 polygonAt s at = polygonOf s (polyAt s at)
 
-abbrev pub polygonsAt : List ℕ → ℕ → ℕ → List Polygon
+abbrev pub polygonsAt : List ℕ → ℕ → ℕ → List NavPoly
 polygonsAt s = itemsAt (polygonAt s) (λ at. polyAt s at .next)
 
 -- where n polygons from a position on end
 abbrev pub afterPolygons : List ℕ → ℕ → ℕ → ℕ
 afterPolygons s = after (λ at. polyAt s at .next)
 
-unfoldable pub portalAt : List ℕ → ℕ → Portal
+unfoldable pub portalAt : List ℕ → ℕ → NavPortal
 portalAt s at =
     record {
       kind = field 0 8 (word s at);
@@ -102,14 +102,14 @@ portalAt s at =
       area-unk = word s (at + 10);
     }
 
-abbrev pub portalsAt : List ℕ → ℕ → ℕ → List Portal
+abbrev pub portalsAt : List ℕ → ℕ → ℕ → List NavPortal
 portalsAt s = itemsAt (portalAt s) (λ at. at + 11)
 
-unfoldable pub pointAt : List ℕ → ℕ → Point
+unfoldable pub pointAt : List ℕ → ℕ → NavPoint
 pointAt s at =
     record { angle = field 0 8 (word s at); kind = field 8 8 (word s at); position = vecAt s (at + 1) }
 
-abbrev pub pointsAt : List ℕ → ℕ → ℕ → List Point
+abbrev pub pointsAt : List ℕ → ℕ → ℕ → List NavPoint
 pointsAt s = itemsAt (pointAt s) (λ at. at + 4)
 
 unfoldable pub headAt : List ℕ → ℕ → Head

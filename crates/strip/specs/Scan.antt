@@ -5,7 +5,7 @@ use mathlib.Core.Bool.{Bool, true, cond, _&&_}
 use lib.ListN.{length}
 use lib.Dec.{ltb, leb}
 use Rattle.fields.specs.Rows.{field}
-use Rattle.strip.specs.Cell.{Cell, Head, Polygon, Portal, Point}
+use Rattle.strip.specs.Cell.{Cell, Head, NavPoly, NavPortal, NavPoint}
 use Rattle.strip.specs.Reading.{word, polyAt, polygonAt, portalAt, pointAt, headAt}
 use Rattle.strip.specs.declared.Poly.{Poly}
 use Rattle.strip.specs.declared.Record.{Record}
@@ -79,7 +79,7 @@ recordAt s at rank = check (ltb at (length s)) (length s) (recordOf (kindOf (wor
 
 -- the records after the cell's: their lists, or the place where the strip is bad
 pub data Rest : Type 0 where
-  good : List Polygon → List Portal → List Point → Rest
+  good : List NavPoly → List NavPortal → List NavPoint → Rest
   bad : ℕ → Rest
 
 -- the cell of a well-formed strip, or a refusal's number and place
@@ -87,15 +87,15 @@ pub data Scanned : Type 0 where
   ok : Cell → Scanned
   fault : ℕ → ℕ → Scanned
 
-abbrev pub withPolygon : Polygon → Rest → Rest
+abbrev pub withPolygon : NavPoly → Rest → Rest
 withPolygon p (good ps qs ts) = good (p ∷ ps) qs ts
 withPolygon p (bad place) = bad place
 
-abbrev pub withPortal : Portal → Rest → Rest
+abbrev pub withPortal : NavPortal → Rest → Rest
 withPortal q (good ps qs ts) = good ps (q ∷ qs) ts
 withPortal q (bad place) = bad place
 
-abbrev pub withPoint : Point → Rest → Rest
+abbrev pub withPoint : NavPoint → Rest → Rest
 withPoint t (good ps qs ts) = good ps qs (t ∷ ts)
 withPoint t (bad place) = bad place
 

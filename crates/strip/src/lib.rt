@@ -3,7 +3,7 @@ ghost use mathlib.Core.Path.{_≡_};
 ghost use Prim.Native.Nat.{_+_, _*_, _≤_, _<_};
 ghost use lib.ListN.{length};
 ghost use Rattle.strip.specs.Reading.{vecAt, polyAt, headAt};
-ghost use Rattle.strip.specs.Box.{finite, finiteVec, finiteBox};
+ghost use Rattle.strip.specs.Box.{finiteBits, finiteVec, finiteBox};
 ghost use Rattle.strip.specs.Scan.{firstGood, allBelow, edgesFit, polyFits, cellRecord, polygonRecord, portalRecord, pointRecord, endRecord, recordAt};
 ghost use Rattle.strip.specs.Outcome.{shown};
 ghost use Rattle.strip.specs.Check.{paper, stripOutcome};
@@ -78,7 +78,7 @@ pub fn poly_at(strip: &[u32], at: usize) -> Poly
 
 // Whether w is the bits of neither an infinity nor a NaN.
 pub fn is_finite(w: u32) -> bool
-    ensures { λ r. ⌜ r ≡ finite w ⌝ }
+    ensures { λ r. ⌜ r ≡ finiteBits w ⌝ }
 {
     w % 0x8000_0000 < 0x7F80_0000
 }

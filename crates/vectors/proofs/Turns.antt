@@ -1,4 +1,4 @@
--- What a turn of a loop adds: one word more, one id more.
+-- What a turn of a loop adds: one word more, one id more, one record more.
 use Prim.Native.Nat.{ℕ, suc, _+_, _-_, _≤_, _<_}
 use native.Mathlib.Numerals.{add-one}
 use native.Mathlib.Omega.{arith}
@@ -12,7 +12,10 @@ use Rattle.areas.specs.Areas.{ensured}
 use Rattle.areas.specs.declared.Areas.{Areas}
 use Rattle.areas.specs.declared.Ensured.{Ensured}
 use Rattle.areas.specs.declared.AreaAnswer.the-variants.{At, Full}
-use Rattle.vectors.specs.Agreement.{isFull, taking}
+use Rattle.replay.specs.Tallies.{Step, more}
+use Rattle.replay.specs.declared.Tally.{Tally}
+use Rattle.vectors.specs.Agreement.{isFull, taking, recordOf, AgreesAt, Asked, PassedAt}
+use Rattle.vectors.specs.declared.Record.{Record}
 use Rattle.vectors.specs.declared.Taken.{Taken}
 
 -- one word more of a list that is filled from the front by f
@@ -42,3 +45,9 @@ module _ (input : List ℕ) (i : ℕ) (t : Areas) where
   pub no-more : (r : Taken) → length input ≤ i → taking t (i - 1) (drop i input) ≡ r → record { areas = t; count = i - 1 } ≡ r
   unfolding taking
   no-more r h all = rw (drop-of-length-le input h) at all
+
+-- a record more is passed
+pub one-record : (ws : List ℕ) (low high at : ℕ) (r : Record) (s t : Tally) → PassedAt ws low high at s → at + 3 ≤ length ws → r ≡ recordOf ws at → Step (Asked ws low high at) (AgreesAt ws at r) s at t → PassedAt ws low high (r .next) t
+one-record ws low high at r s t p here e q =
+    let q' : Step (Asked ws low high at) (AgreesAt ws at (recordOf ws at)) s at t = rw e at q in
+    rw e (more at s t p here q')

@@ -1,9 +1,9 @@
 -- What the leaves, and `pick_poly`, make of a record's words in, by its tag, and when a record agrees with them. Definitions only.
-use Prim.Native.Nat.{ℕ, _+_, _*_, _%_, _≤_, _<_}
+use Prim.Native.Nat.{ℕ, _+_, _-_, _*_, _%_, _≤_, _<_}
 use mathlib.Core.Path.{_≡_}
 use mathlib.Core.Bool.{Bool, true, false, cond}
 use mathlib.Core.List.{List, [], _∷_}
-use lib.ListN.{getD, drop}
+use lib.ListN.{length, getD, take, drop}
 use lib.Ieee.{Float, binary32, ofBits, toBits}
 use Rattle.fields.specs.Bytes.{over, zeros}
 use Rattle.quantise.specs.Short.{short, coordinate}
@@ -20,6 +20,9 @@ use Rattle.answers.specs.Words as Words
 use Rattle.picking.specs.declared.Spot.{Spot}
 use Rattle.picking.specs.Picking.{pickOutcome}
 use Rattle.picking.specs.Entries.{foundWords}
+use Rattle.replay.specs.Ends.{recordEnd}
+use Rattle.replay.specs.Tallies.{Passed, Counted}
+use Rattle.replay.specs.declared.Tally.{Tally}
 use Rattle.vectors.specs.declared.Taken.{Taken}
 use Rattle.vectors.specs.declared.Record.{Record}
 
@@ -90,6 +93,33 @@ pub data Agrees : ℕ → List ℕ → List ℕ → Type 0 where
   as-place : {i o : List ℕ} → placeIn i ≡ getD o 0 0 + 0x1_0000_0000 * getD o 1 0 → Agrees 5 i o
   as-strip : {i o : List ℕ} → (stripNumber i ≡ getD o 0 0) × FirstThree (stripWords i) o → Agrees 6 i o
   as-pick : {i o : List ℕ} → (pickNumber i ≡ getD o 0 0) × FirstThree (pickWords i) o → Agrees 7 i o
+
+-- where the parts of the record at a place stand: what the list lacks is left out
+abbrev pub outputAt : List ℕ → ℕ → ℕ
+outputAt ws at = recordEnd (length ws) (at + 3) (getD ws (at + 1) 0)
+
+abbrev pub nextAt : List ℕ → ℕ → ℕ
+nextAt ws at = recordEnd (length ws) (outputAt ws at) (getD ws (at + 2) 0)
+
+abbrev pub recordOf : List ℕ → ℕ → Record
+recordOf ws at = record { input = at + 3; output = outputAt ws at; next = nextAt ws at }
+
+abbrev pub between : List ℕ → (from to : ℕ) → List ℕ
+between ws from to = take (to - from) (drop from ws)
+
+-- whether a record whose parts stand so agrees, and whether its tag is one of those that are asked for
+abbrev pub AgreesAt : List ℕ → ℕ → Record → Type 0
+AgreesAt ws at r = Agrees (getD ws at 0) (between ws (r .input) (r .output)) (between ws (r .output) (r .next))
+
+abbrev pub Asked : List ℕ → (low high at : ℕ) → Type 0
+Asked ws low high at = (low ≤ getD ws at 0) × (getD ws at 0 ≤ high)
+
+-- the tally of the records with such a tag: of those before a place, and of all
+abbrev pub PassedAt : List ℕ → (low high at : ℕ) → Tally → Type 0
+PassedAt ws low high = Passed (λ (at : ℕ). at + 3 ≤ length ws) (λ (at : ℕ). Asked ws low high at) (λ (at : ℕ). AgreesAt ws at (recordOf ws at)) (λ (at : ℕ). nextAt ws at) (length ws)
+
+abbrev pub TallyOf : List ℕ → (low high : ℕ) → Tally → Type 0
+TallyOf ws low high = Counted (λ (at : ℕ). at + 3 ≤ length ws) (λ (at : ℕ). Asked ws low high at) (λ (at : ℕ). AgreesAt ws at (recordOf ws at)) (λ (at : ℕ). nextAt ws at) (length ws)
 
 -- a record at a place of n words, which it goes beyond and does not leave
 pub record Stands (at : ℕ) (r : Record) (n : ℕ) : Type 0 where

@@ -6,10 +6,10 @@ ghost use mathlib.Core.Path.{_≡_};
 ghost use mathlib.Core.Bool.{true};
 ghost use Prim.Native.Nat.{ℕ, _+_, _*_, _≤_, _<_};
 ghost use lib.ListN.{length, getD, drop};
-ghost use Rattle.fields.specs.Bytes.{le, zeros};
+ghost use Rattle.fields.specs.Bytes.{leAt, zeros};
 ghost use Rattle.areas.specs.Areas.{seeded, stored};
-ghost use Rattle.replay.specs.Tallies.{Tallied};
-ghost use Rattle.vectors.specs.Agreement.{shortOf, backOf, floorOf, ceilOf, placeIn, stripNumber, stripWords, pickNumber, pickWords, taking, AreasAgree, FirstThree, Agrees, Stands};
+ghost use Rattle.replay.specs.Tallies.{Tallied, Step};
+ghost use Rattle.vectors.specs.Agreement.{shortOf, backOf, floorOf, ceilOf, placeIn, stripNumber, stripWords, pickNumber, pickWords, taking, AreasAgree, FirstThree, Agrees, recordOf, AgreesAt, Asked, TallyOf, Stands};
 use areas::AreaAnswer;
 use areas::Areas;
 use replay::Tally;
@@ -201,7 +201,7 @@ struct Record {
 
 fn record_at(words: &[u32], at: usize) -> Record
     requires { ⌜ at + 3 ≤ length (now words) ⌝ }
-    ensures { λ r. ⌜ Stands at r (length (now (words .entry))) ⌝ }
+    ensures { λ r. ⌜ (r ≡ recordOf (now (words .entry)) at) × Stands at r (length (now (words .entry))) ⌝ }
 {
     let input = at + 3;
     let output = input + fields::least(words[at + 1] as usize, words.len() - input);
@@ -216,7 +216,7 @@ fn record_at(words: &[u32], at: usize) -> Record
 // The tally with the record at a place, where the record's tag is from low to high.
 fn with_record(words: &[u32], at: usize, r: Record, t: Tally, low: u32, high: u32) -> Tally
     requires { ⌜ Stands at r (length (now words)) × Tallied (length (now words)) at t ⌝ }
-    ensures { λ s. ⌜ Tallied (length (now (words .entry))) (at + 1) s ⌝ }
+    ensures { λ s. ⌜ Step (Asked (now (words .entry)) low high at) (AgreesAt (now (words .entry)) at r) t at s × Tallied (length (now (words .entry))) (at + 1) s ⌝ }
 {
     let tag = words[at];
     let input = r.input;
@@ -234,7 +234,7 @@ fn with_record(words: &[u32], at: usize, r: Record, t: Tally, low: u32, high: u3
 
 // Of the records whose tag is from low to high.
 fn tally_of(words: &[u32], low: u32, high: u32) -> Tally
-    ensures { λ r. ⌜ Tallied (length (now (words .entry))) (length (now (words .entry))) r ⌝ }
+    ensures { λ r. ⌜ TallyOf (now (words .entry)) low high r ⌝ }
 {
     let mut t = Tally {
         seen: 0,
@@ -262,7 +262,7 @@ fn report(name: &[u8], words: &[u32], low: u32, high: u32) -> usize
 
 // The words of the bytes.
 fn load(bytes: &[u8], words: &mut [u32])
-    ensures { λ _. ⌜ ((k : ℕ) → k < length (now (words .entry)) → getD (now (words .exit)) k 0 ≡ le 4 (now (bytes .entry)) (4 * k)) ⌝ }
+    ensures { λ _. ⌜ ((k : ℕ) → k < length (now (words .entry)) → getD (now (words .exit)) k 0 ≡ leAt 4 (now (bytes .entry)) (4 * k)) ⌝ }
 {
     let mut i = 0;
     while i < words.len() {

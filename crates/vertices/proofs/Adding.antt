@@ -11,7 +11,7 @@ use lib.Seq.{getD-set-same, getD-set-other, drop-set-lt}
 use Rattle.vertices.proofs.Triples.{met-ext}
 use Rattle.vertices.proofs.Links.{low-at, high-at, linked-own, linked-other, child-is, Apart, apart}
 use Rattle.vertices.proofs.Ways.{way-link, way-kept, ahead-kept}
-use Rattle.vertices.specs.Table.{triple, tripleAt, met, half, halfAt, childOf, rootOf, linkedWith, added, Ahead, Link, root, child, Table, Ends, Room}
+use Rattle.vertices.specs.Table.{triple, tripleAt, met, half, halfAt, childOf, rootOf, linkedWith, added, Ahead, Link, root, child, Table, Ends, TableRoom}
 
 -- t after the first and after the second of the three stores
 abbrev first : List ℕ → ℕ → ℕ → ℕ → List ℕ
@@ -20,7 +20,7 @@ first t b n x = set t (b + 2 * n) (x % 4294967296)
 abbrev second : List ℕ → ℕ → ℕ → ℕ → List ℕ
 second t b n x = set (first t b n x) (b + 2 * n + 1) (x / 4294967296)
 
-module _ (t : List ℕ) (b n x s : ℕ) (R : Room t b n x) (lt : n < 65536) (E : Ends t b n x s) where
+module _ (t : List ℕ) (b n x s : ℕ) (R : TableRoom t b n x) (lt : n < 65536) (E : Ends t b n x s) where
   abbrev after : List ℕ
   after = added t b n x s
 

@@ -1,4 +1,4 @@
--- The three answers of `find_or_add` are what `Looked` says.
+-- The three answers of `vertex_index` are what `Looked` says.
 use Prim.Native.Nat.{ℕ, _+_, _≤_, _<_}
 use native.Mathlib.Omega.{arith}
 use mathlib.Core.Path.{_≡_, refl, ap, sym, _∙_}
@@ -8,7 +8,7 @@ use lib.ListN.{length}
 use borrow.Author.Tests.{lt-ltb, le-ltb}
 use Rattle.distinct.specs.Distinct.{indexOf, isIn, upTo}
 use Rattle.vertices.specs.Vertices.{numberOf}
-use Rattle.vertices.specs.Table.{triple, met, added, Table, Stands, Ends, Room, Looked}
+use Rattle.vertices.specs.Table.{triple, met, added, Table, Finds, Ends, TableRoom, LookedUp}
 use Rattle.vertices.specs.declared.Numbered.the-variants.{Vertex, Full}
 use Rattle.distinct.proofs.Laws.{index-at, index-none, with-old, length-fresh, fresh-index, up-old, up-new, up-full}
 use Rattle.vertices.proofs.Triples.{length-met, met-at}
@@ -43,13 +43,13 @@ module _ (t : List ℕ) (b n x : ℕ) where
       index-none (met t b n) x (λ j q f. none j (omega (arith, length-met t b n)) (sym (met-at t b n j (omega (arith, length-met t b n))) ∙ f)) in
       le-ltb (indexOf (met t b n) x) (length (met t b n)) (omega arith)
 
-  pub looked-old : (i : ℕ) → Table t b n → Stands t b n x i → Looked t t b n x (Vertex i n)
+  pub looked-old : (i : ℕ) → Table t b n → Finds t b n x i → LookedUp t t b n x (Vertex i n)
   looked-old i T f =
       let here = index-found T i (f .below) (f .equal) in
       let a = answer-old (met t b n) x (omega (arith, T .few, length-met t b n)) (lt-ltb (indexOf (met t b n) x) (length (met t b n)) (omega (arith, f .below, length-met t b n))) in
       record { answer = ap (λ (k : ℕ). Vertex k n) (sym here) ∙ (rw length-met at (a .0)); now-met = sym (a .1); table = T; rest = refl; long = refl }
 
-  pub looked-new : (s : ℕ) → Room t b n x → n < 65536 → Ends t b n x s → Looked t (added t b n x s) b n x (Vertex n (n + 1))
+  pub looked-new : (s : ℕ) → TableRoom t b n x → n < 65536 → Ends t b n x s → LookedUp t (added t b n x s) b n x (Vertex n (n + 1))
   looked-new s R lt E =
       let a = answer-new (met t b n) x (omega (arith, length-met t b n)) (missing (E .none)) in
       record {
@@ -60,7 +60,7 @@ module _ (t : List ℕ) (b n x : ℕ) where
         long = length-added t b n x s R lt E;
       }
 
-  pub looked-full : (s : ℕ) → Table t b n → 65536 ≤ n → Ends t b n x s → Looked t t b n x Full
+  pub looked-full : (s : ℕ) → Table t b n → 65536 ≤ n → Ends t b n x s → LookedUp t t b n x Full
   looked-full s T ge E =
       let a = answer-full (met t b n) x (omega (arith, length-met t b n)) (missing (E .none)) in
       record { answer = a .0; now-met = sym (a .1); table = T; rest = refl; long = refl }

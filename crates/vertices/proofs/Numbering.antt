@@ -9,7 +9,7 @@ use lib.Seq.{drop-at}
 use lib.Dec.{leb}
 use Rattle.distinct.specs.Distinct.{indexOf, withNew, distinctFrom, numbersFrom}
 use Rattle.vertices.specs.Vertices.{numberOf, countAfter, answerAll}
-use Rattle.vertices.specs.Table.{tripleAt, met, halfAt, Link, root, child, cleared, Table, Looked}
+use Rattle.vertices.specs.Table.{tripleAt, met, halfAt, Link, root, child, cleared, Table, LookedUp}
 use Rattle.fields.specs.Bytes.{put, zeros}
 use Rattle.fields.proofs.Puts.{length-put, put-whole}
 use Rattle.vertices.specs.declared.Numbered.{Numbered}
@@ -117,7 +117,7 @@ pub record Step (xs : List ℕ) (m b : ℕ) (t₀ o₀ t o : List ℕ) (n i x : 
   pub size : length xs ≡ m
   pub more : i < m
   pub key : x ≡ getD xs i 0
-  pub looked : Looked t t' b n x r
+  pub looked : LookedUp t t' b n x r
 
 module _ {xs : List ℕ} {m b : ℕ} {t₀ o₀ t o : List ℕ} {n i x : ℕ} {t' : List ℕ} {r : Numbered} (s : Step xs m b t₀ o₀ t o n i x t' r) where
   inside : i < length xs

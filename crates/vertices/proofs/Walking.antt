@@ -5,7 +5,7 @@ use native.Mathlib.Decide.{decLt}
 use mathlib.Core.Path.{_≡_, ap, sym, subst, _∙_}
 use mathlib.Core.List.{List}
 use mathlib.Core.Logic.{⊎-elim}
-use Rattle.vertices.specs.Table.{triple, halfAt, rootOf, childOf, Way, start, down, Ahead, Table, Comes, Stands, Ends}
+use Rattle.vertices.specs.Table.{triple, halfAt, rootOf, childOf, Way, start, down, Ahead, Table, Comes, Finds, Ends}
 use Rattle.vertices.proofs.Ways.{first-step, way-link, deepest}
 
 -- how far it is from a link to the last of n vertices, where 0 is none
@@ -75,13 +75,13 @@ module _ (t : List ℕ) (b n x : ℕ) (T : Table t b n) where
     walked = record { steps = W .steps; left = key; way = W .way; quick = W .quick }
 
     -- the vertex to which half s leads has x
-    pub stands-here : 0 < p → triple t b (p - 1) ≡ x → Stands t b n x (p - 1)
+    pub stands-here : 0 < p → triple t b (p - 1) ≡ x → Finds t b n x (p - 1)
     stands-here h e =
         let few : p ≤ 65535 = rw (W .here) (T .links s (way-link t b n T (W .way)) .1) in
         record { place = s; walk = walked; here = sym (W .here) ∙ omega arith; below = omega (arith, below); equal = e }
 
     -- the walk is at its end, and the last vertex of a full table has x
-    pub stands-last : p ≡ 0 → 65535 < n → triple t b 65535 ≡ x → Stands t b n x 65535
+    pub stands-last : p ≡ 0 → 65535 < n → triple t b 65535 ≡ x → Finds t b n x 65535
     stands-last z h e = record { place = s; walk = walked; here = sym (W .here) ∙ z; below = h; equal = e }
 
     pub ended : p ≡ 0 → (65535 < n → triple t b 65535 ≡ x → ⊥) → Ends t b n x s

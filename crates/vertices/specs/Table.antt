@@ -98,7 +98,7 @@ pub record Comes (t : List ℕ) (b x s : ℕ) : Type 0 where
   pub quick : steps ≤ 48
 
 -- vertex i has x, and the walk for x comes to the half that leads to it; vertex 65,535, to which none does, is looked at where the walk ends
-pub record Stands (t : List ℕ) (b n x i : ℕ) : Type 0 where
+pub record Finds (t : List ℕ) (b n x i : ℕ) : Type 0 where
   pub place : ℕ
   pub walk : Comes t b x place
   pub here : halfAt t place ≡ (i + 1) % 65536
@@ -113,7 +113,7 @@ pub record Ends (t : List ℕ) (b n x s : ℕ) : Type 0 where
 
 -- the answer of a walk for x: the vertex with x, or where it would stand
 abbrev pub Walked : List ℕ → ℕ → ℕ → ℕ → Found → Type 0
-Walked t b n x (At i) = Stands t b n x i
+Walked t b n x (At i) = Finds t b n x i
 Walked t b n x (End s) = Ends t b n x s
 
 -- t with its b first words 0: a table of no vertex
@@ -129,14 +129,14 @@ unfoldable pub added : List ℕ → ℕ → ℕ → ℕ → ℕ → List ℕ
 added t b n x s = set (set (set t (b + 2 * n) (x % 4294967296)) (b + 2 * n + 1) (x / 4294967296)) (s / 2) (linkedWith (getD t (s / 2) 0) s ((n + 1) % 65536))
 
 -- there is a table of n vertices, and room for x as one more
-pub record Room (t : List ℕ) (b n x : ℕ) : Type 0 where
+pub record TableRoom (t : List ℕ) (b n x : ℕ) : Type 0 where
   pub table : Table t b n
   pub more : b + 2 * n + 2 ≤ length t
   pub trees : n < 65536 → n < b
   pub short : x < 2 ^ 48
 
 -- t' is the table t of n vertices after x was looked up, with the answer r. No word behind the table's last vertex is changed
-pub record Looked (t t' : List ℕ) (b n x : ℕ) (r : Numbered) : Type 0 where
+pub record LookedUp (t t' : List ℕ) (b n x : ℕ) (r : Numbered) : Type 0 where
   pub answer : r ≡ numberOf (met t b n) x
   pub now-met : met t' b (countAfter r n) ≡ upTo 65536 (met t b n) x
   pub table : Table t' b (countAfter r n)

@@ -3,7 +3,7 @@
 ghost use mathlib.Core.Path.{_≡_};
 ghost use Prim.Native.Nat.{_+_, _*_, _/_, _≤_, _<_, _^_, min};
 ghost use lib.ListN.{length, getD};
-ghost use Rattle.vertices.specs.Table.{tripleAt, hashOf, met, half, halfAt, childOf, Walked, cleared, linkedWith, added, Table, Room, Looked, InWork, triplesOf, NumberedAll};
+ghost use Rattle.vertices.specs.Table.{tripleAt, hashOf, met, half, halfAt, childOf, Walked, cleared, linkedWith, added, Table, TableRoom, LookedUp, InWork, triplesOf, NumberedAll};
 
 enum Found {
     // The vertex with the triple.
@@ -149,9 +149,9 @@ fn add(table: &mut [u32], buckets: usize, count: usize, triple: u64, place: usiz
 
 // The number of a triple: that of the first equal one, or the next number, which the triple then has.
 // No test could show that the words hold a table, so a caller has to keep `Table`, from `clear` on.
-pub fn find_or_add(table: &mut [u32], buckets: usize, count: usize, triple: u64) -> Numbered
-    requires { ⌜ Room (now table) buckets count triple ⌝ }
-    ensures { λ r. ⌜ Looked (now (table .entry)) (now (table .exit)) buckets count triple r ⌝ }
+pub fn vertex_index(table: &mut [u32], buckets: usize, count: usize, triple: u64) -> Numbered
+    requires { ⌜ TableRoom (now table) buckets count triple ⌝ }
+    ensures { λ r. ⌜ LookedUp (now (table .entry)) (now (table .exit)) buckets count triple r ⌝ }
 {
     let known = find(table, buckets, count, triple);
     match known {
@@ -178,7 +178,7 @@ fn number_in(triples: &[u32], m: usize, work: &mut [u32], buckets: usize) -> All
     let mut i = 0;
     while i < m {
         let triple = whole_triple_at(triples, 2 * i);
-        let known = find_or_add(&mut work[m..], buckets, n, triple);
+        let known = vertex_index(&mut work[m..], buckets, n, triple);
         match known {
             Numbered::Vertex(number, count) => {
                 work[i] = number as u32;

@@ -7,18 +7,18 @@ use mathlib.Core.Path.{_≡_, refl, ap, sym, _∙_}
 use mathlib.Core.List.{List, [], _∷_, _++_}
 use lib.ListN.{length, set, length-append, length-take, length-drop, take, drop}
 use borrow.Author.Tests.{eq-eqb, ne-eqb, lt-ltb, le-ltb}
-use Rattle.fields.specs.Bytes.{le, put}
+use Rattle.fields.specs.Bytes.{leAt, put}
 use Rattle.fields.proofs.Holds.{put-held, held-taken}
 use Rattle.fields.proofs.Puts.{length-put, put-nil, put-one, put-next}
 use Rattle.write_vectors.specs.Runs.{which, before, runWord, runWords, runEnd, runCount, runOf, RunAt, Runs, none, more, Unrolled}
 use Rattle.write_vectors.specs.declared.Run.{Run}
 
 module _ (ws : List ℕ) (grows k : ℕ) where
-  pub word-grown : (w : ℕ) → which ws k ≡ grows → w ≡ le 4 ws (4 * which ws k) → (w + 256 * before ws k) % 4294967296 ≡ runWord ws grows k
+  pub word-grown : (w : ℕ) → which ws k ≡ grows → w ≡ leAt 4 ws (4 * which ws k) → (w + 256 * before ws k) % 4294967296 ≡ runWord ws grows k
   unfolding runWord
   word-grown w h e = rw (eq-eqb (which ws k) grows h) (ap (λ (x : ℕ). (x + 256 * before ws k) % 4294967296) e)
 
-  pub word-given : (w : ℕ) → (which ws k ≡ grows → ⊥) → w ≡ le 4 ws (4 * which ws k) → w ≡ runWord ws grows k
+  pub word-given : (w : ℕ) → (which ws k ≡ grows → ⊥) → w ≡ leAt 4 ws (4 * which ws k) → w ≡ runWord ws grows k
   unfolding runWord
   word-given w h e = rw (ne-eqb (which ws k) grows h) e
 
@@ -57,7 +57,7 @@ module _ (rs : List ℕ) (at room e : ℕ) (q : e ≡ runEnd rs at) (h : at + 12
     given = λ z. absurd (omega arith);
   }
 
-  pub run-with : (n : ℕ) → 4 ≤ e - (at + 12) → n < 2 ^ 32 → n ≡ min (le 4 rs at) room → RunAt rs at room (record { words = at + 12; end = e; count = n })
+  pub run-with : (n : ℕ) → 4 ≤ e - (at + 12) → n < 2 ^ 32 → n ≡ min (leAt 4 rs at) room → RunAt rs at room (record { words = at + 12; end = e; count = n })
   unfolding runCount
   run-with n some few en = record {
     words = refl;
@@ -80,7 +80,7 @@ module _ (rs : List ℕ) (at room : ℕ) (r : Run) (a : RunAt rs at room r) wher
   given-bytes h = simp (length-take, length-drop) (omega (arith, a .given h, a .words, a .inside, a .goes-on))
 
   module _ (made : ℕ) (xs : List ℕ) where
-    pub run-put : (g : ℕ) (w : List ℕ) → g ≡ le 4 rs (at + 8) → w ≡ put made (runWords (take (r .end - r .words) (drop (r .words) rs)) g (r .count)) xs → w ≡ put made (runOf rs at room) xs
+    pub run-put : (g : ℕ) (w : List ℕ) → g ≡ leAt 4 rs (at + 8) → w ≡ put made (runWords (take (r .end - r .words) (drop (r .words) rs)) g (r .count)) xs → w ≡ put made (runOf rs at room) xs
     unfolding runOf
     run-put g w e q = rw (e, a .words, a .end, a .count) at q
 

@@ -6,30 +6,32 @@ use mathlib.Core.Path.{_≡_, ap, sym, _∙_}
 use mathlib.Core.List.{List, _++_}
 use lib.ListN.{length, take, drop, getD, length-take}
 use borrow.Author.Tests.{eq-eqb, ne-eqb}
-use Rattle.fields.specs.Bytes.{le}
+use Rattle.fields.specs.Bytes.{leAt}
 use Rattle.strip.specs.Outcome.{Paper, refusal, values, shown, left}
 use Rattle.ynv_write.specs.Serialize.{serializeOutcome}
 use Rattle.ynv_write.specs.declared.Written.{Written}
 use Rattle.write_vectors.specs.Runs.{Unrolled}
-use Rattle.write_vectors.specs.Agreement.{told, toldLength, sumUpTo, checksum, lent, lentWork, between, outcomeOf, pagesOf, SameBytes, Untouched, PagesAgree, Agrees, untouchedBytes}
+use Rattle.write_vectors.specs.Agreement.{Begins, Asked, PassedAt, recordOf, told, toldLength, sumUpTo, checksum, lent, lentWork, between, outcomeOf, pagesOf, SameBytes, Untouched, PagesAgree, Agrees, untouchedBytes}
 use Rattle.write_vectors.specs.declared.Record.{Record}
+use Rattle.replay.specs.Tallies.{Step, more}
+use Rattle.replay.specs.declared.Tally.{Tally}
 
 module _ (b : List ℕ) (at : ℕ) where
-  pub told-written : (w : Written) → le 4 b (at + 12) ≡ 0 → w .length ≡ le 4 b (at + 16) → values w ≡ told b at
+  pub told-written : (w : Written) → leAt 4 b (at + 12) ≡ 0 → w .length ≡ leAt 4 b (at + 16) → values w ≡ told b at
   unfolding told
-  told-written w e q = rw (eq-eqb (le 4 b (at + 12)) 0 e, ← q)
+  told-written w e q = rw (eq-eqb (leAt 4 b (at + 12)) 0 e, ← q)
 
-  pub told-refusal : (n place : ℕ) → (le 4 b (at + 12) ≡ 0 → ⊥) → n ≡ le 4 b (at + 12) → place ≡ le 4 b (at + 16) → refusal n place ≡ told b at
+  pub told-refusal : (n place : ℕ) → (leAt 4 b (at + 12) ≡ 0 → ⊥) → n ≡ leAt 4 b (at + 12) → place ≡ leAt 4 b (at + 16) → refusal n place ≡ told b at
   unfolding told
-  told-refusal n place h e f = rw (ne-eqb (le 4 b (at + 12)) 0 h) (cc)
+  told-refusal n place h e f = rw (ne-eqb (leAt 4 b (at + 12)) 0 h) (cc)
 
-  pub told-some : (n : ℕ) → le 4 b (at + 12) ≡ 0 → n ≡ le 4 b (at + 16) → n ≡ toldLength b at
+  pub told-some : (n : ℕ) → leAt 4 b (at + 12) ≡ 0 → n ≡ leAt 4 b (at + 16) → n ≡ toldLength b at
   unfolding toldLength
-  told-some n e q = rw (eq-eqb (le 4 b (at + 12)) 0 e) q
+  told-some n e q = rw (eq-eqb (leAt 4 b (at + 12)) 0 e) q
 
-  pub told-none : (le 4 b (at + 12) ≡ 0 → ⊥) → 0 ≡ toldLength b at
+  pub told-none : (leAt 4 b (at + 12) ≡ 0 → ⊥) → 0 ≡ toldLength b at
   unfolding toldLength
-  told-none h = rw (ne-eqb (le 4 b (at + 12)) 0 h)
+  told-none h = rw (ne-eqb (leAt 4 b (at + 12)) 0 h)
 
 -- the checksum of one byte more, and of all of them
 module _ (xs : List ℕ) (k s : ℕ) where
@@ -57,7 +59,7 @@ module _ (b : List ℕ) (at : ℕ) (strip work old : List ℕ) (g : ℕ) (d : g 
   pages-left new q = rw (q, work-length, part-length, d, e)
 
 -- the pages' three tests
-pub pages-agreed : (b : List ℕ) (at : ℕ) (r : Record) (pages : List ℕ) (f : ℕ) → f ≡ min (toldLength b at) (length pages) → checksum (take f pages) ≡ le 4 b (at + 20)
+pub pages-agreed : (b : List ℕ) (at : ℕ) (r : Record) (pages : List ℕ) (f : ℕ) → f ≡ min (toldLength b at) (length pages) → checksum (take f pages) ≡ leAt 4 b (at + 20)
     → SameBytes (between b (r .bytes) (r .«bytes_end»)) pages → Untouched f pages → PagesAgree b at r pages
 pages-agreed b at r pages f e s t u = record { sum = rw (← e) s; bytes = t; rest = rw (← e) u }
 
@@ -71,3 +73,9 @@ agreed b at r s strip u x p room made all len says tells leaves same =
       answer = ap (λ (n : ℕ). shown (outcomeOf b at strip n)) len ∙ sym says ∙ tells;
       pages = rw (← all, ← leaves) same;
     }
+
+-- a record more is passed
+pub one-record : (b : List ℕ) (low high at : ℕ) (r : Record) (s t : Tally) → PassedAt b low high at s → Begins b at → r ≡ recordOf b at → Step (Asked b low high at) (Agrees b at r) s at t → PassedAt b low high (r .next) t
+one-record b low high at r s t p here e q =
+    let q' : Step (Asked b low high at) (Agrees b at (recordOf b at)) s at t = rw e at q in
+    rw e (more at s t p here q')

@@ -5,21 +5,23 @@ use mathlib.Core.Bool.{cond}
 use mathlib.Core.List.{List, _++_}
 use lib.Dec.{eqb}
 use lib.ListN.{length, take, drop, getD, replicate}
-use Rattle.fields.specs.Bytes.{le}
+use Rattle.fields.specs.Bytes.{leAt}
 use Rattle.strip.specs.Outcome.{Outcome, Paper, refusal, values, shown, left}
 use Rattle.ynv_write.specs.Serialize.{serializeOutcome}
 use Rattle.ynv_write.specs.declared.Written.{Written}
-use Rattle.replay.specs.Ends.{endOf, padded}
+use Rattle.replay.specs.Ends.{recordEnd, padded}
+use Rattle.replay.specs.Tallies.{Passed, Counted}
+use Rattle.replay.specs.declared.Tally.{Tally}
 use Rattle.write_vectors.specs.Runs.{Unrolled}
 use Rattle.write_vectors.specs.declared.Record.{Record}
 
 -- the answer that the record at a place tells: the number 0 is an accepted strip
 unfoldable pub told : List ℕ → ℕ → Paper Written
-told b at = cond (eqb (le 4 b (at + 12)) 0) (values (record { length = le 4 b (at + 16) })) (refusal (le 4 b (at + 12)) (le 4 b (at + 16)))
+told b at = cond (eqb (leAt 4 b (at + 12)) 0) (values (record { length = leAt 4 b (at + 16) })) (refusal (leAt 4 b (at + 12)) (leAt 4 b (at + 16)))
 
 -- the length of its pages
 unfoldable pub toldLength : List ℕ → ℕ → ℕ
-toldLength b at = cond (eqb (le 4 b (at + 12)) 0) (le 4 b (at + 16)) 0
+toldLength b at = cond (eqb (leAt 4 b (at + 12)) 0) (leAt 4 b (at + 16)) 0
 
 -- the checksum of the first k bytes
 unfoldable pub sumUpTo : List ℕ → ℕ → ℕ
@@ -35,10 +37,10 @@ untouchedBytes = replicate 1400000 0xD1
 
 -- how many words of work, and how many of n bytes, the record lends
 abbrev pub lentWork : List ℕ → ℕ → ℕ
-lentWork b at = min (le 4 b (at + 4)) 856000
+lentWork b at = min (leAt 4 b (at + 4)) 856000
 
 abbrev pub lent : List ℕ → ℕ → ℕ → ℕ
-lent b at n = min (le 4 b (at + 8)) n
+lent b at n = min (leAt 4 b (at + 8)) n
 
 abbrev pub between : List ℕ → (from to : ℕ) → List ℕ
 between b from to = take (to - from) (drop from b)
@@ -60,7 +62,7 @@ Untouched from pages = (k : ℕ) → from ≤ k → k < length pages → getD pa
 
 -- the pages have the record's checksum, begin with the bytes that it tells, and are behind its length as they were
 pub record PagesAgree (b : List ℕ) (at : ℕ) (r : Record) (pages : List ℕ) : Type 0 where
-  pub sum : checksum (take (min (toldLength b at) (length pages)) pages) ≡ le 4 b (at + 20)
+  pub sum : checksum (take (min (toldLength b at) (length pages)) pages) ≡ leAt 4 b (at + 20)
   pub bytes : SameBytes (between b (r .bytes) (r .«bytes_end»)) pages
   pub rest : Untouched (min (toldLength b at) (length pages)) pages
 
@@ -73,13 +75,33 @@ pub record Agrees (b : List ℕ) (at : ℕ) (r : Record) : Type 0 where
 
 -- where the parts of the record at a place stand
 abbrev pub bytesAt : List ℕ → ℕ → ℕ
-bytesAt b at = endOf (length b) (at + 32) (4 * le 4 b (at + 28))
+bytesAt b at = recordEnd (length b) (at + 32) (4 * leAt 4 b (at + 28))
 
-pub record Placed (b : List ℕ) (at : ℕ) (r : Record) : Type 0 where
-  pub runs : r .runs ≡ at + 32
-  pub bytes : r .bytes ≡ bytesAt b at
-  pub bytes-end : r .«bytes_end» ≡ endOf (length b) (bytesAt b at) (le 4 b (at + 24))
-  pub next : r .next ≡ endOf (length b) (bytesAt b at) (padded (le 4 b (at + 24)))
+abbrev pub nextAt : List ℕ → ℕ → ℕ
+nextAt b at = recordEnd (length b) (bytesAt b at) (padded (leAt 4 b (at + 24)))
+
+abbrev pub recordOf : List ℕ → ℕ → Record
+recordOf b at =
+    record {
+      runs = at + 32;
+      bytes = bytesAt b at;
+      «bytes_end» = recordEnd (length b) (bytesAt b at) (leAt 4 b (at + 24));
+      next = nextAt b at;
+    }
+
+-- whether a record stands at a place, and whether its number is one of those that are asked for
+abbrev pub Begins : List ℕ → ℕ → Type 0
+Begins b at = (at + 32 ≤ length b) × (leAt 4 b at ≡ 8)
+
+abbrev pub Asked : List ℕ → (low high at : ℕ) → Type 0
+Asked b low high at = (low ≤ leAt 4 b (at + 12)) × (leAt 4 b (at + 12) ≤ high)
+
+-- the tally of the records with such a number: of those before a place, and of all
+abbrev pub PassedAt : List ℕ → (low high at : ℕ) → Tally → Type 0
+PassedAt b low high = Passed (λ (at : ℕ). Begins b at) (λ (at : ℕ). Asked b low high at) (λ (at : ℕ). Agrees b at (recordOf b at)) (λ (at : ℕ). nextAt b at) (length b)
+
+abbrev pub TallyOf : List ℕ → (low high : ℕ) → Tally → Type 0
+TallyOf b low high = Counted (λ (at : ℕ). Begins b at) (λ (at : ℕ). Asked b low high at) (λ (at : ℕ). Agrees b at (recordOf b at)) (λ (at : ℕ). nextAt b at) (length b)
 
 -- a record at a place of n bytes, which it goes beyond and does not leave
 pub record Stands (at : ℕ) (r : Record) (n : ℕ) : Type 0 where

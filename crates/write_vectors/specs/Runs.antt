@@ -5,8 +5,8 @@ use mathlib.Core.Bool.{cond}
 use mathlib.Core.List.{List, [], _∷_, _++_}
 use lib.Dec.{eqb, ltb}
 use lib.ListN.{length, take, drop}
-use Rattle.replay.specs.Ends.{endOf}
-use Rattle.fields.specs.Bytes.{le}
+use Rattle.replay.specs.Ends.{recordEnd}
+use Rattle.fields.specs.Bytes.{leAt}
 use Rattle.write_vectors.specs.declared.Run.{Run}
 
 -- which of the given words word k of a run is, and how often they came before it
@@ -18,7 +18,7 @@ before ws k = k / (length ws / 4)
 
 -- word k of a run whose given words are these bytes, and whose word at `grows` is greater by 256 each time
 unfoldable pub runWord : List ℕ → (grows k : ℕ) → ℕ
-runWord ws grows k = cond (eqb (which ws k) grows) ((le 4 ws (4 * which ws k) + 256 * before ws k) % 4294967296) (le 4 ws (4 * which ws k))
+runWord ws grows k = cond (eqb (which ws k) grows) ((leAt 4 ws (4 * which ws k) + 256 * before ws k) % 4294967296) (leAt 4 ws (4 * which ws k))
 
 -- the first n words of it
 unfoldable pub runWords : List ℕ → (grows n : ℕ) → List ℕ
@@ -27,17 +27,17 @@ runWords ws grows (suc n) = runWords ws grows n ++ (runWord ws grows n ∷ [])
 
 -- where the given words of the run at a place end, and the bytes of them
 abbrev pub runEnd : List ℕ → ℕ → ℕ
-runEnd rs at = endOf (length rs) (at + 12) (4 * le 4 rs (at + 4))
+runEnd rs at = recordEnd (length rs) (at + 12) (4 * leAt 4 rs (at + 4))
 
 abbrev pub givenAt : List ℕ → ℕ → List ℕ
 givenAt rs at = take (runEnd rs at - (at + 12)) (drop (at + 12) rs)
 
 -- how many words it makes where there is room for so many: none if no word is given
 unfoldable pub runCount : List ℕ → (at room : ℕ) → ℕ
-runCount rs at room = cond (ltb (runEnd rs at - (at + 12)) 4) 0 (min (le 4 rs at) room)
+runCount rs at room = cond (ltb (runEnd rs at - (at + 12)) 4) 0 (min (leAt 4 rs at) room)
 
 unfoldable pub runOf : List ℕ → (at room : ℕ) → List ℕ
-runOf rs at room = runWords (givenAt rs at) (le 4 rs (at + 8)) (runCount rs at room)
+runOf rs at room = runWords (givenAt rs at) (leAt 4 rs (at + 8)) (runCount rs at room)
 
 pub record RunAt (rs : List ℕ) (at room : ℕ) (r : Run) : Type 0 where
   pub words : r .words ≡ at + 12

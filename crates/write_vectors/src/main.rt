@@ -11,9 +11,9 @@ ghost use lib.ListN.{length, take};
 ghost use Rattle.fields.specs.Bytes.{put};
 ghost use Rattle.strip.specs.Outcome.{values, refusalOf, shown};
 ghost use Rattle.ynv_write.specs.Serialize.{paper};
-ghost use Rattle.replay.specs.Tallies.{Tallied};
+ghost use Rattle.replay.specs.Tallies.{Tallied, Step};
 ghost use Rattle.write_vectors.specs.Runs.{runWord, runWords, runOf, RunAt, Unrolled};
-ghost use Rattle.write_vectors.specs.Agreement.{told, toldLength, checksum, untouchedBytes, outcomeOf, pagesOf, SameBytes, Untouched, PagesAgree, Agrees, Placed, Stands};
+ghost use Rattle.write_vectors.specs.Agreement.{told, toldLength, checksum, untouchedBytes, outcomeOf, pagesOf, SameBytes, Untouched, PagesAgree, Agrees, recordOf, Asked, TallyOf, Stands};
 use fields::u32_le;
 use replay::Tally;
 use replay::counted;
@@ -37,7 +37,7 @@ struct Record {
 
 fn record_at(list: &[u8], at: usize) -> Record
     requires { ⌜ at + 32 ≤ length (now list) ⌝ }
-    ensures { λ r. ⌜ Placed (now (list .entry)) at r × Stands at r (length (now (list .entry))) ⌝ }
+    ensures { λ r. ⌜ (r ≡ recordOf (now (list .entry)) at) × Stands at r (length (now (list .entry))) ⌝ }
 {
     let n = list.len();
     let runs = at + 32;
@@ -298,7 +298,7 @@ fn agrees(list: &[u8], at: usize, r: Record) -> bool
 // The tally with the record at a place, where the record's number is from low to high.
 fn with_record(list: &[u8], at: usize, r: Record, t: Tally, low: u32, high: u32) -> Tally
     requires { ⌜ (at + 32 ≤ length (now list)) × Stands at r (length (now list)) × Tallied (length (now list)) at t ⌝ }
-    ensures { λ s. ⌜ Tallied (length (now (list .entry))) (at + 1) s ⌝ }
+    ensures { λ s. ⌜ Step (Asked (now (list .entry)) low high at) (Agrees (now (list .entry)) at r) t at s × Tallied (length (now (list .entry))) (at + 1) s ⌝ }
 {
     let number = u32_le(list, at + 12);
     if number < low {
@@ -312,7 +312,7 @@ fn with_record(list: &[u8], at: usize, r: Record, t: Tally, low: u32, high: u32)
 
 // Of the records whose number is from low to high.
 fn tally_of(list: &[u8], low: u32, high: u32) -> Tally
-    ensures { λ r. ⌜ Tallied (length (now (list .entry))) (length (now (list .entry))) r ⌝ }
+    ensures { λ r. ⌜ TallyOf (now (list .entry)) low high r ⌝ }
 {
     let mut t = Tally {
         seen: 0,

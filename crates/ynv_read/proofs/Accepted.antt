@@ -4,21 +4,20 @@ use mathlib.Core.Path.{_≡_}
 use mathlib.Core.Bool.{true}
 use mathlib.Core.List.{List, [], _∷_}
 use lib.Dec.{ltb}
-use Rattle.fields.specs.Bytes.{le}
+use Rattle.fields.specs.Bytes.{leAt}
+use Rattle.strip.specs.Outcome.{Paper, values, refusal}
 use Rattle.strip.specs.Cell.{Cell}
 use Rattle.strip.specs.Box.{finiteBox}
-use Rattle.lists.specs.declared.ListAnswer.the-variants.{Items}
 use Rattle.lists.specs.Lists.{whole, listed}
 use Rattle.sector_tree.specs.Walk.{walk}
 use Rattle.sector_tree.specs.Walk as Walk
-use Rattle.polygons.specs.declared.Tally.the-variants.{Words}
 use Rattle.polygons.specs.Polygons.{limitsOf, tallyFrom}
-use Rattle.ynv_read.specs.Reading.{made, check, onList, onTally, onWalk, header, rootAt, head, source, polygons, portalCount, cellOf, onHead, onLists, afterWalk, readCell}
-use Rattle.ynv_read.proofs.Checks.{check-in, list-in, tally-in, walk-in}
+use Rattle.ynv_read.specs.Reading.{made, check, onPaper, onWalk, header, rootAt, head, source, polygons, portalCount, cellOf, onHead, onLists, afterWalk, readCell}
+use Rattle.ynv_read.proofs.Checks.{check-in, paper-in, walk-in}
 
 -- the list of items of w bytes whose address stands in the header at off was accepted
 abbrev pub Listed : (S G : List ℕ) (w off place : ℕ) → Type 0
-Listed S G w off place = (n : ℕ) × (listed S G w (le 8 (header S G) off) place ≡ Items n)
+Listed S G w off place = (n : ℕ) × (listed S G w (leAt 8 (header S G) off) place ≡ values n)
 
 pub record Accepted (S G : List ℕ) (c : Cell) (k : ℕ) : Type 0 where
   pub header-whole : whole S G 0x5000_0000 368 ≡ true
@@ -32,8 +31,8 @@ pub record Accepted (S G : List ℕ) (c : Cell) (k : ℕ) : Type 0 where
   pub edge-list : Listed S G 8 0x88 3
   pub polygon-list : Listed S G 48 0x118 4
   pub words : ℕ
-  pub tally : tallyFrom (limitsOf (source S G)) (source S G .indices) 0 (polygons S G) ≡ Words words
-  pub portals-whole : whole S G (le 8 (header S G) 0x128) (28 * portalCount S G) ≡ true
+  pub tally : tallyFrom (limitsOf (source S G)) (source S G .indices) 0 (polygons S G) ≡ values words
+  pub portals-whole : whole S G (leAt 8 (header S G) 0x128) (28 * portalCount S G) ≡ true
   pub is : c ≡ cellOf S G points
   pub sectors : k ≡ 4096 - left
 
@@ -53,17 +52,17 @@ accepted S G e =
     let (b, e₄) = check-in (finiteBox (head S G)) 40 o₄ e₃ in
     let (l, points, walked, e₅) = walk-in w (afterWalk S G) e₄ in
     let cell = made (cellOf S G points) (4096 - l) in
-    let p₅ = check (whole S G (le 8 hh 0x128) (28 * portalCount S G)) 39 cell in
-    let p₄ = onTally (tallyFrom (limitsOf s) (s .indices) 0 (polygons S G)) p₅ in
-    let p₃ = onList (listed S G 48 (le 8 hh 0x118) 4) p₄ in
-    let p₂ = onList (listed S G 8 (le 8 hh 0x88) 3) p₃ in
-    let p₁ = onList (listed S G 2 (le 8 hh 0x80) 2) p₂ in
-    let (n₁, l₁, f₁) = list-in (listed S G 6 (le 8 hh 0x70) 1) p₁ e₅ in
-    let (n₂, l₂, f₂) = list-in (listed S G 2 (le 8 hh 0x80) 2) p₂ f₁ in
-    let (n₃, l₃, f₃) = list-in (listed S G 8 (le 8 hh 0x88) 3) p₃ f₂ in
-    let (n₄, l₄, f₄) = list-in (listed S G 48 (le 8 hh 0x118) 4) p₄ f₃ in
-    let (n, t, f₅) = tally-in (tallyFrom (limitsOf s) (s .indices) 0 (polygons S G)) p₅ f₄ in
-    let (g, f₆) = check-in (whole S G (le 8 hh 0x128) (28 * portalCount S G)) 39 cell f₅ in
+    let p₅ = check (whole S G (leAt 8 hh 0x128) (28 * portalCount S G)) 39 cell in
+    let p₄ = onPaper (tallyFrom (limitsOf s) (s .indices) 0 (polygons S G)) p₅ in
+    let p₃ = onPaper (listed S G 48 (leAt 8 hh 0x118) 4) p₄ in
+    let p₂ = onPaper (listed S G 8 (leAt 8 hh 0x88) 3) p₃ in
+    let p₁ = onPaper (listed S G 2 (leAt 8 hh 0x80) 2) p₂ in
+    let (n₁, l₁, f₁) = paper-in (listed S G 6 (leAt 8 hh 0x70) 1) p₁ e₅ in
+    let (n₂, l₂, f₂) = paper-in (listed S G 2 (leAt 8 hh 0x80) 2) p₂ f₁ in
+    let (n₃, l₃, f₃) = paper-in (listed S G 8 (leAt 8 hh 0x88) 3) p₃ f₂ in
+    let (n₄, l₄, f₄) = paper-in (listed S G 48 (leAt 8 hh 0x118) 4) p₄ f₃ in
+    let (n, t, f₅) = paper-in (tallyFrom (limitsOf s) (s .indices) 0 (polygons S G)) p₅ f₄ in
+    let (g, f₆) = check-in (whole S G (leAt 8 hh 0x128) (28 * portalCount S G)) 39 cell f₅ in
     record {
       header-whole = h;
       root-whole = r;

@@ -8,18 +8,14 @@ use mathlib.Core.List.{List}
 use lib.ListN.{length}
 use Rattle.fields.specs.Bytes.{cut}
 use Rattle.resource.specs.Section.{resolved}
+use Rattle.strip.specs.Outcome.{Paper, values, refusal}
 use Rattle.strip.specs.Cell.{Cell}
 use Rattle.grammar.specs.Parts.{Good, Array, none, some}
-use Rattle.lists.specs.declared.ListAnswer.{ListAnswer}
-use Rattle.lists.specs.declared.ListAnswer.the-variants.{Items, Refused}
 use Rattle.lists.specs.Lists.{whole}
 use Rattle.lists.proofs.Lists.{whole-of, length-whole}
-use Rattle.polygons.specs.declared.Tally.{Tally}
-use Rattle.polygons.specs.declared.Tally.the-variants.{Words}
-use Rattle.polygons.specs.declared.Tally.the-variants.{Refused as Stopped}
 use Rattle.sector_tree.specs.Walk.{Walked}
 use Rattle.sector_tree.specs.Walk as Walk
-use Rattle.ynv_read.specs.Reading.{Reading, made, refused, check, onList, onWalk, onTally}
+use Rattle.ynv_read.specs.Reading.{Reading, made, refused, check, onPaper, onWalk}
 
 refused-made : {number place k : ℕ} {c : Cell} → refused number place ≡ made c k → ⊥
 refused-made e = let z : _≡_ {A = ℕ} 0 1 = cc in omega arith
@@ -28,9 +24,9 @@ pub check-in : (b : Bool) (number : ℕ) (rest : Reading) {c : Cell} {k : ℕ} �
 check-in true number rest e = (refl, e)
 check-in false number rest e = absurd (refused-made e)
 
-pub list-in : (a : ListAnswer) (rest : Reading) {c : Cell} {k : ℕ} → onList a rest ≡ made c k → (n : ℕ) × (a ≡ Items n) × (rest ≡ made c k)
-list-in (Items n) rest e = (n, refl, e)
-list-in (Refused r) rest e = absurd (refused-made e)
+pub paper-in : (a : Paper ℕ) (rest : Reading) {c : Cell} {k : ℕ} → onPaper a rest ≡ made c k → (n : ℕ) × (a ≡ values n) × (rest ≡ made c k)
+paper-in (values n) rest e = (n, refl, e)
+paper-in (refusal number place) rest e = absurd (refused-made e)
 
 pub walk-in : (w : Walked) (rest : List (List ℕ) → ℕ → Reading) {c : Cell} {k : ℕ} → onWalk w rest ≡ made c k
     → (left : ℕ) × (points : List (List ℕ)) × (w ≡ Walk.done left points) × (onWalk (Walk.done left points) rest ≡ made c k)
@@ -54,9 +50,3 @@ module _ (S G : List ℕ) where
   pub array-out : {w va n : ℕ} {xs : List (List ℕ)} → Array S G w va n xs → whole S G va (w * n) ≡ true
   array-out {w} {va} none = whole-of S G va (w * 0) (omega (arith, mul-zero w))
   array-out {w} {va} (some {n = n} g) = good-out va (w * suc n) g
-
--- ---- polygons
-
-pub tally-in : (t : Tally) (rest : Reading) {c : Cell} {k : ℕ} → onTally t rest ≡ made c k → (n : ℕ) × (t ≡ Words n) × (rest ≡ made c k)
-tally-in (Words n) rest e = (n, refl, e)
-tally-in (Stopped r) rest e = absurd (refused-made e)

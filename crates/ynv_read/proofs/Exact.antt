@@ -6,7 +6,8 @@ use mathlib.Core.Bool.{true}
 use mathlib.Core.List.{List, [], _∷_}
 use lib.ListN.{length}
 use borrow.Author.Tests.{lt-ltb}
-use Rattle.fields.specs.Bytes.{le, cut}
+use Rattle.fields.specs.Bytes.{leAt, cut}
+use Rattle.strip.specs.Outcome.{Paper, values, refusal}
 use Rattle.strip.specs.Cell.{Cell}
 use Rattle.strip.specs.Box.{finiteBox}
 use Rattle.grammar.specs.Parts.{Good, Array}
@@ -16,7 +17,6 @@ use Rattle.grammar.specs.Polygons.{Each}
 use Rattle.grammar.specs.Derives.{headOf, Makes}
 use Rattle.grammar.proofs.Parts.{null-never}
 use Rattle.grammar.proofs.Unique.{makes-one}
-use Rattle.lists.specs.declared.ListAnswer.the-variants.{Items}
 use Rattle.lists.specs.Lists.{whole, before, total, tableOf, listBytes, listed}
 use Rattle.lists.specs.Lists.{header as lists-header}
 use Rattle.resource.proofs.Parts.{null-empty}
@@ -47,15 +47,15 @@ module _ (S G : List ℕ) where
   unfolding head
   head-is = refl
 
-  portals-in : whole S G (le 8 (header S G) 0x128) (28 * portalCount S G) ≡ true
-      → Array S G 28 (le 8 (header S G) 0x128) (portalCount S G) (cut 28 (portalCount S G) (portals S G))
+  portals-in : whole S G (leAt 8 (header S G) 0x128) (28 * portalCount S G) ≡ true
+      → Array S G 28 (leAt 8 (header S G) 0x128) (portalCount S G) (cut 28 (portalCount S G) (portals S G))
   unfolding portals
-  portals-in e = array-in S G 28 (le 8 (header S G) 0x128) (portalCount S G) e (omega arith)
+  portals-in e = array-in S G 28 (leAt 8 (header S G) 0x128) (portalCount S G) e (omega arith)
 
   -- ---- lists
 
   null-total : total (tableOf S G 0) ≡ 0
-  unfolding tableOf lists-header le before
+  unfolding tableOf lists-header leAt before
   null-total = rw (null-empty S G 48) (rw (null-empty S G 0))
 
   count-is : {w va n : ℕ} → Found S G w va n → n ≡ total (tableOf S G va)
@@ -64,11 +64,11 @@ module _ (S G : List ℕ) where
 
   module _ (w va place : ℕ) (wide : 0 < w) where
     -- an accepted list has the items of the grammar's
-    items-in : {n : ℕ} → listed S G w va place ≡ Items n → grammar.Items S G w va (itemsAt S G w va)
+    items-in : {n : ℕ} → listed S G w va place ≡ values n → grammar.Items S G w va (itemsAt S G w va)
     unfolding itemsIn
     items-in {n} e = rw (← (count-is (listed-found S G w place e))) (lists.listed-items S G w wide place e)
 
-    items-out : {xs : List (List ℕ)} → grammar.Items S G w va xs → (listed S G w va place ≡ Items (length xs)) × (xs ≡ itemsAt S G w va)
+    items-out : {xs : List (List ℕ)} → grammar.Items S G w va xs → (listed S G w va place ≡ values (length xs)) × (xs ≡ itemsAt S G w va)
     unfolding itemsIn
     items-out i =
         let (e, f) = lists.items-listed S G w wide place i in
@@ -99,10 +99,10 @@ module _ (S G : List ℕ) where
         finite-box = f .box;
         tree = subst (λ (m : ℕ). Tree S G (rootAt S G) m (f .points)) visited t;
         few-sectors = omega (arith, f .sectors);
-        vertex-list = items-in 6 (le 8 hh 0x70) 1 (omega arith) (f .vertex-list .1);
-        index-list = items-in 2 (le 8 hh 0x80) 2 (omega arith) (f .index-list .1);
-        edge-list = items-in 8 (le 8 hh 0x88) 3 (omega arith) (f .edge-list .1);
-        polygon-list = items-in 48 (le 8 hh 0x118) 4 (omega arith) (f .polygon-list .1);
+        vertex-list = items-in 6 (leAt 8 hh 0x70) 1 (omega arith) (f .vertex-list .1);
+        index-list = items-in 2 (leAt 8 hh 0x80) 2 (omega arith) (f .index-list .1);
+        edge-list = items-in 8 (leAt 8 hh 0x88) 3 (omega arith) (f .edge-list .1);
+        polygon-list = items-in 48 (leAt 8 hh 0x118) 4 (omega arith) (f .polygon-list .1);
         portal-list = portals-in (f .portals-whole);
         polygons-are = tally-made s 0 (polygons S G) (f .tally) .0;
         portals-are = refl;
@@ -130,13 +130,13 @@ module _ (S G : List ℕ) where
       let all : k + (4096 - k) ≡ 4096 = omega (arith, m .few-sectors) in
       let walked : walk S G 4096 (rootAt S G ∷ []) ≡ Walk.done (4096 - k) (m .points) = rw all at (walk-complete S G tree (4096 - k)) in
       let visited : 4096 - (4096 - k) ≡ k = omega (arith, m .few-sectors) in
-      let (l₁, v) = items-out 6 (le 8 hh 0x70) 1 (omega arith) (rw (← e) at (m .vertex-list)) in
-      let (l₂, i) = items-out 2 (le 8 hh 0x80) 2 (omega arith) (rw (← e) at (m .index-list)) in
-      let (l₃, d) = items-out 8 (le 8 hh 0x88) 3 (omega arith) (rw (← e) at (m .edge-list)) in
-      let (l₄, b) = items-out 48 (le 8 hh 0x118) 4 (omega arith) (rw (← e) at (m .polygon-list)) in
+      let (l₁, v) = items-out 6 (leAt 8 hh 0x70) 1 (omega arith) (rw (← e) at (m .vertex-list)) in
+      let (l₂, i) = items-out 2 (leAt 8 hh 0x80) 2 (omega arith) (rw (← e) at (m .index-list)) in
+      let (l₃, d) = items-out 8 (leAt 8 hh 0x88) 3 (omega arith) (rw (← e) at (m .edge-list)) in
+      let (l₄, b) = items-out 48 (leAt 8 hh 0x118) 4 (omega arith) (rw (← e) at (m .polygon-list)) in
       let ps : Each (Polygons.Makes s) (polygons S G) (c .polys) = rw (v, i, d, b, ← e, ← same) at (m .polygons-are) in
       let l₅ = made-tally s 0 ps .0 in
-      let qs : Array S G 28 (le 8 hh 0x128) (portalCount S G) (m .portals) = rw (← e) at (m .portal-list) in
+      let qs : Array S G 28 (leAt 8 hh 0x128) (portalCount S G) (m .portals) = rw (← e) at (m .portal-list) in
       let whole-cell : readCell S G ≡ made (cellOf S G (m .points)) k =
       rw (good-out S G 0x5000_0000 368 (m .header-good), lt-ltb 0 (rootAt S G) (far (rootAt S G) good), good-out S G (rootAt S G) 96 good, fin, walked, visited, l₁, l₂, l₃, l₄, l₅, array-out S G qs) in
       whole-cell ∙ ap (λ (x : Cell). made x k) (makes-one S G (accepted-made whole-cell) m .1)

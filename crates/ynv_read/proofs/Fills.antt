@@ -3,13 +3,15 @@ use Prim.Native.Nat.{ℕ, _+_, _*_, _≤_, _<_}
 use native.Mathlib.Nat.{zero-add}
 use native.Mathlib.Omega.{arith}
 use mathlib.Core.Path.{_≡_, refl, sym, ap, subst, _∙_}
+use mathlib.Core.Bool.{true}
 use mathlib.Core.List.{List, [], _∷_, _++_, map}
 use lib.ListN.{length, length-append, set}
 use borrow.Author.Tests.{le-leb, lt-leb}
-use Rattle.fields.specs.Bytes.{le, put}
+use Rattle.fields.specs.Bytes.{leAt, put}
 use Rattle.fields.specs.Rows.{pack}
 use Rattle.fields.proofs.Puts.{put-next, put-one, put-whole}
 use Rattle.strip.specs.Cell.{Vec3, Cell, headWords, polygonWords, endWords, encode, each}
+use Rattle.strip.specs.Box.{finiteBox}
 use Rattle.strip.specs.Outcome.{shown, left}
 use Rattle.strip.specs.Outcome as Outcome
 use Rattle.strip.specs.declared.Refusal.{Refusal}
@@ -24,14 +26,14 @@ use Rattle.polygon_words.proofs.Words.{links-are}
 use Rattle.polygons.specs.Polygons.{Source, limitsOf, polygonMade}
 use Rattle.polygons.specs.Passes.{itemsIn, sourceOf, Passed}
 use Rattle.polygons.proofs.Exact.{tally-made}
-use Rattle.ynv_read.specs.declared.Addresses.{Addresses}
-use Rattle.ynv_read.specs.declared.Frame.{Frame}
+use Rattle.ynv_read.specs.declared.ListAddresses.{ListAddresses}
+use Rattle.cell_record.specs.declared.CellRecord.{CellRecord}
 use Rattle.ynv_read.specs.declared.Parsed.{Parsed}
 use Rattle.ynv_read.specs.declared.ParseAnswer.{ParseAnswer}
 use Rattle.ynv_read.specs.declared.ParseAnswer.the-variants as ParseAnswer
-use Rattle.ynv_read.specs.Reading.{Reading, made, refused, header, rootAt, root, head, source, polygons, portalCount, portals, cellOf, readCell}
+use Rattle.ynv_read.specs.Reading.{Reading, made, refused, header, rootAt, head, source, polygons, portalCount, portals, cellOf, readCell}
 use Rattle.ynv_read.specs.Parse.{paper, countsOf, parseOutcome}
-use Rattle.ynv_read.specs.Passes.{answerOf, addresses, frame, linkBytes, polysWords, portalsWords, ListsReady, ReadyFor, PolysFit, Fillable}
+use Rattle.ynv_read.specs.Passes.{answerOf, addresses, linkBytes, polysWords, portalsWords, Given, ListsReady, ReadyFor, PolysFit, Fillable}
 use Rattle.ynv_read.proofs.Accepted.{accepted}
 use Rattle.polygons.proofs.Runs.{length-items}
 use Rattle.ynv_read.proofs.Heads.{back-is}
@@ -39,11 +41,14 @@ use Rattle.ynv_read.proofs.Lengths.{head-length, polys-count, portals-l
 
 -- ---- polygons
 
-module _ (S G : List ℕ) {a : Addresses} (ea : a ≡ addresses (header S G)) {f : Frame} (ef : f ≡ frame (header S G) (root S G))
-    {vt it et pt lk hd : List ℕ} (ev : vt ≡ tableOf S G (a .vertices)) (ei : it ≡ tableOf S G (a .indices)) (ee : et ≡ tableOf S G (a .edges)) (ep : pt ≡ tableOf S G (a .polygons))
-    (el : lk ≡ linkBytes S G) (eh : hd ≡ header S G) where
+module _ (S G : List ℕ) {hd : List ℕ} {c : CellRecord} (known : Given S G hd c) {a : ListAddresses} (ed : a ≡ addresses hd)
+    {vt it et pt lk : List ℕ} (ev : vt ≡ tableOf S G (a .vertices)) (ei : it ≡ tableOf S G (a .indices)) (ee : et ≡ tableOf S G (a .edges)) (ep : pt ≡ tableOf S G (a .polygons))
+    (el : lk ≡ linkBytes S G) where
   abbrev given : Source
-  given = sourceOf S G vt it et lk hd (f .«bb_min») (f .«bb_size»)
+  given = sourceOf S G vt it et lk hd (c .«bb_min») (c .«bb_size»)
+
+  ea : a ≡ addresses (header S G)
+  ea = ed ∙ ap addresses (known .header-is)
 
   source-is : given ≡ source S G
   unfolding source addresses linkBytes
@@ -54,10 +59,10 @@ module _ (S G : List ℕ) {a : Addresses} (ea : a ≡ addresses (header S G)) {f
       let v : itemsIn S G 6 vt ≡ s .vertices = ap (itemsIn S G 6) (rw ea at ev) in
       let i : itemsIn S G 2 it ≡ s .indices = ap (itemsIn S G 2) (rw ea at ei) in
       let e : itemsIn S G 8 et ≡ s .edges = ap (itemsIn S G 8) (rw ea at ee) in
-      let l : linksOf lk ≡ s .links = ap linksOf el ∙ sym (links-are S G (le 8 (header S G) 0x130) (le 4 (header S G) 0x150)) in
-      let area : areaOf hd ≡ areaOf (header S G) = ap areaOf eh in
+      let l : linksOf lk ≡ s .links = ap linksOf el ∙ sym (links-are S G (leAt 8 (header S G) 0x130) (leAt 4 (header S G) 0x150)) in
+      let area : areaOf hd ≡ areaOf (header S G) = ap areaOf (known .header-is) in
       let whole : make (itemsIn S G 6 vt) (itemsIn S G 2 it) (itemsIn S G 8 et) (linksOf lk) (areaOf hd) (given .back) ≡ make (s .vertices) (s .indices) (s .edges) (s .links) (s .area) (s .back) =
-      rw (v, i, e, l, area, back-is S G ef) in
+      rw (v, i, e, l, area, back-is S G (known .cell-is)) in
       whole
 
   polys-are : itemsIn S G 48 pt ≡ polygons S G
@@ -94,6 +99,7 @@ module _ (S G : List ℕ) {a : Addresses} (ea : a ≡ addresses (header S G)) {f
 -- room for each part, in a strip of n words that is long enough
 pub record Room (S G : List ℕ) (polys n : ℕ) : Type 0 where
   pub points : List (List ℕ)
+  pub box : finiteBox (head S G) ≡ true
   pub ready : ListsReady S G
   pub polys-are : polys ≡ length (polygons S G)
   pub polys-fit : (end : ℕ) → 14 + length (polysWords S G) ≤ end → PolysFit S G end
@@ -111,10 +117,11 @@ room S G {polys} {n} f =
     let words : e .words ≡ length (polysWords S G) = tally-made (source S G) 0 (polygons S G) (e .tally) .1 in
     record {
       points = e .points;
+      box = e .box;
       ready = f .ready;
       polys-are = f .polys-are ∙ ap (λ (c : Cell). length (c .polys)) (e .is) ∙ polys-count S G;
       polys-fit = λ end h. record { words = e .words; is = e .tally; room = omega arith };
-      portals-there = omega (arith, length-whole S G (le 8 (header S G) 0x128) (28 * portalCount S G) (e .portals-whole));
+      portals-there = omega (arith, length-whole S G (leAt 8 (header S G) 0x128) (28 * portalCount S G) (e .portals-whole));
       points-are = ap pointsIn (e .walked);
       points-fit = λ at end h. record { left = e .left; points = e .points; is = e .walked; room = h };
       all = all;

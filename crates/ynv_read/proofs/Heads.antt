@@ -1,7 +1,7 @@
 -- What the checks before the walk come to, in their order; and what shorts are turned back by. Assumes nothing.
-use Prim.Native.Nat.{ℕ, _≤_, _<_}
+use Prim.Native.Nat.{ℕ, _+_, _≤_, _<_}
 use native.Mathlib.Nat.{pos-of-ne-zero}
-use mathlib.Core.Path.{_≡_, ap}
+use mathlib.Core.Path.{_≡_, ap, _∙_}
 use mathlib.Core.Bool.{true, false}
 use mathlib.Core.List.{List}
 use lib.Dec.{ltb}
@@ -10,10 +10,16 @@ use borrow.Author.Tests.{lt-ltb}
 use Rattle.strip.specs.Box.{finiteBox}
 use Rattle.grammar.specs.Derives.{vecOf, headOf, axis, backOf}
 use Rattle.lists.proofs.Lists.{whole-of, not-whole}
-use Rattle.records.specs.Back.{backBy, floatsAt}
+use Rattle.fields.proofs.Bytes.{le-lt}
+use Rattle.strip.proofs.Box.{box-finite}
+use Rattle.cell_record.specs.Record.{recordOf, headBy}
+use Rattle.cell_record.specs.declared.CellRecord.{CellRecord}
+use Rattle.cell_record.proofs.Back.{WordVec, WordBox, head-back}
+use Rattle.grammar.specs.Formed.{Bytes}
+use Rattle.grammar.proofs.Bytes.{bytes-resolved}
+use Rattle.records.specs.Back.{backBy, backIn}
+use Rattle.ynv_read.specs.Passes.{Looked, Given}
 use Rattle.ynv_read.specs.Reading.{Reading, refused, header, rootAt, root, head, onHead}
-use Rattle.ynv_read.specs.Passes.{frame}
-use Rattle.ynv_read.specs.declared.Frame.{Frame}
 
 module _ (S G : List ℕ) (rest : Reading) where
   pub no-header : length (header S G) < 368 → onHead S G rest ≡ refused 30 0
@@ -42,7 +48,28 @@ module _ (S G : List ℕ) (rest : Reading) where
         unfolding onHead header root
         head-passed f = rw (whole-of S G 0x5000_0000 368 h, there, whole-of S G (rootAt S G) 96 r, f)
 
--- shorts are turned back in the cell's box
-pub back-is : (S G : List ℕ) {f : Frame} → f ≡ frame (header S G) (root S G) → backBy (f .«bb_min») (f .«bb_size») ≡ backOf (head S G)
-unfolding frame head backBy floatsAt backOf axis headOf vecOf
-back-is S G e = ap (λ (g : Frame). backBy (g .«bb_min») (g .«bb_size»)) e
+-- header and root are of bytes, so the box is of words
+word-vec : (b : List ℕ) (off : ℕ) → Bytes b → WordVec (vecOf b off)
+unfolding vecOf
+word-vec b off h = record { x = le-lt 4 b off h; y = le-lt 4 b (off + 4) h; z = le-lt 4 b (off + 8) h }
+
+word-box : (S G : List ℕ) → Bytes S → Bytes G → WordBox (head S G)
+unfolding head headOf header root
+word-box S G s g =
+    let h = bytes-resolved S G s g 0x5000_0000 368 in
+    let r = bytes-resolved S G s g (rootAt S G) 96 in
+    record { min = word-vec (root S G) 0 r; max = word-vec (root S G) 16 r; size = word-vec (header S G) 0x60 h }
+
+-- the cell's record holds its box: shorts are turned back in it, and the words of its head are the bits of its floats, since they are finite
+module _ (S G : List ℕ) {c : CellRecord} (e : c ≡ recordOf (head S G)) where
+  pub back-is : backIn c ≡ backOf (head S G)
+  unfolding recordOf backBy backOf axis
+  back-is = ap backIn e
+
+  pub head-is : Bytes S → Bytes G → finiteBox (head S G) ≡ true → headBy c ≡ head S G
+  head-is s g f = ap headBy e ∙ head-back (head S G) (word-box S G s g) (box-finite (head S G) f)
+
+-- what filling is given, by what was looked up
+pub cell-of : (S G : List ℕ) {h r : List ℕ} {c : CellRecord} → Looked S G h r → c ≡ recordOf (headOf h r) → Given S G h c
+unfolding head
+cell-of S G k e = record { header-is = k .header-is; cell-is = e ∙ rw (k .header-is, k .root-is) }

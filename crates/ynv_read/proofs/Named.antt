@@ -7,38 +7,21 @@ use mathlib.Core.List.{List, [], _∷_, _++_}
 use mathlib.Core.Logic.{⊎-elim}
 use lib.Dec.{ltb}
 use lib.ListN.{length}
-use Rattle.fields.specs.Bytes.{le}
+use Rattle.fields.specs.Bytes.{leAt}
 use Rattle.resource.specs.Section.{good}
+use Rattle.strip.specs.Outcome.{Paper, values, refusal}
 use Rattle.strip.specs.Box.{finiteBox}
 use Rattle.grammar.specs.Trees.{subsTo}
-use Rattle.lists.specs.declared.ListAnswer.{ListAnswer}
-use Rattle.lists.specs.declared.ListAnswer.the-variants.{Items, Refused}
 use Rattle.lists.specs.Lists.{whole, listed}
 use Rattle.lists.proofs.Accepted.{listed-refused}
 use Rattle.sector_tree.specs.Sector.{goodData, pointsOf}
 use Rattle.sector_tree.specs.Walk.{Walked, walk, also, checked, sectorAt}
 use Rattle.sector_tree.specs.Walk as Walk
 use Rattle.polygons.specs.declared.Limits.{Limits}
-use Rattle.polygons.specs.declared.Tally.{Tally}
-use Rattle.polygons.specs.declared.Tally.the-variants.{Words}
-use Rattle.polygons.specs.declared.Tally.the-variants.{Refused as Stopped}
 use Rattle.polygons.specs.Polygons.{limitsOf, tallyFrom}
 use Rattle.polygons.proofs.Exact.{tally-refused}
-use Rattle.ynv_read.specs.Reading.{Reading, made, refused, check, onList, onTally, onWalk, header, rootAt, head, source, polygons, portalCount, cellOf, onHead, onLists, afterWalk, readCell}
-
--- for pages with so many polygons
-pub data Named (polys : ℕ) : ℕ → ℕ → Type 0 where
-  bad-header : Named polys 30 0
-  no-root : Named polys 31 0
-  bad-sector : Named polys 32 0
-  many-sectors : Named polys 33 0
-  bad-data : Named polys 34 0
-  bad-box : Named polys 40 0
-  bad-list : {l : ℕ} → 1 ≤ l → l ≤ 4 → Named polys 35 l
-  bad-counts : {l : ℕ} → 1 ≤ l → l ≤ 4 → Named polys 36 l
-  bad-run : {p : ℕ} → p < polys → Named polys 37 p
-  bad-index : {p : ℕ} → p < polys → Named polys 38 p
-  bad-portals : Named polys 39 0
+use Rattle.ynv_read.specs.Reading.{Reading, made, refused, check, onPaper, onWalk, header, rootAt, head, source, polygons, portalCount, cellOf, onHead, onLists, afterWalk, readCell}
+use Rattle.ynv_read.specs.Theorems.{Named, bad-header, no-root, bad-sector, many-sectors, bad-data, bad-box, bad-list, bad-counts, bad-run, bad-index, bad-portals}
 
 abbrev pub AsNamed : ℕ → Reading → Type 0
 AsNamed polys (made c k) = Unit
@@ -69,12 +52,12 @@ module _ (S G : List ℕ) where
   abbrev count : ℕ
   count = length (polygons S G)
 
-  lists : (w va place : ℕ) (rest : Reading) → 1 ≤ place → place ≤ 4 → AsNamed count rest → AsNamed count (onList (listed S G w va place) rest)
+  lists : (w va place : ℕ) (rest : Reading) → 1 ≤ place → place ≤ 4 → AsNamed count rest → AsNamed count (onPaper (listed S G w va place) rest)
   lists w va place rest lo hi k = by (listed S G w va place) refl
     where
-      by : (a : ListAnswer) → listed S G w va place ≡ a → AsNamed count (onList a rest)
-      by (Items n) e = k
-      by (Refused r) e =
+      by : (a : Paper ℕ) → listed S G w va place ≡ a → AsNamed count (onPaper a rest)
+      by (values n) e = k
+      by (refusal number p) e =
           let (f, g) = listed-refused S G w va place e in
           ⊎-elim (λ h. named-at h g (bad-list lo hi)) (λ h. named-at h g (bad-counts lo hi)) f
 
@@ -106,14 +89,14 @@ module _ (S G : List ℕ) where
   on-walk (Walk.done left points) rest h f = f points _
   on-walk (Walk.refused number) rest h f = h
 
-  tallies : (l : Limits) (is : List (List ℕ)) (rest : Reading) → AsNamed count rest → AsNamed count (onTally (tallyFrom l is 0 (polygons S G)) rest)
+  tallies : (l : Limits) (is : List (List ℕ)) (rest : Reading) → AsNamed count rest → AsNamed count (onPaper (tallyFrom l is 0 (polygons S G)) rest)
   tallies l is rest k = by (tallyFrom l is 0 (polygons S G)) refl
     where
-      by : (t : Tally) → tallyFrom l is 0 (polygons S G) ≡ t → AsNamed count (onTally t rest)
-      by (Words n) e = k
-      by (Stopped r) e =
-          let (f, lo, hi) = tally-refused l is 0 (polygons S G) e in
-          let inside : r .place < count = omega arith in
+      by : (t : Paper ℕ) → tallyFrom l is 0 (polygons S G) ≡ t → AsNamed count (onPaper t rest)
+      by (values n) e = k
+      by (refusal number p) e =
+          let (f, lo, hi) = tally-refused l is 0 (polygons S G) {r = record { number = number; place = p }} e in
+          let inside : p < count = omega arith in
           ⊎-elim (λ h. named-at h refl (bad-run inside)) (λ h. named-at h refl (bad-index inside)) f
 
   after-walk : (ps : List (List ℕ)) (k : ℕ) → AsNamed count (afterWalk S G ps k)
@@ -121,17 +104,17 @@ module _ (S G : List ℕ) where
   after-walk ps k =
       let h = header S G in
       let s = source S G in
-      let last = check (whole S G (le 8 h 0x128) (28 * portalCount S G)) 39 (made (cellOf S G ps) k) in
-      let o₅ = onTally (tallyFrom (limitsOf s) (s .indices) 0 (polygons S G)) last in
-      let o₄ = onList (listed S G 48 (le 8 h 0x118) 4) o₅ in
-      let o₃ = onList (listed S G 8 (le 8 h 0x88) 3) o₄ in
-      let o₂ = onList (listed S G 2 (le 8 h 0x80) 2) o₃ in
-      lists 6 (le 8 h 0x70) 1 o₂ (omega arith) (omega arith)
-      (lists 2 (le 8 h 0x80) 2 o₃ (omega arith) (omega arith)
-      (lists 8 (le 8 h 0x88) 3 o₄ (omega arith) (omega arith)
-      (lists 48 (le 8 h 0x118) 4 o₅ (omega arith) (omega arith)
+      let last = check (whole S G (leAt 8 h 0x128) (28 * portalCount S G)) 39 (made (cellOf S G ps) k) in
+      let o₅ = onPaper (tallyFrom (limitsOf s) (s .indices) 0 (polygons S G)) last in
+      let o₄ = onPaper (listed S G 48 (leAt 8 h 0x118) 4) o₅ in
+      let o₃ = onPaper (listed S G 8 (leAt 8 h 0x88) 3) o₄ in
+      let o₂ = onPaper (listed S G 2 (leAt 8 h 0x80) 2) o₃ in
+      lists 6 (leAt 8 h 0x70) 1 o₂ (omega arith) (omega arith)
+      (lists 2 (leAt 8 h 0x80) 2 o₃ (omega arith) (omega arith)
+      (lists 8 (leAt 8 h 0x88) 3 o₄ (omega arith) (omega arith)
+      (lists 48 (leAt 8 h 0x118) 4 o₅ (omega arith) (omega arith)
       (tallies (limitsOf s) (s .indices) last
-      (checks (whole S G (le 8 h 0x128) (28 * portalCount S G)) 39 (made (cellOf S G ps) k) bad-portals tt)))))
+      (checks (whole S G (leAt 8 h 0x128) (28 * portalCount S G)) 39 (made (cellOf S G ps) k) bad-portals tt)))))
 
   pub named : AsNamed count (readCell S G)
   unfolding readCell onHead

@@ -23,8 +23,9 @@ use Rattle.grammar.proofs.Examples.{p12-makes}
 use Rattle.ynv_read.specs.declared.Parsed.{Parsed}
 use Rattle.ynv_read.specs.Reading.{Reading, made, refused, polygons, readCell}
 use Rattle.ynv_read.specs.Parse.{countsOf, fitted, parseOutcome}
+use Rattle.ynv_read.specs.Theorems.{Named, Accepts}
 use Rattle.ynv_read.proofs.Exact.{accepted-made, made-accepted}
-use Rattle.ynv_read.proofs.Named.{Named, AsNamed, named, late}
+use Rattle.ynv_read.proofs.Named.{AsNamed, named, late}
 
 -- what a reading and a strip of n words come to
 fitted-done : {n : ℕ} (r : Reading) {p : Parsed} {w : List ℕ} → fitted n r ≡ Outcome.done p w
@@ -50,22 +51,16 @@ fitted-refused {n} (made c k) {number} {place} e = by (leb (length (encode c)) n
 module _ (S G : List ℕ) (n : ℕ) where
   -- ---- accepted
 
-  -- the grammar derives w, it fits, and the answer counts the derived cell's parts and its tree's sectors
-  pub record Accepts (p : Parsed) (w : List ℕ) : Type 0 where
-    pub derived : Derives S G w
-    pub fits : length w ≤ n
-    pub counts : p ≡ countsOf (derived .cell) (derived .sectors)
-
-  pub accepted-exactly : (p : Parsed) (w : List ℕ) → (parseOutcome S G n ≡ Outcome.done p w) ↔ Accepts p w
+  pub accepted-exactly : (p : Parsed) (w : List ℕ) → (parseOutcome S G n ≡ Outcome.done p w) ↔ Accepts S G n p w
   unfolding parseOutcome
   accepted-exactly p w = (there, back)
     where
-      there : parseOutcome S G n ≡ Outcome.done p w → Accepts p w
+      there : parseOutcome S G n ≡ Outcome.done p w → Accepts S G n p w
       there e =
           let (c, k, r, fits, counts, strip) = fitted-done (readCell S G) e in
           record { derived = record { sectors = k; cell = c; makes = accepted-made S G r; strip = strip }; fits = rw strip fits; counts = counts }
 
-      back : Accepts p w → parseOutcome S G n ≡ Outcome.done p w
+      back : Accepts S G n p w → parseOutcome S G n ≡ Outcome.done p w
       back a =
           let d = a .derived in
           let room : length (encode (d .cell)) ≤ n = rw (d .strip) at (a .fits) in

@@ -1,3 +1,4 @@
 pub mod Reading
 pub mod Parse
 pub mod Passes
+pub mod Theorems

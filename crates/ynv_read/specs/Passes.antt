@@ -3,23 +3,23 @@ use Prim.Native.Nat.{ℕ, _*_, _^_, _≤_, _<_}
 use mathlib.Core.Path.{_≡_}
 use mathlib.Core.List.{List, map}
 use lib.ListN.{length}
-use Rattle.fields.specs.Bytes.{le, cut}
+use Rattle.fields.specs.Bytes.{leAt, cut}
 use Rattle.resource.specs.Section.{resolved}
 use Rattle.strip.specs.Cell.{Cell, each, polygonWords, portalWords, encode}
 use Rattle.grammar.specs.Derives.{backOf, portalOf}
 use Rattle.lists.specs.Lists.{tableOf, Readable}
 use Rattle.polygons.specs.Polygons.{limitsOf, polygonMade}
 use Rattle.polygons.specs.Passes.{Passed}
-use Rattle.records.specs.Back.{floatsAt}
+use Rattle.cell_record.specs.Record.{recordOf}
+use Rattle.cell_record.specs.declared.CellRecord.{CellRecord}
 use Rattle.ynv_read.specs.declared.ParseAnswer.{ParseAnswer}
 use Rattle.ynv_read.specs.declared.ParseAnswer.the-variants as ParseAnswer
-use Rattle.ynv_read.specs.declared.Addresses.{Addresses}
-use Rattle.ynv_read.specs.declared.Frame.{Frame}
+use Rattle.ynv_read.specs.declared.ListAddresses.{ListAddresses}
 use Rattle.ynv_read.specs.declared.Check.{Check}
 use Rattle.ynv_read.specs.declared.Check.the-variants as Check
 use Rattle.ynv_read.specs.declared.ListsCheck.{ListsCheck}
 use Rattle.ynv_read.specs.declared.ListsCheck.the-variants as ListsCheck
-use Rattle.ynv_read.specs.Reading.{Reading, made, refused, header, head, source, polygons, portalCount, portals, onLists, readCell}
+use Rattle.ynv_read.specs.Reading.{Reading, made, refused, header, root, head, source, polygons, portalCount, portals, onLists, readCell}
 use Rattle.ynv_read.specs.Parse.{countsOf}
 
 -- the answer that a reading asks for, if the strip is long enough
@@ -32,17 +32,24 @@ abbrev pub after : Check → Reading → Reading
 after Check.Passed rest = rest
 after (Check.Refused r) rest = refused (r .number) (r .place)
 
--- where the lists are, and the box
-unfoldable pub addresses : List ℕ → Addresses
-addresses h = record { vertices = le 8 h 0x70; indices = le 8 h 0x80; edges = le 8 h 0x88; polygons = le 8 h 0x118 }
-
-unfoldable pub frame : List ℕ → List ℕ → Frame
-frame h r = record { «bb_min» = floatsAt r 0; «bb_size» = floatsAt h 0x60 }
+-- where the lists are
+unfoldable pub addresses : List ℕ → ListAddresses
+addresses h = record { vertices = leAt 8 h 0x70; indices = leAt 8 h 0x80; edges = leAt 8 h 0x88; polygons = leAt 8 h 0x118 }
 
 module _ (system graphics : List ℕ) where
+  -- header and root as they were looked up
+  pub record Looked (h r : List ℕ) : Type 0 where
+    pub header-is : h ≡ header system graphics
+    pub root-is : r ≡ root system graphics
+
+  -- what filling is given: the header, and the cell's record
+  pub record Given (h : List ℕ) (c : CellRecord) : Type 0 where
+    pub header-is : h ≡ header system graphics
+    pub cell-is : c ≡ recordOf (head system graphics)
+
   -- the bytes of the link table
   unfoldable pub linkBytes : List ℕ
-  linkBytes = resolved system graphics (le 8 (header system graphics) 0x130) (2 * le 4 (header system graphics) 0x150)
+  linkBytes = resolved system graphics (leAt 8 (header system graphics) 0x130) (2 * leAt 4 (header system graphics) 0x150)
 
   -- the words of the polygons, and of the portals
   unfoldable pub polysWords : List ℕ
@@ -53,10 +60,10 @@ module _ (system graphics : List ℕ) where
 
   -- the lists can be read by their part tables
   pub record ListsReady : Type 0 where
-    pub vertices : Readable system graphics 6 (tableOf system graphics (le 8 (header system graphics) 0x70))
-    pub indices : Readable system graphics 2 (tableOf system graphics (le 8 (header system graphics) 0x80))
-    pub edges : Readable system graphics 8 (tableOf system graphics (le 8 (header system graphics) 0x88))
-    pub polygons : Readable system graphics 48 (tableOf system graphics (le 8 (header system graphics) 0x118))
+    pub vertices : Readable system graphics 6 (tableOf system graphics (leAt 8 (header system graphics) 0x70))
+    pub indices : Readable system graphics 2 (tableOf system graphics (leAt 8 (header system graphics) 0x80))
+    pub edges : Readable system graphics 8 (tableOf system graphics (leAt 8 (header system graphics) 0x88))
+    pub polygons : Readable system graphics 48 (tableOf system graphics (leAt 8 (header system graphics) 0x118))
 
   abbrev pub ReadyFor : ParseAnswer → Type 0
   ReadyFor (ParseAnswer.Parsed p) = ListsReady

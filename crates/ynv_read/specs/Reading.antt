@@ -3,18 +3,14 @@ use Prim.Native.Nat.{ℕ, _-_, _*_}
 use mathlib.Core.Bool.{Bool, cond}
 use mathlib.Core.List.{List, [], _∷_, map}
 use lib.Dec.{ltb}
-use Rattle.fields.specs.Bytes.{le, cut}
+use Rattle.fields.specs.Bytes.{leAt, cut}
 use Rattle.resource.specs.Section.{resolved}
 use Rattle.strip.specs.Cell.{Head, Cell}
 use Rattle.strip.specs.Box.{finiteBox}
+use Rattle.strip.specs.Outcome.{Paper, values, refusal}
 use Rattle.grammar.specs.Polygons.{linksAt}
 use Rattle.grammar.specs.Derives.{areaOf, backOf, headOf, portalOf, pointOf}
-use Rattle.lists.specs.declared.ListAnswer.{ListAnswer}
-use Rattle.lists.specs.declared.ListAnswer.the-variants.{Items, Refused}
 use Rattle.lists.specs.Lists.{whole, tableOf, listed}
-use Rattle.polygons.specs.declared.Tally.{Tally}
-use Rattle.polygons.specs.declared.Tally.the-variants.{Words}
-use Rattle.polygons.specs.declared.Tally.the-variants.{Refused as Stopped}
 use Rattle.polygons.specs.Polygons.{Source, limitsOf, polygonMade, tallyFrom}
 use Rattle.polygons.specs.Passes.{itemsIn}
 use Rattle.sector_tree.specs.Walk.{Walked, walk}
@@ -29,15 +25,10 @@ pub data Reading : Type 0 where
 abbrev pub check : Bool → ℕ → Reading → Reading
 check passed number rest = cond passed rest (refused number 0)
 
--- a list, before the rest
-abbrev pub onList : ListAnswer → Reading → Reading
-onList (Items n) rest = rest
-onList (Refused r) rest = refused (r .number) (r .place)
-
--- polygons, before the rest
-abbrev pub onTally : Tally → Reading → Reading
-onTally (Words n) rest = rest
-onTally (Stopped r) rest = refused (r .number) (r .place)
+-- what is said of a list, or of the polygons, before the rest
+abbrev pub onPaper : Paper ℕ → Reading → Reading
+onPaper (values n) rest = rest
+onPaper (refusal number place) rest = refused number place
 
 -- the walk of the tree, before the rest, which goes by its points and the sectors visited
 abbrev pub onWalk : Walked → (List (List ℕ) → ℕ → Reading) → Reading
@@ -50,7 +41,7 @@ module _ (system graphics : List ℕ) where
   header = resolved system graphics 0x5000_0000 368
 
   abbrev pub rootAt : ℕ
-  rootAt = le 8 header 0x120
+  rootAt = leAt 8 header 0x120
 
   unfoldable pub root : List ℕ
   root = resolved system graphics rootAt 96
@@ -66,22 +57,22 @@ module _ (system graphics : List ℕ) where
   unfoldable pub source : Source
   source =
       record {
-        vertices = itemsAt 6 (le 8 header 0x70);
-        indices = itemsAt 2 (le 8 header 0x80);
-        edges = itemsAt 8 (le 8 header 0x88);
-        links = linksAt system graphics (le 8 header 0x130) (le 4 header 0x150);
+        vertices = itemsAt 6 (leAt 8 header 0x70);
+        indices = itemsAt 2 (leAt 8 header 0x80);
+        edges = itemsAt 8 (leAt 8 header 0x88);
+        links = linksAt system graphics (leAt 8 header 0x130) (leAt 4 header 0x150);
         area = areaOf header;
         back = backOf head;
       }
 
   abbrev pub polygons : List (List ℕ)
-  polygons = itemsAt 48 (le 8 header 0x118)
+  polygons = itemsAt 48 (leAt 8 header 0x118)
 
   abbrev pub portalCount : ℕ
-  portalCount = le 4 header 0x14C
+  portalCount = leAt 4 header 0x14C
 
   unfoldable pub portals : List ℕ
-  portals = resolved system graphics (le 8 header 0x128) (28 * portalCount)
+  portals = resolved system graphics (leAt 8 header 0x128) (28 * portalCount)
 
   -- the cell, with a tree of these points
   unfoldable pub cellOf : List (List ℕ) → Cell
@@ -102,16 +93,16 @@ module _ (system graphics : List ℕ) where
   -- after it: lists 1 to 4, then polygons
   unfoldable pub onLists : Reading → Reading
   onLists rest =
-      onList (listed system graphics 6 (le 8 header 0x70) 1)
-      (onList (listed system graphics 2 (le 8 header 0x80) 2)
-      (onList (listed system graphics 8 (le 8 header 0x88) 3)
-      (onList (listed system graphics 48 (le 8 header 0x118) 4)
-      (onTally (tallyFrom (limitsOf source) (source .indices) 0 polygons) rest))))
+      onPaper (listed system graphics 6 (leAt 8 header 0x70) 1)
+      (onPaper (listed system graphics 2 (leAt 8 header 0x80) 2)
+      (onPaper (listed system graphics 8 (leAt 8 header 0x88) 3)
+      (onPaper (listed system graphics 48 (leAt 8 header 0x118) 4)
+      (onPaper (tallyFrom (limitsOf source) (source .indices) 0 polygons) rest))))
 
   -- and portals: so many, 28 bytes each
   unfoldable pub afterWalk : List (List ℕ) → ℕ → Reading
   afterWalk points sectors =
-      onLists (check (whole system graphics (le 8 header 0x128) (28 * portalCount)) 39 (made (cellOf points) sectors))
+      onLists (check (whole system graphics (leAt 8 header 0x128) (28 * portalCount)) 39 (made (cellOf points) sectors))
 
   unfoldable pub readCell : Reading
   readCell = onHead (onWalk (walk system graphics 4096 (rootAt ∷ [])) afterWalk)

@@ -4,28 +4,32 @@ ghost use mathlib.Core.Path.{_≡_};
 ghost use mathlib.Core.List.{List, [], _∷_};
 ghost use Prim.Native.Nat.{ℕ, _+_, _*_, _/_, _^_, _≤_, _<_};
 ghost use lib.ListN.{length};
-ghost use Rattle.fields.specs.Bytes.{put};
-ghost use Rattle.strip.specs.Cell.{Cell, headWords, encode};
+ghost use Rattle.fields.specs.Bytes.{leAt, put};
+ghost use Rattle.strip.specs.Cell.{Cell, encode};
 ghost use Rattle.strip.specs.Box.{finiteVec, finiteBox};
 ghost use Rattle.strip.specs.Outcome.{shown, left};
 ghost use Rattle.grammar.specs.Derives.{vecOf, headOf};
 ghost use Rattle.sector_tree.specs.Walk.{walk};
 ghost use Rattle.sector_tree.specs.Write.{pointsIn, pointsWords, Fits};
 ghost use Rattle.grammar.specs.Derives.{backOf};
-ghost use Rattle.ynv_read.specs.Reading.{Reading, made, header, rootAt, root, head, polygons, portalCount, portals, onHead, afterWalk, readCell};
+ghost use Rattle.ynv_read.specs.Reading as Reading;
+ghost use Rattle.ynv_read.specs.Reading.{Reading, made, rootAt, head, polygons, portalCount, portals, onHead, afterWalk, readCell};
 ghost use Rattle.ynv_read.specs.Parse.{paper, parseOutcome};
-ghost use Rattle.ynv_read.specs.Passes.{answerOf, after, addresses, frame, linkBytes, polysWords, portalsWords, ListsReady, ReadyFor, ListsChecked, PolysFit, Fillable};
+ghost use Rattle.ynv_read.specs.Passes.{answerOf, after, addresses, linkBytes, polysWords, portalsWords, Looked, Given, ListsReady, ReadyFor, ListsChecked, PolysFit, Fillable};
+use cell_record::CellRecord;
+use fields::sizes::NAVMESH_SIZE;
+use fields::sizes::PORTAL_SIZE;
+use fields::sizes::SECTOR_SIZE;
 use fields::u32_le;
 use fields::u64_le;
 use lists::list_table;
-use math::vec3::Vec3;
 use polygons::ListsAnswer;
-use polygons::Tally;
+use polygons::PolysAnswer;
 use polygons::check_polygons;
 use polygons::put_polygons;
 use polygons::read_lists;
 use records::cell::put_cell;
-use records::cell::read_vec3;
+use records::cell::record_of;
 use records::portal::put_portals;
 use resource::SYSTEM_BASE;
 use resource::resolve;
@@ -63,83 +67,64 @@ enum ListsCheck {
 }
 
 // The addresses of the four lists.
-struct Addresses {
+struct ListAddresses {
     vertices: u64,
     indices: u64,
     edges: u64,
     polygons: u64,
 }
 
-// The box that shorts are turned back in.
-struct Frame {
-    bb_min: Vec3,
-    bb_size: Vec3,
-}
-
-// Where things are in the pages. What isn't good is empty.
+// Where things are in the pages. What isn't good is empty. Header and root are looked up once, and lent to what needs them.
 fn header_of<'a>(system: &'a [u8], graphics: &'a [u8]) -> &'a [u8]
-    ensures { λ r. ⌜ now r ≡ header (now (system .entry)) (now (graphics .entry)) ⌝ }
+    ensures { λ r. ⌜ now r ≡ Reading.header (now (system .entry)) (now (graphics .entry)) ⌝ }
 {
-    resolve(system, graphics, SYSTEM_BASE, 368)
+    resolve(system, graphics, SYSTEM_BASE, NAVMESH_SIZE)
 }
 
-fn root_address<'a>(system: &'a [u8], graphics: &'a [u8]) -> u64
-    ensures { λ r. ⌜ r ≡ rootAt (now (system .entry)) (now (graphics .entry)) ⌝ }
+fn root_of<'a>(system: &'a [u8], graphics: &'a [u8], header: &'a [u8]) -> &'a [u8]
+    requires { ⌜ now header ≡ Reading.header (now system) (now graphics) ⌝ }
+    ensures { λ r. ⌜ now r ≡ Reading.root (now (system .entry)) (now (graphics .entry)) ⌝ }
 {
-    u64_le(header_of(system, graphics), 0x120)
+    resolve(system, graphics, u64_le(header, 0x120), SECTOR_SIZE)
 }
 
-fn root_of<'a>(system: &'a [u8], graphics: &'a [u8]) -> &'a [u8]
-    ensures { λ r. ⌜ now r ≡ root (now (system .entry)) (now (graphics .entry)) ⌝ }
+fn list_addresses(header: &[u8]) -> ListAddresses
+    ensures { λ r. ⌜ r ≡ addresses (now (header .entry)) ⌝ }
 {
-    resolve(system, graphics, root_address(system, graphics), 96)
-}
-
-fn list_addresses<'a>(system: &'a [u8], graphics: &'a [u8]) -> Addresses
-    ensures { λ r. ⌜ r ≡ addresses (header (now (system .entry)) (now (graphics .entry))) ⌝ }
-{
-    let h = header_of(system, graphics);
-    Addresses {
-        vertices: u64_le(h, 0x70),
-        indices: u64_le(h, 0x80),
-        edges: u64_le(h, 0x88),
-        polygons: u64_le(h, 0x118),
+    ListAddresses {
+        vertices: u64_le(header, 0x70),
+        indices: u64_le(header, 0x80),
+        edges: u64_le(header, 0x88),
+        polygons: u64_le(header, 0x118),
     }
 }
 
-fn portal_count<'a>(system: &'a [u8], graphics: &'a [u8]) -> usize
-    ensures { λ r. ⌜ (r ≡ portalCount (now (system .entry)) (now (graphics .entry))) × (r < 2 ^ 32) ⌝ }
+fn portal_count(header: &[u8]) -> usize
+    ensures { λ r. ⌜ (r ≡ leAt 4 (now (header .entry)) 0x14C) × (r < 2 ^ 32) ⌝ }
 {
-    u32_le(header_of(system, graphics), 0x14C) as usize
+    u32_le(header, 0x14C) as usize
 }
 
-fn portals_of<'a>(system: &'a [u8], graphics: &'a [u8]) -> &'a [u8]
+fn portals_of<'a>(system: &'a [u8], graphics: &'a [u8], header: &'a [u8]) -> &'a [u8]
+    requires { ⌜ now header ≡ Reading.header (now system) (now graphics) ⌝ }
     ensures { λ r. ⌜ now r ≡ portals (now (system .entry)) (now (graphics .entry)) ⌝ }
 {
-    let address = u64_le(header_of(system, graphics), 0x128);
+    let address = u64_le(header, 0x128);
     resolve(
         system,
         graphics,
         address,
-        28 * portal_count(system, graphics),
+        PORTAL_SIZE * portal_count(header),
     )
 }
 
-fn links_of<'a>(system: &'a [u8], graphics: &'a [u8]) -> &'a [u8]
+fn links_of<'a>(system: &'a [u8], graphics: &'a [u8], header: &'a [u8]) -> &'a [u8]
+    requires { ⌜ now header ≡ Reading.header (now system) (now graphics) ⌝ }
     ensures { λ r. ⌜ now r ≡ linkBytes (now (system .entry)) (now (graphics .entry)) ⌝ }
 {
-    let h = header_of(system, graphics);
-    let address = u64_le(h, 0x130);
-    let count = u32_le(h, 0x150) as usize;
+    let address = u64_le(header, 0x130);
+    let count = u32_le(header, 0x150) as usize;
     resolve(system, graphics, address, 2 * count)
-}
-
-fn frame_of<'a>(system: &'a [u8], graphics: &'a [u8]) -> Frame
-    ensures { λ r. ⌜ r ≡ frame (header (now (system .entry)) (now (graphics .entry))) (root (now (system .entry)) (now (graphics .entry))) ⌝ }
-{
-    let bb_min = read_vec3(root_of(system, graphics), 0);
-    let bb_size = read_vec3(header_of(system, graphics), 0x60);
-    Frame { bb_min, bb_size }
 }
 
 // Deciding.
@@ -176,19 +161,17 @@ fn refuse(number: u32) -> Check
     Check::Refused(Refusal { number, place: 0 })
 }
 
-// Header, root and box.
-fn check_head<'a>(system: &'a [u8], graphics: &'a [u8]) -> Check
-    ensures { λ r. ⌜ ((rest : Reading) → onHead (now (system .entry)) (now (graphics .entry)) rest ≡ after r rest) ⌝ }
+// Header, root and box, in whichever sections they were looked up.
+fn check_head<'a>(header: &'a [u8], root: &'a [u8]) -> Check
+    ensures { λ r. ⌜ ((system graphics : List ℕ) → Looked system graphics (now (header .entry)) (now (root .entry)) → (rest : Reading) → onHead system graphics rest ≡ after r rest) ⌝ }
 {
-    let header = header_of(system, graphics);
-    if header.len() < 368 {
+    if header.len() < NAVMESH_SIZE {
         return refuse(30);
     }
-    if root_address(system, graphics) == 0 {
+    if u64_le(header, 0x120) == 0 {
         return refuse(31);
     }
-    let root = root_of(system, graphics);
-    if root.len() < 96 {
+    if root.len() < SECTOR_SIZE {
         return refuse(32);
     }
     if finite_box(header, root) {
@@ -198,11 +181,12 @@ fn check_head<'a>(system: &'a [u8], graphics: &'a [u8]) -> Check
 }
 
 // The four lists and their polygons.
-fn check_lists<'a>(system: &'a [u8], graphics: &'a [u8]) -> ListsCheck
+fn check_lists<'a>(system: &'a [u8], graphics: &'a [u8], header: &'a [u8]) -> ListsCheck
+    requires { ⌜ now header ≡ Reading.header (now system) (now graphics) ⌝ }
     ensures { λ r. ⌜ ListsChecked (now (system .entry)) (now (graphics .entry)) r ⌝ }
 {
-    let a = list_addresses(system, graphics);
-    let links = links_of(system, graphics);
+    let a = list_addresses(header);
+    let links = links_of(system, graphics, header);
     match read_lists(
         system,
         graphics,
@@ -217,23 +201,28 @@ fn check_lists<'a>(system: &'a [u8], graphics: &'a [u8]) -> ListsCheck
             let indices = list_table(system, graphics, a.indices);
             let polygons = list_table(system, graphics, a.polygons);
             match check_polygons(system, graphics, polygons, n, limits, indices) {
-                Tally::Refused(q) => ListsCheck::Refused(q),
-                Tally::Words(words) => ListsCheck::Polys(words, n),
+                PolysAnswer::Refused(q) => ListsCheck::Refused(q),
+                PolysAnswer::Words(words) => ListsCheck::Polys(words, n),
             }
         }
     }
 }
 
 // What follows the walk: lists, polygons, portals. The cell's record has 14 words, a portal's 11, a point's 4, the end 1.
-fn decide_rest<'a>(system: &'a [u8], graphics: &'a [u8], tree: Tree) -> ParseAnswer
-    requires { ⌜ tree .points ≤ 65535 * 4096 ⌝ }
+fn decide_rest<'a>(
+    system: &'a [u8],
+    graphics: &'a [u8],
+    header: &'a [u8],
+    tree: Tree,
+) -> ParseAnswer
+    requires { ⌜ (now header ≡ Reading.header (now system) (now graphics)) × (tree .points ≤ 65535 * 4096) ⌝ }
     ensures { λ r. ⌜ ((points : List (List ℕ)) → length points ≡ tree .points → r ≡ answerOf (afterWalk (now (system .entry)) (now (graphics .entry)) points (tree .sectors))) × ReadyFor (now (system .entry)) (now (graphics .entry)) r ⌝ }
 {
-    match check_lists(system, graphics) {
+    match check_lists(system, graphics, header) {
         ListsCheck::Refused(r) => ParseAnswer::Refused(r),
         ListsCheck::Polys(words, polys) => {
-            let n = portal_count(system, graphics);
-            if portals_of(system, graphics).len() < 28 * n {
+            let n = portal_count(header);
+            if portals_of(system, graphics, header).len() < PORTAL_SIZE * n {
                 return ParseAnswer::Refused(Refusal {
                     number: 39,
                     place: 0,
@@ -251,75 +240,71 @@ fn decide_rest<'a>(system: &'a [u8], graphics: &'a [u8], tree: Tree) -> ParseAns
 }
 
 // All checks but the last: whether the strip is long enough.
-fn decide<'a>(system: &'a [u8], graphics: &'a [u8]) -> ParseAnswer
+fn decide<'a>(system: &'a [u8], graphics: &'a [u8], header: &'a [u8], root: &'a [u8]) -> ParseAnswer
+    requires { ⌜ Looked (now system) (now graphics) (now header) (now root) ⌝ }
     ensures { λ r. ⌜ (r ≡ answerOf (readCell (now (system .entry)) (now (graphics .entry)))) × ReadyFor (now (system .entry)) (now (graphics .entry)) r ⌝ }
 {
-    match check_head(system, graphics) {
+    match check_head(header, root) {
         Check::Refused(r) => ParseAnswer::Refused(r),
-        Check::Passed => match read_sector_tree(system, graphics, root_address(system, graphics)) {
+        Check::Passed => match read_sector_tree(system, graphics, u64_le(header, 0x120)) {
             TreeAnswer::Refused(q) => ParseAnswer::Refused(q),
-            TreeAnswer::Tree(tree) => decide_rest(system, graphics, tree),
+            TreeAnswer::Tree(tree) => decide_rest(system, graphics, header, tree),
         },
     }
 }
 
 // Filling.
 
-fn fill_head<'a>(system: &'a [u8], graphics: &'a [u8], strip: &mut [u32])
-    requires { ⌜ 14 ≤ length (now strip) ⌝ }
-    ensures { λ _. ⌜ now (strip .exit) ≡ put 0 (headWords (head (now (system .entry)) (now (graphics .entry)))) (now (strip .entry)) ⌝ }
-{
-    let header = header_of(system, graphics);
-    let root = root_of(system, graphics);
-    put_cell(header, root, strip);
-}
-
 // Each of these goes on from the word `at`, and answers the word after what it stored.
-fn fill_portals<'a>(system: &'a [u8], graphics: &'a [u8], strip: &mut [u32], at: usize) -> usize
-    requires { ⌜ (28 * portalCount (now system) (now graphics) ≤ length (portals (now system) (now graphics))) × (at + 11 * portalCount (now system) (now graphics) ≤ length (now strip)) ⌝ }
+fn fill_portals<'a>(
+    system: &'a [u8],
+    graphics: &'a [u8],
+    header: &'a [u8],
+    cell: CellRecord,
+    strip: &mut [u32],
+    at: usize,
+) -> usize
+    requires { ⌜ Given (now system) (now graphics) (now header) cell × (28 * portalCount (now system) (now graphics) ≤ length (portals (now system) (now graphics))) × (at + 11 * portalCount (now system) (now graphics) ≤ length (now strip)) ⌝ }
     ensures { λ r. ⌜ (r ≡ at + 11 * portalCount (now (system .entry)) (now (graphics .entry))) × (now (strip .exit) ≡ put at (portalsWords (now (system .entry)) (now (graphics .entry))) (now (strip .entry))) ⌝ }
 {
-    let f = frame_of(system, graphics);
-    let bb_min = f.bb_min;
-    let bb_size = f.bb_size;
-    let n = portal_count(system, graphics);
-    put_portals(portals_of(system, graphics), n, bb_min, bb_size, strip, at);
+    let n = portal_count(header);
+    put_portals(portals_of(system, graphics, header), n, cell, strip, at);
     at + 11 * n
 }
 
-fn fill_points<'a>(system: &'a [u8], graphics: &'a [u8], strip: &mut [u32], at: usize) -> usize
-    requires { ⌜ Fits (walk (now system) (now graphics) 4096 (rootAt (now system) (now graphics) ∷ [])) at (length (now strip)) ⌝ }
+fn fill_points<'a>(
+    system: &'a [u8],
+    graphics: &'a [u8],
+    header: &'a [u8],
+    cell: CellRecord,
+    strip: &mut [u32],
+    at: usize,
+) -> usize
+    requires { ⌜ Given (now system) (now graphics) (now header) cell × Fits (walk (now system) (now graphics) 4096 (rootAt (now system) (now graphics) ∷ [])) at (length (now strip)) ⌝ }
     ensures { λ r. ⌜ (r ≡ at + 4 * length (pointsIn (walk (now (system .entry)) (now (graphics .entry)) 4096 (rootAt (now (system .entry)) (now (graphics .entry)) ∷ []))))
         × (now (strip .exit) ≡ put at (pointsWords (backOf (head (now (system .entry)) (now (graphics .entry)))) (pointsIn (walk (now (system .entry)) (now (graphics .entry)) 4096 (rootAt (now (system .entry)) (now (graphics .entry)) ∷ [])))) (now (strip .entry))) ⌝ }
 {
-    let f = frame_of(system, graphics);
-    let bb_min = f.bb_min;
-    let bb_size = f.bb_size;
-    put_tree_points(
-        system,
-        graphics,
-        root_address(system, graphics),
-        bb_min,
-        bb_size,
-        strip,
-        at,
-    )
+    put_tree_points(system, graphics, u64_le(header, 0x120), cell, strip, at)
 }
 
-fn fill_polygons<'a>(system: &'a [u8], graphics: &'a [u8], n: usize, strip: &mut [u32]) -> usize
+fn fill_polygons<'a>(
+    system: &'a [u8],
+    graphics: &'a [u8],
+    header: &'a [u8],
+    cell: CellRecord,
+    n: usize,
+    strip: &mut [u32],
+) -> usize
+    requires { ⌜ Given (now system) (now graphics) (now header) cell ⌝ }
     requires { ⌜ ListsReady (now system) (now graphics) × (n ≡ length (polygons (now system) (now graphics))) × PolysFit (now system) (now graphics) (length (now strip)) ⌝ }
     ensures { λ r. ⌜ (r ≡ 14 + length (polysWords (now (system .entry)) (now (graphics .entry)))) × (now (strip .exit) ≡ put 14 (polysWords (now (system .entry)) (now (graphics .entry))) (now (strip .entry))) ⌝ }
 {
-    let a = list_addresses(system, graphics);
-    let f = frame_of(system, graphics);
-    let bb_min = f.bb_min;
-    let bb_size = f.bb_size;
+    let a = list_addresses(header);
     let vertices = list_table(system, graphics, a.vertices);
     let indices = list_table(system, graphics, a.indices);
     let edges = list_table(system, graphics, a.edges);
     let polys = list_table(system, graphics, a.polygons);
-    let links = links_of(system, graphics);
-    let header = header_of(system, graphics);
+    let links = links_of(system, graphics, header);
     put_polygons(
         system,
         graphics,
@@ -328,8 +313,7 @@ fn fill_polygons<'a>(system: &'a [u8], graphics: &'a [u8], n: usize, strip: &mut
         edges,
         links,
         header,
-        bb_min,
-        bb_size,
+        cell,
         polys,
         n,
         strip,
@@ -338,14 +322,22 @@ fn fill_polygons<'a>(system: &'a [u8], graphics: &'a [u8], n: usize, strip: &mut
 }
 
 // All the words of a cell that was accepted.
-fn fill<'a>(system: &'a [u8], graphics: &'a [u8], polys: usize, strip: &mut [u32])
-    requires { ⌜ Fillable (now system) (now graphics) polys (length (now strip)) ⌝ }
+fn fill<'a>(
+    system: &'a [u8],
+    graphics: &'a [u8],
+    header: &'a [u8],
+    root: &'a [u8],
+    polys: usize,
+    strip: &mut [u32],
+)
+    requires { ⌜ Looked (now system) (now graphics) (now header) (now root) × Fillable (now system) (now graphics) polys (length (now strip)) ⌝ }
     ensures { λ _. ⌜ ((c : Cell) (k : ℕ) → readCell (now (system .entry)) (now (graphics .entry)) ≡ made c k → now (strip .exit) ≡ put 0 (encode c) (now (strip .entry))) ⌝ }
 {
-    fill_head(system, graphics, strip);
-    let portals_at = fill_polygons(system, graphics, polys, strip);
-    let points_at = fill_portals(system, graphics, strip, portals_at);
-    let end = fill_points(system, graphics, strip, points_at);
+    let cell = record_of(header, root);
+    put_cell(cell, strip);
+    let portals_at = fill_polygons(system, graphics, header, cell, polys, strip);
+    let points_at = fill_portals(system, graphics, header, cell, strip, portals_at);
+    let end = fill_points(system, graphics, header, cell, strip, points_at);
     strip[end] = 0x5000_0000;
 }
 
@@ -354,7 +346,9 @@ pub fn parse_ynv<'a>(system: &'a [u8], graphics: &'a [u8], strip: &mut [u32]) ->
     ensures answer { λ r. ⌜ paper r ≡ shown (parseOutcome (now (system .entry)) (now (graphics .entry)) (length (now (strip .entry)))) ⌝ }
     ensures strip { λ _. ⌜ now (strip .exit) ≡ left (parseOutcome (now (system .entry)) (now (graphics .entry)) (length (now (strip .entry)))) (now (strip .entry)) ⌝ }
 {
-    match decide(system, graphics) {
+    let header = header_of(system, graphics);
+    let root = root_of(system, graphics, header);
+    match decide(system, graphics, header, root) {
         ParseAnswer::Refused(r) => ParseAnswer::Refused(r),
         ParseAnswer::Parsed(p) => {
             if strip.len() < p.words {
@@ -363,7 +357,7 @@ pub fn parse_ynv<'a>(system: &'a [u8], graphics: &'a [u8], strip: &mut [u32]) ->
                     place: 0,
                 });
             }
-            fill(system, graphics, p.polys, strip);
+            fill(system, graphics, header, root, p.polys, strip);
             ParseAnswer::Parsed(p)
         }
     }

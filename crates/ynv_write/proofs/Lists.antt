@@ -8,10 +8,11 @@ use Rattle.fields.specs.Bytes.{put}
 use Rattle.fields.proofs.Puts.{length-put}
 use Rattle.strip.specs.Cell.{Cell}
 use Rattle.strip.specs.Reading.{headAt, polygonsAt, afterPolygons}
-use Rattle.areas.specs.Areas.{idsOf}
+use Rattle.areas.specs.Areas.{areaIds}
+use Rattle.cell_record.proofs.Fields.{area-is}
 use Rattle.vertices.specs.Table.{met}
 use Rattle.blocks.specs.Layout.{behind, endOf, Laid}
-use Rattle.blocks.specs.Lists.{listSizes, listBlocks, Wide, Room}
+use Rattle.blocks.specs.Lists.{listSizes, listBlocks, Wide, ListRoom}
 use Rattle.blocks.specs.declared.Layout.{Layout}
 use Rattle.blocks.proofs.Layouts.{laid-then}
 use Rattle.pages.specs.Items.{vertexItems, indexItems, edgeItems, polygonItems}
@@ -30,6 +31,7 @@ use Rattle.items.proofs.Tables.{index-items}
 use Rattle.items.proofs.Halves.{length-words}
 use Rattle.ynv_write.specs.Filled.{listsOf, Left}
 use Rattle.ynv_write.proofs.Rooms.{rooms}
+use Rattle.fields.specs.Sizes.{LIST-VFT-EDGES, LIST-VFT-INDICES, LIST-VFT-POLYS, LIST-VFT-VERTICES}
 
 -- ---- one list behind the other
 
@@ -40,10 +42,10 @@ list-step {l} {r} end vft w n items {xs} {ys} wide e at f =
     (f .ends ∙ rw (list-size (l .at) vft w n items wide e, at), subst (λ (k : ℕ). Laid l (listBlocks k vft w items) r xs ys) at f)
 
 pub four-laid : (c : Cell) {h lv li le lp : Layout} {x0 x1 x2 x3 x4 : List ℕ}
-    → Laid h (listBlocks (endHeader (counts c) (sectors c)) 1080158456 6 (vertexItems (vertices c))) lv x0 x1
-    → Laid lv (listBlocks (endVertices (counts c) (sectors c)) 1080158424 2 (indexItems (vertices c) (allCorners c))) li x1 x2
-    → Laid li (listBlocks (endIndices (counts c) (sectors c)) 1080158440 8 (edgeItems (areas c) (allCorners c))) le x2 x3
-    → Laid le (listBlocks (endEdges (counts c) (sectors c)) 1080158408 48 (polygonItems (c .head .area) 0 0 0 (c .polys))) lp x3 x4
+    → Laid h (listBlocks (endHeader (counts c) (sectors c)) LIST-VFT-VERTICES 6 (vertexItems (vertices c))) lv x0 x1
+    → Laid lv (listBlocks (endVertices (counts c) (sectors c)) LIST-VFT-INDICES 2 (indexItems (vertices c) (allCorners c))) li x1 x2
+    → Laid li (listBlocks (endIndices (counts c) (sectors c)) LIST-VFT-EDGES 8 (edgeItems (areas c) (allCorners c))) le x2 x3
+    → Laid le (listBlocks (endEdges (counts c) (sectors c)) LIST-VFT-POLYS 48 (polygonItems (c .head .area) 0 0 0 (c .polys))) lp x3 x4
     → Laid h (listsOf c) lp x0 x4
 unfolding listsOf
 four-laid c f1 f2 f3 f4 = laid-then f1 (laid-then f2 (laid-then f3 f4))
@@ -66,20 +68,20 @@ module _ (s w : List ℕ) (d : Decision) (R : Ready s w d) where
   polys-inside = omega (arith, R .whole)
 
   pub vertices-ask : (q : ℕ) → q ≡ endHeader (counts (cellAt s (d .counts))) (sectors (cellAt s (d .counts)))
-      → (at : ℕ) → at ≡ trees (length s) → (at + 2 * d .vertices ≤ length w) × Room q 6 (d .vertices) (listSizes 6 (d .vertices))
+      → (at : ℕ) → at ≡ trees (length s) → (at + 2 * d .vertices ≤ length w) × ListRoom q 6 (d .vertices) (listSizes 6 (d .vertices))
   unfolding endHeader
   vertices-ask q e at here =
       (omega (arith, here, R .tabled .few-vertices, R .tabled .few-corners, R .room), rw many-vertices (rooms (cellAt s (d .counts)) (R .accepted) .vertices q e))
 
   pub indices-ask : (q : ℕ) → q ≡ endVertices (counts (cellAt s (d .counts))) (sectors (cellAt s (d .counts)))
-      → (at : ℕ) → at ≡ trees (length s) → (at + 2 * (length s / 3) + d .corners ≤ length w) × Room q 2 (d .corners) (listSizes 2 (d .corners))
+      → (at : ℕ) → at ≡ trees (length s) → (at + 2 * (length s / 3) + d .corners ≤ length w) × ListRoom q 2 (d .corners) (listSizes 2 (d .corners))
   unfolding endVertices endHeader counts
   indices-ask q e at here =
       (omega (arith, here, R .tabled .few-corners, R .room), rw (R .tabled .corner-count) (rooms (cellAt s (d .counts)) (R .accepted) .indices q e))
 
   pub edges-ask : (q : ℕ) → q ≡ endIndices (counts (cellAt s (d .counts))) (sectors (cellAt s (d .counts))) → (at : ℕ) → at ≡ trees (length s)
       → (afterPolygons s 14 (d .counts .polys) ≤ length s) × (d .corners ≡ length (cornersAt s (d .counts .polys))) × (at + 2 * d .corners ≤ length w)
-      × Room q 8 (d .corners) (listSizes 8 (d .corners))
+      × ListRoom q 8 (d .corners) (listSizes 8 (d .corners))
   unfolding endIndices endVertices endHeader counts
   edges-ask q e at here = (
     polys-inside,
@@ -91,43 +93,43 @@ module _ (s w : List ℕ) (d : Decision) (R : Ready s w d) where
   -- ---- the items that they lay out are the cell's
 
   pub vertices-step : {l r : Layout} {xs ys : List ℕ} → l .at ≡ endHeader (counts (cellAt s (d .counts))) (sectors (cellAt s (d .counts))) → (at : ℕ) → at ≡ trees (length s)
-      → Laid l (listBlocks (l .at) 1080158456 6 (vertexItems (met w at (d .vertices)))) r xs ys
-      → (r .at ≡ endVertices (counts (cellAt s (d .counts))) (sectors (cellAt s (d .counts)))) × Laid l (listBlocks (endHeader (counts (cellAt s (d .counts))) (sectors (cellAt s (d .counts)))) 1080158456 6 (vertexItems (vertices (cellAt s (d .counts))))) r xs ys
+      → Laid l (listBlocks (l .at) LIST-VFT-VERTICES 6 (vertexItems (met w at (d .vertices)))) r xs ys
+      → (r .at ≡ endVertices (counts (cellAt s (d .counts))) (sectors (cellAt s (d .counts)))) × Laid l (listBlocks (endHeader (counts (cellAt s (d .counts))) (sectors (cellAt s (d .counts)))) LIST-VFT-VERTICES 6 (vertexItems (vertices (cellAt s (d .counts))))) r xs ys
   unfolding endVertices counts vertices
   vertices-step {l} {r} {xs} {ys} e at here f =
       let vs = vertices (cellAt s (d .counts)) in
       let same : met w at (d .vertices) ≡ vs = rw here (R .tabled .vertices) in
-      list-step (endHeader (counts (cellAt s (d .counts))) (sectors (cellAt s (d .counts)))) 1080158456 6 (length vs) (vertexItems vs) (wide-vertices vs) (length-vertices vs) e
-      (subst (λ (ts : List ℕ). Laid l (listBlocks (l .at) 1080158456 6 (vertexItems ts)) r xs ys) same f)
+      list-step (endHeader (counts (cellAt s (d .counts))) (sectors (cellAt s (d .counts)))) LIST-VFT-VERTICES 6 (length vs) (vertexItems vs) (wide-vertices vs) (length-vertices vs) e
+      (subst (λ (ts : List ℕ). Laid l (listBlocks (l .at) LIST-VFT-VERTICES 6 (vertexItems ts)) r xs ys) same f)
 
   pub indices-step : {l r : Layout} {xs ys : List ℕ} → l .at ≡ endVertices (counts (cellAt s (d .counts))) (sectors (cellAt s (d .counts))) → (at : ℕ) → at ≡ trees (length s)
-      → Laid l (listBlocks (l .at) 1080158424 2 (numberItems 2 (take (d .corners) (drop (at + 2 * (length s / 3)) w)))) r xs ys
-      → (r .at ≡ endIndices (counts (cellAt s (d .counts))) (sectors (cellAt s (d .counts)))) × Laid l (listBlocks (endVertices (counts (cellAt s (d .counts))) (sectors (cellAt s (d .counts)))) 1080158424 2 (indexItems (vertices (cellAt s (d .counts))) (allCorners (cellAt s (d .counts))))) r xs ys
+      → Laid l (listBlocks (l .at) LIST-VFT-INDICES 2 (numberItems 2 (take (d .corners) (drop (at + 2 * (length s / 3)) w)))) r xs ys
+      → (r .at ≡ endIndices (counts (cellAt s (d .counts))) (sectors (cellAt s (d .counts)))) × Laid l (listBlocks (endVertices (counts (cellAt s (d .counts))) (sectors (cellAt s (d .counts)))) LIST-VFT-INDICES 2 (indexItems (vertices (cellAt s (d .counts))) (allCorners (cellAt s (d .counts))))) r xs ys
   unfolding endIndices counts vertices
   indices-step {l} {r} {xs} {ys} e at here f =
       let vs = vertices (cellAt s (d .counts)) in
       let ks = allCorners (cellAt s (d .counts)) in
       let same : numberItems 2 (take (d .corners) (drop (at + 2 * (length s / 3)) w)) ≡ indexItems vs ks = rw (here, R .tabled .indices) (index-items vs ks) in
-      list-step (endVertices (counts (cellAt s (d .counts))) (sectors (cellAt s (d .counts)))) 1080158424 2 (length ks) (indexItems vs ks) (wide-indices vs ks) (length-indices vs ks) e
-      (subst (λ (is : List (List ℕ)). Laid l (listBlocks (l .at) 1080158424 2 is) r xs ys) same f)
+      list-step (endVertices (counts (cellAt s (d .counts))) (sectors (cellAt s (d .counts)))) LIST-VFT-INDICES 2 (length ks) (indexItems vs ks) (wide-indices vs ks) (length-indices vs ks) e
+      (subst (λ (is : List (List ℕ)). Laid l (listBlocks (l .at) LIST-VFT-INDICES 2 is) r xs ys) same f)
 
   pub edges-step : {l r : Layout} {xs ys : List ℕ} → l .at ≡ endIndices (counts (cellAt s (d .counts))) (sectors (cellAt s (d .counts)))
-      → Laid l (listBlocks (l .at) 1080158440 8 (edgeItems (idsOf (d .areas)) (cornersAt s (d .counts .polys)))) r xs ys
-      → (r .at ≡ endEdges (counts (cellAt s (d .counts))) (sectors (cellAt s (d .counts)))) × Laid l (listBlocks (endIndices (counts (cellAt s (d .counts))) (sectors (cellAt s (d .counts)))) 1080158440 8 (edgeItems (areas (cellAt s (d .counts))) (allCorners (cellAt s (d .counts))))) r xs ys
+      → Laid l (listBlocks (l .at) LIST-VFT-EDGES 8 (edgeItems (areaIds (d .areas)) (cornersAt s (d .counts .polys)))) r xs ys
+      → (r .at ≡ endEdges (counts (cellAt s (d .counts))) (sectors (cellAt s (d .counts)))) × Laid l (listBlocks (endIndices (counts (cellAt s (d .counts))) (sectors (cellAt s (d .counts)))) LIST-VFT-EDGES 8 (edgeItems (areas (cellAt s (d .counts))) (allCorners (cellAt s (d .counts))))) r xs ys
   unfolding endEdges counts areas
   edges-step {l} {r} {xs} {ys} e f =
       let us = areas (cellAt s (d .counts)) in
       let ks = allCorners (cellAt s (d .counts)) in
-      list-step (endIndices (counts (cellAt s (d .counts))) (sectors (cellAt s (d .counts)))) 1080158440 8 (length ks) (edgeItems us ks) (wide-edges us ks) (length-edges us ks) e
-      (subst (λ (ids : List ℕ). Laid l (listBlocks (l .at) 1080158440 8 (edgeItems ids ks)) r xs ys) (R .tabled .areas) f)
+      list-step (endIndices (counts (cellAt s (d .counts))) (sectors (cellAt s (d .counts)))) LIST-VFT-EDGES 8 (length ks) (edgeItems us ks) (wide-edges us ks) (length-edges us ks) e
+      (subst (λ (ids : List ℕ). Laid l (listBlocks (l .at) LIST-VFT-EDGES 8 (edgeItems ids ks)) r xs ys) (R .tabled .areas) f)
 
   pub polygons-step : {l r : Layout} {xs ys : List ℕ} → l .at ≡ endEdges (counts (cellAt s (d .counts))) (sectors (cellAt s (d .counts)))
-      → Laid l (listBlocks (l .at) 1080158408 48 (polygonItems (headAt s 0 .area) 0 0 0 (polygonsAt s 14 (d .counts .polys)))) r xs ys
-      → (r .at ≡ endPolygons (counts (cellAt s (d .counts))) (sectors (cellAt s (d .counts)))) × Laid l (listBlocks (endEdges (counts (cellAt s (d .counts))) (sectors (cellAt s (d .counts)))) 1080158408 48 (polygonItems (headAt s 0 .area) 0 0 0 (polygonsAt s 14 (d .counts .polys)))) r xs ys
+      → Laid l (listBlocks (l .at) LIST-VFT-POLYS 48 (polygonItems (d .cell .«area_id») 0 0 0 (polygonsAt s 14 (d .counts .polys)))) r xs ys
+      → (r .at ≡ endPolygons (counts (cellAt s (d .counts))) (sectors (cellAt s (d .counts)))) × Laid l (listBlocks (endEdges (counts (cellAt s (d .counts))) (sectors (cellAt s (d .counts)))) LIST-VFT-POLYS 48 (polygonItems (headAt s 0 .area) 0 0 0 (polygonsAt s 14 (d .counts .polys)))) r xs ys
   unfolding endPolygons counts
   polygons-step {l} {r} {xs} {ys} e f =
       let ps = polygonsAt s 14 (d .counts .polys) in
-      list-step (endEdges (counts (cellAt s (d .counts))) (sectors (cellAt s (d .counts)))) 1080158408 48 (length ps) (polygonItems (headAt s 0 .area) 0 0 0 ps) (wide-polygons (headAt s 0 .area) 0 0 0 ps) (length-polygons (headAt s 0 .area) 0 0 0 ps) e f
+      list-step (endEdges (counts (cellAt s (d .counts))) (sectors (cellAt s (d .counts)))) LIST-VFT-POLYS 48 (length ps) (polygonItems (headAt s 0 .area) 0 0 0 ps) (wide-polygons (headAt s 0 .area) 0 0 0 ps) (length-polygons (headAt s 0 .area) 0 0 0 ps) e (rw (area-is (headAt s 0) (d .cell) (R .tabled .cell)) at f)
 
   -- ---- work, where the edges were made
 
@@ -158,12 +160,11 @@ module _ (s w : List ℕ) (d : Decision) (R : Ready s w d) where
         same = rw e (length-put at (edgeWords ids (cornersAt s (d .counts .polys))) w)
 
     pub polygons-ask : (q : ℕ) → q ≡ endEdges (counts (cellAt s (d .counts))) (sectors (cellAt s (d .counts))) → (from : ℕ) → from ≡ tablesEnd (length s)
-        → (14 ≤ length s) × (afterPolygons s 14 (d .counts .polys) ≤ length s)
+        → (afterPolygons s 14 (d .counts .polys) ≤ length s)
         × (take (from + 3 * d .counts .polys - from) (drop from w') ≡ boxes (polygonsAt s 14 (d .counts .polys)))
-        × Room q 48 (d .counts .polys) (listSizes 48 (d .counts .polys))
+        × ListRoom q 48 (d .counts .polys) (listSizes 48 (d .counts .polys))
     unfolding endEdges endIndices endVertices endHeader counts
     polygons-ask q e from here = (
-      R .long,
       polys-inside,
       box-part s w' (d .counts) (work-left .kept .held) from here,
       rw many-polys at (rooms (cellAt s (d .counts)) (R .accepted) .polygons q e),

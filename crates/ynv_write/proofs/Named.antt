@@ -7,31 +7,16 @@ use mathlib.Core.List.{List, [], _∷_}
 use lib.ListN.{length}
 use lib.Dec.{ltb}
 use Rattle.math.specs.declared.vec3.Vec3.{Vec3 as Floats}
-use Rattle.strip.specs.Cell.{Polygon, Cell, All}
+use Rattle.strip.specs.Cell.{NavPoly, Cell, All}
 use Rattle.strip.specs.Box.{finiteBox}
 use Rattle.distinct.specs.Distinct.{withNew, distinctFrom}
 use Rattle.areas.specs.Areas.{seeded}
 use Rattle.pages.specs.Items.{Corner, cornersIn, triples, named}
 use Rattle.pages.specs.Sectors.{treeOf, leafCounts, depthOf, rootBox}
 use Rattle.pages.specs.Pages.{loOf, extentOf, links, sectors, pages}
-use Rattle.pages.specs.Checks.{Verdict, fine, refused, when, first, at, cornerFault, cornersFault, polygonFault, polygonsVerdict, leafFault, leavesVerdict, cellVerdict}
+use Rattle.pages.specs.Checks.{Verdict, fine, refused, faultIf, firstFault, at, cornerFault, cornersFault, polygonFault, polygonsVerdict, leafFault, leavesVerdict, cellVerdict}
 use Rattle.quadtree.proofs.Tellings.{leaves-length}
-
--- The place of 12 to 16 is a polygon's number, and that of 17 and 18 a leaf's, of which there are 16, or 1 where content bit 2 is set.
-pub data Named (c : Cell) : ℕ → ℕ → Type 0 where
-  short-work : Named c 1 0
-  endless-box : Named c 10 0
-  many-polygons : Named c 11 0
-  vertex-count : {p : ℕ} → p < length (c .polys) → Named c 12 p
-  late-start : {p : ℕ} → p < length (c .polys) → Named c 13 p
-  many-vertices : {p : ℕ} → p < length (c .polys) → Named c 14 p
-  many-areas : {p : ℕ} → p < length (c .polys) → Named c 15 p
-  polygon-links : {p : ℕ} → p < length (c .polys) → Named c 16 p
-  many-ids : {l : ℕ} → l < 4 ^ depthOf (c .head) → Named c 17 l
-  many-points : {l : ℕ} → l < 4 ^ depthOf (c .head) → Named c 18 l
-  many-portals : Named c 19 0
-  many-links : Named c 20 0
-  short-pages : Named c 2 0
+use Rattle.ynv_write.specs.Theorems.{Named, short-work, endless-box, many-polygons, vertex-count, late-start, many-vertices, many-areas, polygon-links, many-ids, many-points, many-portals, many-links, short-pages}
 
 pub above-zero : {c : Cell} {number place : ℕ} → Named c number place → 0 < number
 above-zero short-work = omega arith
@@ -54,8 +39,8 @@ abbrev OrNone : (ℕ → Type 0) → ℕ → Type 0
 OrNone P zero = Unit
 OrNone P (suc n) = P (suc n)
 
-first-named : (P : ℕ → Type 0) (ns : List ℕ) → All (OrNone P) ns → OrNone P (first ns)
-unfolding first
+first-named : (P : ℕ → Type 0) (ns : List ℕ) → All (OrNone P) ns → OrNone P (firstFault ns)
+unfolding firstFault
 first-named P [] h = tt
 first-named P (zero ∷ ns) h = first-named P ns (h .1)
 first-named P (suc n ∷ ns) h = h .0
@@ -69,7 +54,7 @@ module _ (c : Cell) where
   abbrev At : ℕ → ℕ → Type 0
   At place number = Named c number place
 
-  when-named : {place : ℕ} (bad : Bool) (n : ℕ) → Named c (suc n) place → OrNone (At place) (when bad (suc n))
+  when-named : {place : ℕ} (bad : Bool) (n : ℕ) → Named c (suc n) place → OrNone (At place) (faultIf bad (suc n))
   when-named true n h = h
   when-named false n h = tt
 
@@ -98,7 +83,7 @@ module _ (c : Cell) where
   corners-named ts us (k ∷ ks) p h = first-named (At p) _ (corner-named ts us k p h, (corners-named (withNew ts (k .vertex)) (withNew (withNew us (k .edge .a .area)) (k .edge .b .area)) ks p h, tt))
 
   module _ (lo size : Floats) where
-    polygon-named : (ts us : List ℕ) (start p : ℕ) (q : Polygon) → p < length (c .polys) → OrNone (At p) (polygonFault lo size ts us start q)
+    polygon-named : (ts us : List ℕ) (start p : ℕ) (q : NavPoly) → p < length (c .polys) → OrNone (At p) (polygonFault lo size ts us start q)
     unfolding polygonFault
     polygon-named ts us start p q h =
         first-named (At p) _ (
@@ -112,7 +97,7 @@ module _ (c : Cell) where
           ),
         )
 
-    polygons-named : (ts us : List ℕ) (start p : ℕ) (qs : List Polygon) (rest : Verdict) → p + length qs ≡ length (c .polys) → AsNamed rest
+    polygons-named : (ts us : List ℕ) (start p : ℕ) (qs : List NavPoly) (rest : Verdict) → p + length qs ≡ length (c .polys) → AsNamed rest
         → AsNamed (polygonsVerdict lo size ts us start p qs rest)
     unfolding polygonsVerdict
     polygons-named ts us start p [] rest e k = k

@@ -6,7 +6,7 @@ use native.Mathlib.Omega.{arith}
 use lib.ListN.{length}
 use Rattle.fields.specs.Bytes.{les, cat}
 use Rattle.math.specs.declared.vec3.Vec3.{Vec3 as Floats}
-use Rattle.strip.specs.Reading.{vecAt, headAt, polygonsAt, afterPolygons, portalsAt}
+use Rattle.strip.specs.Reading.{headAt, polygonsAt, afterPolygons, portalsAt}
 use Rattle.strip.specs.declared.Counts.{Counts}
 use Rattle.blocks.specs.Layout.{endOf, Laid}
 use Rattle.blocks.specs.declared.Layout.{Layout}
@@ -18,10 +18,10 @@ use Rattle.pages.proofs.Sizes.{block-size, length-portals}
 use Rattle.plan.specs.Ready.{cellAt}
 use Rattle.sectors.specs.declared.Spot.{Spot}
 use Rattle.front.proofs.Planned.{portals-many}
-use Rattle.ynv_write.specs.Filled.{Kept, SectorsFilled, restOf, RestFilled}
+use Rattle.ynv_write.specs.Filled.{WorkKept, SectorsFilled, restOf, RestFilled}
 use Rattle.ynv_write.proofs.Rooms.{portals-below, links-below}
 
-module _ (s w : List ℕ) (n : Counts) (K : Kept s w n) {l : Layout} {xs ys : List ℕ} {spot : Spot} (f : SectorsFilled (cellAt s n) l xs ys spot) where
+module _ (s w : List ℕ) (n : Counts) (K : WorkKept s w n) {l : Layout} {xs ys : List ℕ} {spot : Spot} (f : SectorsFilled (cellAt s n) l xs ys spot) where
   module _ (first : ℕ) (here : first ≡ length s - 1 - 4 * n .points - 11 * n .portals) where
     first-is : first ≡ afterPolygons s 14 (n .polys)
     first-is = omega (arith, here, K .whole)
@@ -31,10 +31,9 @@ module _ (s w : List ℕ) (n : Counts) (K : Kept s w n) {l : Layout} {xs ys : Li
         let many : length (cellAt s n .portals) ≡ n .portals = sym (portals-many s n) in
         (omega (arith, first-is, K .whole), rw (f .ends) (rw many at (portals-below (cellAt s n) (K .accepted))))
 
-    module _ (lo size : Floats) (el : lo ≡ floats (vecAt s 5)) (es : size ≡ floats (vecAt s 11)) {r : Layout} {zs : List ℕ}
+    module _ (lo size : Floats) (el : lo ≡ floats (headAt s 0 .bb-min)) (es : size ≡ floats (headAt s 0 .bb-size)) {r : Layout} {zs : List ℕ}
         (g : Laid (spot .layout) (blockOf (cat (portalItems lo size (portalsAt s first (n .portals))))) r ys zs) where
       portals-laid : Laid (spot .layout) (blockOf (cat (portalItems (loOf (cellAt s n)) (extentOf (cellAt s n)) (cellAt s n .portals)))) r ys zs
-      unfolding headAt
       portals-laid =
           subst (λ (k : ℕ). Laid (spot .layout) (blockOf (cat (portalItems (loOf (cellAt s n)) (extentOf (cellAt s n)) (portalsAt s k (n .portals))))) r ys zs) first-is
           (subst (λ (v : Floats). Laid (spot .layout) (blockOf (cat (portalItems (loOf (cellAt s n)) v (portalsAt s first (n .portals))))) r ys zs) es

@@ -20,7 +20,8 @@ use Rattle.pages.proofs.Accepted.{accepted}
 use Rattle.pages.proofs.Placed.{pages-placed, pages-short}
 use Rattle.ynv_write.specs.declared.Written.{Written}
 use Rattle.ynv_write.specs.Serialize.{writtenOf, serializeOutcome}
-use Rattle.ynv_write.proofs.Named.{Named, AsNamed, cell-named, above-zero}
+use Rattle.ynv_write.specs.Theorems.{Named, Accepts}
+use Rattle.ynv_write.proofs.Named.{AsNamed, cell-named, above-zero}
 
 module _ (strip : List ℕ) (work out : ℕ) where
   -- the checks of the strip's cell
@@ -50,30 +51,21 @@ module _ (strip : List ℕ) (work out : ℕ) where
 
   -- ---- accepted
 
-  pub record Accepts (w : Written) (ps : List ℕ) : Type 0 where
-    pub cell : Cell
-    pub scanned : scan strip ≡ ok cell
-    pub work-fits : length strip ≤ work / 4
-    pub accepted : Accepted cell
-    pub pages-fit : length (pages cell) ≤ out
-    pub bytes : ps ≡ pages cell
-    pub length-told : w ≡ writtenOf cell
-
-  pub accepted-exactly : (w : Written) (ps : List ℕ) → (serializeOutcome strip work out ≡ Outcome.done w ps) ↔ Accepts w ps
+  pub accepted-exactly : (w : Written) (ps : List ℕ) → (serializeOutcome strip work out ≡ Outcome.done w ps) ↔ Accepts strip work out w ps
   unfolding serializeOutcome
   accepted-exactly w ps = (there, back)
     where
-      there : serializeOutcome strip work out ≡ Outcome.done w ps → Accepts w ps
+      there : serializeOutcome strip work out ≡ Outcome.done w ps → Accepts strip work out w ps
       there e =
           let (c, scanned, passes, told, bytes) = scan-done (scan strip) e in
           let (enough, acc, fits) = accepted (length strip) work out c .0 passes in
           record { cell = c; scanned = scanned; work-fits = enough; accepted = acc; pages-fit = fits; bytes = bytes; length-told = told }
 
-      back : Accepts w ps → serializeOutcome strip work out ≡ Outcome.done w ps
+      back : Accepts strip work out w ps → serializeOutcome strip work out ≡ Outcome.done w ps
       back a = rw (a .scanned, accepted (length strip) work out (a .cell) .1 (a .work-fits, a .accepted, a .pages-fit), a .length-told, a .bytes)
 
   -- the blocks of what is written stand as the layout promises, and no address in them is one of the graphics section
-  pub written-placed : {w : Written} {ps : List ℕ} (a : Accepts w ps) → Placed (blocks (a .cell)) × (length ps < 2 ^ 28)
+  pub written-placed : {w : Written} {ps : List ℕ} (a : Accepts strip work out w ps) → Placed (blocks (a .cell)) × (length ps < 2 ^ 28)
   written-placed a = (pages-placed (a .cell) (a .accepted), rw (a .bytes) (pages-short (a .cell) (a .accepted)))
 
   -- ---- refused

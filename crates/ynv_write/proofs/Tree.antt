@@ -1,29 +1,35 @@
 -- The sectors of a planned strip: the tree by the words of work is its cell's, and what is laid out are its blocks. Assumes nothing.
 use Prim.Native.Nat.{ℕ, _+_, _*_, _/_, _%_, _-_, _^_, _≤_, _<_}
-use mathlib.Core.Path.{_≡_, sym, subst, _∙_}
+use mathlib.Core.Path.{_≡_, ap, sym, subst, _∙_}
 use mathlib.Core.List.{List}
 use native.Mathlib.Omega.{arith}
 use native.Mathlib.Nat.{zero-add}
 use lib.ListN.{length}
-use Rattle.math.specs.declared.vec3.Vec3.{Vec3 as Floats}
 use Rattle.quantise.specs.declared.bounds.Aabb.{Aabb}
-use Rattle.strip.specs.Reading.{word, vecAt, headAt, pointsAt}
+use Rattle.strip.specs.Reading.{word, headAt, pointsAt}
 use Rattle.strip.specs.declared.Counts.{Counts}
-use Rattle.pages.specs.Items.{floats}
-use Rattle.pages.specs.Sectors.{Sector, depthBy, rootBox, pointCount}
+use Rattle.cell_record.specs.Record.{recordOf, rootIn}
+use Rattle.cell_record.specs.declared.CellRecord.{CellRecord}
+use Rattle.cell_record.proofs.Fields.{flags-are, min-is, size-is, root-is}
+use Rattle.pages.specs.Sectors.{Sector, depthBy, pointCount}
 use Rattle.pages.specs.Pages.{loOf, extentOf, counts, sectors, endPolygons, endSectors}
 use Rattle.pages.proofs.Sizes.{tree-lengths}
 use Rattle.decide.specs.Decide.{tablesEnd}
 use Rattle.plan.specs.Plan.{portalsEnd, pointsIn}
 use Rattle.plan.specs.Ready.{cellAt}
 use Rattle.plan.proofs.Rest.{boxPart, leafPart, part-long, part-tree, point-count}
-use Rattle.sectors.specs.Written.{treeIn, Room, Wrote}
+use Rattle.sectors.specs.Written.{treeIn, TreeRoom, Wrote}
 use Rattle.sectors.specs.declared.Spot.{Spot}
 use Rattle.sectors.proofs.Cell.{few-leaves, cell-room, cell-laid}
-use Rattle.ynv_write.specs.Filled.{Kept, SectorsFilled}
+use Rattle.ynv_write.specs.Filled.{WorkKept, SectorsFilled}
 
-module _ (s w : List ℕ) (n : Counts) (K : Kept s w n) (from : ℕ) (here : from ≡ tablesEnd (length s)) where
-  module _ (at k : ℕ) (b : Aabb) (behind : at ≡ length s - 1 - 4 * n .points) (deep : k ≡ depthBy (word s 1 / 2 ^ 2 % 2)) (root : b ≡ rootBox (headAt s 0)) where
+module _ (s w : List ℕ) (n : Counts) (K : WorkKept s w n) (from : ℕ) (here : from ≡ tablesEnd (length s)) where
+  module _ (at k : ℕ) (b : Aabb) (behind : at ≡ length s - 1 - 4 * n .points) (cell : CellRecord) (same-cell : cell ≡ recordOf (headAt s 0))
+      (deep : k ≡ depthBy (cell .«content_flags» / 2 ^ 2 % 2)) (root : b ≡ rootIn cell) where
+    deep-is : k ≡ depthBy (word s 1 / 2 ^ 2 % 2)
+    unfolding headAt
+    deep-is = deep ∙ ap (λ (f : ℕ). depthBy (f / 2 ^ 2 % 2)) (flags-are (headAt s 0) cell same-cell)
+
     tree : Sector
     tree = treeIn (boxPart s w n (K .held) from here) (leafPart s w n (K .held) from here) s at k 0 b
 
@@ -33,27 +39,27 @@ module _ (s w : List ℕ) (n : Counts) (K : Kept s w n) (from : ℕ) (here : fro
         let many : length (leafPart s w n (K .held) from here) ≡ n .points = sym (part-long s w n (K .held) from here) ∙ point-count s n in
         let first : at ≡ portalsEnd s n = omega (arith, behind, K .whole) in
         let ts : pointsAt s at (length (leafPart s w n (K .held) from here)) ≡ pointsIn s n = rw (many, first) in
-        rw (ts, deep) (part-tree s w n (K .held) from here b root)
+        rw (ts, deep-is) (part-tree s w n (K .held) from here b (root ∙ root-is (headAt s 0) cell same-cell))
 
     pub points-inside : at + 4 * length (leafPart s w n (K .held) from here) ≤ length s
     points-inside = omega (arith, behind, K .whole, part-long s w n (K .held) from here, point-count s n)
 
     pub leaves-few : 0 + 4 ^ k < 2 ^ 32
-    leaves-few = rw deep (omega (arith, few-leaves (word s 1 / 2 ^ 2 % 2)))
+    leaves-few = rw deep-is (omega (arith, few-leaves (word s 1 / 2 ^ 2 % 2)))
 
     pub sectors-ask : (end : ℕ) → end ≡ endPolygons (counts (cellAt s n)) (sectors (cellAt s n))
-        → Room (treeIn (boxPart s w n (K .held) from here) (leafPart s w n (K .held) from here) s at k 0 b) end 0
+        → TreeRoom (treeIn (boxPart s w n (K .held) from here) (leafPart s w n (K .held) from here) s at k 0 b) end 0
     unfolding tree
-    sectors-ask end e = subst (λ (t : Sector). Room t end 0) (sym tree-is) (rw e (cell-room (cellAt s n) (K .accepted)))
+    sectors-ask end e = subst (λ (t : Sector). TreeRoom t end 0) (sym tree-is) (rw e (cell-room (cellAt s n) (K .accepted)))
 
-    pub sectors-filled : (lo size : Floats) → lo ≡ floats (vecAt s 5) → size ≡ floats (vecAt s 11) → {j : ℕ} {p r : Spot} {xs ys : List ℕ}
+    pub sectors-filled : {j : ℕ} {p r : Spot} {xs ys : List ℕ}
         → p .layout .at ≡ endPolygons (counts (cellAt s n)) (sectors (cellAt s n)) → p .first ≡ 0
-        → Wrote lo size (treeIn (boxPart s w n (K .held) from here) (leafPart s w n (K .held) from here) s at k 0 b) j p r xs ys
+        → Wrote (cell .«bb_min») (cell .«bb_size») (treeIn (boxPart s w n (K .held) from here) (leafPart s w n (K .held) from here) s at k 0 b) j p r xs ys
         → SectorsFilled (cellAt s n) (p .layout) xs ys r
-    unfolding tree headAt endSectors
-    sectors-filled lo size el es {j} {p} {r} {xs} {ys} e f wrote =
+    unfolding tree endSectors
+    sectors-filled {j} {p} {r} {xs} {ys} e f wrote =
         let c = cellAt s n in
-        let same : Wrote (loOf c) (extentOf c) (sectors c) j p r xs ys = rw (el, es, tree-is) at wrote in
+        let same : Wrote (loOf c) (extentOf c) (sectors c) j p r xs ys = rw (min-is (headAt s 0) cell same-cell, size-is (headAt s 0) cell same-cell, tree-is) at wrote in
         let laid = cell-laid c e f same in
         record {
           ends = laid .ends ∙ rw (tree-lengths (loOf c) (extentOf c) (endPolygons (counts c) (sectors c)) 0 (sectors c), e);

@@ -1,5 +1,5 @@
 -- The header, stored last, completes the pages; and what the call then answers. Assumes nothing.
-use Prim.Native.Nat.{ℕ, _-_, _≤_, _<_}
+use Prim.Native.Nat.{ℕ, _-_, _^_, _≤_, _<_}
 use mathlib.Core.Path.{_≡_, refl, sym, ap, subst, _∙_}
 use mathlib.Core.List.{List, _∷_, _++_, append-assoc}
 use native.Mathlib.Omega.{arith}
@@ -10,17 +10,21 @@ use Rattle.fields.specs.Bytes.{put, zeros}
 use Rattle.fields.proofs.Puts.{put-nil}
 use Rattle.strip.specs.Cell.{Cell}
 use Rattle.strip.specs.Outcome.{refused, done, values, shown}
-use Rattle.strip.specs.Reading.{headAt}
-use Rattle.areas.specs.Areas.{idsOf}
+use Rattle.strip.specs.Reading.{word, headAt}
+use Rattle.cell_record.specs.Record.{headBy}
+use Rattle.cell_record.proofs.Fields.{head-is, word-box}
+use Rattle.areas.specs.Areas.{areaIds}
 use Rattle.blocks.specs.Layout.{placeOf, pagesOf, Laid}
 use Rattle.blocks.specs.declared.Layout.{Layout}
 use Rattle.blocks.proofs.Layouts.{laid-then, laid-before}
 use Rattle.pages.specs.Pages as Pages
 use Rattle.pages.specs.Pages.{Places, headerBytes, vertices, areas, links, sectors, counts, placesOf, header, blocks, pages, endHeader}
 use Rattle.pages.specs.Sectors.{byteCount}
-use Rattle.pages.specs.Checks.{fine, when, at, onVerdict}
+use Rattle.pages.specs.Checks.{fine, faultIf, at, onVerdict}
 use Rattle.pages.proofs.Sizes.{header-length}
 use Rattle.pages.proofs.Placed.{few-corners}
+use Rattle.strip.specs.declared.Refusal.{Refusal}
+use Rattle.decide.specs.declared.Verdict.the-variants.{Fine, Refused}
 use Rattle.decide.specs.declared.Decision.{Decision}
 use Rattle.plan.specs.Plan.{Planned}
 use Rattle.plan.specs.Ready.{cellAt, Ready}
@@ -80,7 +84,7 @@ module _ (s w : List ℕ) (d : Decision) (R : Ready s w d) where
     unfolding placesOf counts
     places-are = rw (f .header, f .vertices, f .indices, f .edges, f .polygons, g .sectors-end, g .portals-end, ← (portal-count s w d R), ← (link-count s w d R))
 
-    areas-are : idsOf (d .areas) ≡ areas (cellAt s (d .counts))
+    areas-are : areaIds (d .areas) ≡ areas (cellAt s (d .counts))
     unfolding areas
     areas-are = R .tabled .areas
 
@@ -90,16 +94,17 @@ module _ (s w : List ℕ) (d : Decision) (R : Ready s w d) where
         rw (← (vertex-count s w d R), ← (R .tabled .corner-count), areas-are, ← (polygon-count s w d R), ← (portal-count s w d R), ← (link-count s w d R), g .points, e)
 
     -- the blocks behind the header, and the header stored before them
-    header-is : (p : Places) (n : Pages.Counts) → p ≡ placesBy a b (d .counts .portals) (d .links) → (t : ℕ) → t ≡ byteCount (sectors (cellAt s (d .counts))) → n ≡ countsBy d (b .points) t
-        → headerBytes (headAt s 0) p n (idsOf (d .areas)) ≡ header (cellAt s (d .counts))
+    header-is : ((k : ℕ) → word s k < 2 ^ 32) → (p : Places) (n : Pages.Counts) → p ≡ placesBy a b (d .counts .portals) (d .links) → (t : ℕ) → t ≡ byteCount (sectors (cellAt s (d .counts))) → n ≡ countsBy d (b .points) t
+        → headerBytes (headBy (d .cell)) p n (areaIds (d .areas)) ≡ header (cellAt s (d .counts))
     unfolding header
-    header-is p n ep t et en = rw (ep, en, places-are, counts-are t et, areas-are)
+    header-is words p n ep t et en =
+        rw (head-is (headAt s 0) (d .cell) (R .tabled .cell) (word-box s words) (R .accepted .finite), ep, en, places-are, counts-are t et, areas-are)
 
-    pub filled : {w' : List ℕ} → Left s (d .counts) w w' → (p : Places) → p ≡ placesBy a b (d .counts .portals) (d .links)
+    pub filled : ((k : ℕ) → word s k < 2 ^ 32) → {w' : List ℕ} → Left s (d .counts) w w' → (p : Places) → p ≡ placesBy a b (d .counts .portals) (d .links)
         → (t : ℕ) → t ≡ byteCount (sectors (cellAt s (d .counts))) → (n : Pages.Counts) → n ≡ countsBy d (b .points) t
-        → {x3 : List ℕ} → x3 ≡ put 0 (headerBytes (headAt s 0) p n (idsOf (d .areas))) x2 → Filled s (d .counts) w w' x0 x3
-    filled k p ep t et n en e3 = record {
-      bytes = e3 ∙ ap (λ (h : List ℕ). put 0 h x2) (header-is p n ep t et en) ∙ header-last (cellAt s (d .counts)) (f .header) (laid-then (f .laid) (g .laid));
+        → {x3 : List ℕ} → x3 ≡ put 0 (headerBytes (headBy (d .cell)) p n (areaIds (d .areas))) x2 → Filled s (d .counts) w w' x0 x3
+    filled words k p ep t et n en e3 = record {
+      bytes = e3 ∙ ap (λ (h : List ℕ). put 0 h x2) (header-is words p n ep t et en) ∙ header-last (cellAt s (d .counts)) (f .header) (laid-then (f .laid) (g .laid));
       long = k .long;
       beyond = k .beyond;
     }
@@ -107,13 +112,13 @@ module _ (s w : List ℕ) (d : Decision) (R : Ready s w d) where
 -- ---- the answer, after the plan P
 
 module _ (s w w' : List ℕ) (d : Decision) (P : Planned s w w' d) (out : ℕ) where
-  pub refuses : (d .fault ≡ 0 → ⊥) → serializeOutcome s (length w) out ≡ refused (d .fault) (d .place)
+  pub refuses : (q : Refusal) → d .verdict ≡ Refused q → serializeOutcome s (length w) out ≡ refused (q .number) (q .place)
   unfolding serializeOutcome
-  refuses ne = refused-so s w w' d writtenOf out P ne
+  refuses q bad = refused-so s w w' d writtenOf out P q bad
 
-  module _ (z : d .fault ≡ 0) where
+  module _ (z : d .verdict ≡ Fine) where
     decided : serializeOutcome s (length w) out
-        ≡ onVerdict (at 0 (when (ltb out (length (pages (cellAt s (d .counts))))) 2) fine) (done (writtenOf (cellAt s (d .counts))) (pages (cellAt s (d .counts))))
+        ≡ onVerdict (at 0 (faultIf (ltb out (length (pages (cellAt s (d .counts))))) 2) fine) (done (writtenOf (cellAt s (d .counts))) (pages (cellAt s (d .counts))))
     unfolding serializeOutcome
     decided = rw (ready s w w' d P z .scanned, verdict-of s w w' d out P z)
 

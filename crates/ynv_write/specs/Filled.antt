@@ -7,7 +7,7 @@ use lib.ListN.{length, drop}
 use Rattle.fields.specs.Bytes.{les, cat, put}
 use Rattle.strip.specs.Cell.{Cell}
 use Rattle.strip.specs.declared.Counts.{Counts}
-use Rattle.areas.specs.Areas.{idsOf}
+use Rattle.areas.specs.Areas.{areaIds}
 use Rattle.blocks.specs.Layout.{endOf, Laid}
 use Rattle.blocks.specs.Lists.{listBlocks}
 use Rattle.blocks.specs.declared.Layout.{Layout}
@@ -23,16 +23,17 @@ use Rattle.plan.specs.Ready.{cellAt}
 use Rattle.sectors.specs.declared.Spot.{Spot}
 use Rattle.ynv_write.specs.declared.ListEnds.{ListEnds}
 use Rattle.ynv_write.specs.declared.RestEnds.{RestEnds}
+use Rattle.fields.specs.Sizes.{LIST-VFT-EDGES, LIST-VFT-INDICES, LIST-VFT-POLYS, LIST-VFT-VERTICES}
 
 -- ---- the blocks of the four lists, and those behind them
 
 module _ (c : Cell) where
   unfoldable pub listsOf : List (List ℕ)
   listsOf =
-      listBlocks (endHeader (counts c) (sectors c)) 1080158456 6 (vertexItems (vertices c))
-      ++ (listBlocks (endVertices (counts c) (sectors c)) 1080158424 2 (indexItems (vertices c) (allCorners c))
-      ++ (listBlocks (endIndices (counts c) (sectors c)) 1080158440 8 (edgeItems (areas c) (allCorners c))
-      ++ listBlocks (endEdges (counts c) (sectors c)) 1080158408 48 (polygonItems (c .head .area) 0 0 0 (c .polys))))
+      listBlocks (endHeader (counts c) (sectors c)) LIST-VFT-VERTICES 6 (vertexItems (vertices c))
+      ++ (listBlocks (endVertices (counts c) (sectors c)) LIST-VFT-INDICES 2 (indexItems (vertices c) (allCorners c))
+      ++ (listBlocks (endIndices (counts c) (sectors c)) LIST-VFT-EDGES 8 (edgeItems (areas c) (allCorners c))
+      ++ listBlocks (endEdges (counts c) (sectors c)) LIST-VFT-POLYS 48 (polygonItems (c .head .area) 0 0 0 (c .polys))))
 
   unfoldable pub restOf : List (List ℕ)
   restOf =
@@ -42,7 +43,7 @@ module _ (c : Cell) where
 
 -- ---- what is known of the strip s, its counts n and the words of work w when the lists are laid out
 
-pub record Kept (s w : List ℕ) (n : Counts) : Type 0 where
+pub record WorkKept (s w : List ℕ) (n : Counts) : Type 0 where
   pub accepted : Accepted (cellAt s n)
   pub held : WorkHeld s n w
   pub whole : length s ≡ portalsEnd s n + 4 * n .points + 1
@@ -50,7 +51,7 @@ pub record Kept (s w : List ℕ) (n : Counts) : Type 0 where
 
 -- and how work is left, by now w', which was w: no word behind twice the strip's is changed
 pub record Left (s : List ℕ) (n : Counts) (w w' : List ℕ) : Type 0 where
-  pub kept : Kept s w' n
+  pub kept : WorkKept s w' n
   pub long : length w' ≡ length w
   pub beyond : drop (2 * length s) w' ≡ drop (2 * length s) w
 
@@ -107,7 +108,7 @@ abbrev pub countsBy : Decision → (points bytes : ℕ) → Pages.Counts
 countsBy d points bytes = record {
   vertices = d .vertices;
   indices = d .corners;
-  areas = length (idsOf (d .areas));
+  areas = length (areaIds (d .areas));
   polygons = d .counts .polys;
   points = points;
   portals = d .counts .portals;

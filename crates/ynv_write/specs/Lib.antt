@@ -1,2 +1,3 @@
 pub mod Serialize
 pub mod Filled
+pub mod Theorems

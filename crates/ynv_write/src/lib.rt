@@ -3,10 +3,11 @@ ghost use mathlib.Core.Path.{_≡_};
 ghost use Prim.Native.Nat.{_+_, _*_, _≤_};
 ghost use lib.ListN.{length};
 ghost use Rattle.fields.specs.Bytes.{put};
-ghost use Rattle.strip.specs.Reading.{afterPolygons};
-ghost use Rattle.areas.specs.Areas.{idsOf};
+ghost use Rattle.strip.specs.Reading.{headAt, afterPolygons};
+ghost use Rattle.cell_record.specs.Record.{recordOf};
+ghost use Rattle.areas.specs.Areas.{areaIds};
 ghost use Rattle.blocks.specs.Layout.{Laid};
-ghost use Rattle.blocks.specs.Lists.{listSizes, listBlocks, Room};
+ghost use Rattle.blocks.specs.Lists.{listSizes, listBlocks, ListRoom};
 ghost use Rattle.pages.specs.Items.{edgeItems};
 ghost use Rattle.items.specs.Made.{edgeWords, cornersAt};
 ghost use Rattle.strip.specs.Outcome.{shown, left};
@@ -15,23 +16,23 @@ ghost use Rattle.pages.specs.Pages.{links, counts, sectors, endPolygons};
 ghost use Rattle.front.specs.Front.{placesIn, countsIn};
 ghost use Rattle.plan.specs.Ready.{cellAt, Ready};
 ghost use Rattle.ynv_write.specs.Serialize.{paper, serializeOutcome};
-ghost use Rattle.ynv_write.specs.Filled.{Kept, Left, ListsFilled, SectorsFilled, RestFilled, placesBy, Near, countsBy, Few, Filled};
+ghost use Rattle.ynv_write.specs.Filled.{WorkKept, Left, ListsFilled, SectorsFilled, RestFilled, placesBy, Near, countsBy, Few, Filled};
+ghost use Rattle.fields.specs.Sizes.{LIST-VFT-EDGES};
 use areas::Areas;
 use blocks::Layout;
+use cell_record::CellRecord;
 use decide::Decision;
+use decide::Verdict;
+use fields::sizes::LIST_SIZE;
+use fields::sizes::NAVMESH_SIZE;
+use fields::sizes::PORTAL_SIZE;
+use fields::sizes::SECTOR_SIZE;
 use front::Addresses;
 use front::Totals;
-use math::vec3::floats_at;
 use sectors::Points;
 use sectors::Spot;
 use strip::Counts;
 use strip::Refusal;
-
-const HEADER_SIZE: usize = 368;
-
-const LIST_HEADER_SIZE: usize = 48;
-
-const SECTOR_SIZE: usize = 96;
 
 // What an accepted strip came to: the pages' length in bytes.
 pub struct Written {
@@ -72,9 +73,9 @@ fn fill_edges(
     base: usize,
 ) -> Layout
     requires { ⌜ (afterPolygons (now strip) 14 n ≤ length (now strip)) × (corners ≡ length (cornersAt (now strip) n)) × (base + 2 * corners ≤ length (now work))
-        × Room (l .at) 8 corners (listSizes 8 corners) ⌝ }
-    ensures { λ r. ⌜ Laid l (listBlocks (l .at) 1080158440 8 (edgeItems (idsOf areas) (cornersAt (now (strip .entry)) n))) r (now (pages .entry)) (now (pages .exit)) ⌝ }
-    ensures { λ _. ⌜ now (work .exit) ≡ put base (edgeWords (idsOf areas) (cornersAt (now (strip .entry)) n)) (now (work .entry)) ⌝ }
+        × ListRoom (l .at) 8 corners (listSizes 8 corners) ⌝ }
+    ensures { λ r. ⌜ Laid l (listBlocks (l .at) LIST-VFT-EDGES 8 (edgeItems (areaIds areas) (cornersAt (now (strip .entry)) n))) r (now (pages .entry)) (now (pages .exit)) ⌝ }
+    ensures { λ _. ⌜ now (work .exit) ≡ put base (edgeWords (areaIds areas) (cornersAt (now (strip .entry)) n)) (now (work .entry)) ⌝ }
 {
     let ids = areas.ids;
     items::lay_edges(pages, l, strip, n, corners, &ids, areas.len, work, base)
@@ -91,13 +92,14 @@ fn fill_lists(pages: &mut [u8], strip: &[u32], d: Decision, work: &mut [u32]) ->
     let counts = d.counts;
     let n = counts.polys;
     let corners = d.corners;
-    let header = Layout::new().alloc(HEADER_SIZE);
+    let header = Layout::new().alloc(NAVMESH_SIZE);
     let vertices = items::lay_vertices(pages, header, work, at, d.vertices);
     let indices = items::lay_indices(pages, vertices, work, at + 2 * (words / 3), corners);
     let edges = fill_edges(pages, indices, strip, n, corners, d.areas, work, at);
     let boxes = decide::tables_end(strip);
     let end = boxes + 3 * n;
-    let polygons = items::lay_polygons(pages, edges, strip, n, &work[boxes..end]);
+    let cell = d.cell;
+    let polygons = items::lay_polygons(pages, edges, strip, cell.area_id, n, &work[boxes..end]);
     ListEnds {
         header,
         vertices,
@@ -111,30 +113,32 @@ fn fill_lists(pages: &mut [u8], strip: &[u32], d: Decision, work: &mut [u32]) ->
 fn fill_sectors<'a>(
     pages: &mut [u8],
     strip: &'a [u32],
+    cell: CellRecord,
     n: Counts,
     work: &'a [u32],
     l: Layout,
 ) -> Spot
-    requires { ⌜ Kept (now strip) (now work) n × (l .at ≡ endPolygons (counts (cellAt (now strip) n)) (sectors (cellAt (now strip) n))) ⌝ }
+    requires { ⌜ WorkKept (now strip) (now work) n × (l .at ≡ endPolygons (counts (cellAt (now strip) n)) (sectors (cellAt (now strip) n)))
+        × (cell ≡ recordOf (headAt (now strip) 0)) ⌝ }
     ensures { λ r. ⌜ SectorsFilled (cellAt (now (strip .entry)) n) l (now (pages .entry)) (now (pages .exit)) r ⌝ }
 {
     let at = decide::tables_end(strip);
     let mid = at + 3 * n.polys;
     let end = mid + n.points;
-    let b = plan::root_box(strip);
-    let lo = floats_at(strip, 5);
-    let size = floats_at(strip, 11);
+    let b = cell.root_box();
+    let bb_min = cell.bb_min;
+    let bb_size = cell.bb_size;
     let points = Points {
         at: strip.len() - 1 - 4 * n.points,
-        lo,
-        size,
+        bb_min,
+        bb_size,
     };
     let spot = Spot {
         layout: l,
         leaf: 0,
         first: 0,
     };
-    let depth = quadtree::boxes::depth_of(strip[1]);
+    let depth = quadtree::boxes::depth_of(cell.content_flags);
     sectors::write_sector(
         pages,
         spot,
@@ -155,17 +159,27 @@ fn fill_rest<'a>(
     work: &'a [u32],
     l: Layout,
 ) -> RestEnds
-    requires { ⌜ Kept (now strip) (now work) (d .counts) × (d .links ≡ length (links (cellAt (now strip) (d .counts))))
-        × (l .at ≡ endPolygons (counts (cellAt (now strip) (d .counts))) (sectors (cellAt (now strip) (d .counts)))) ⌝ }
+    requires { ⌜ WorkKept (now strip) (now work) (d .counts) × (d .links ≡ length (links (cellAt (now strip) (d .counts))))
+        × (l .at ≡ endPolygons (counts (cellAt (now strip) (d .counts))) (sectors (cellAt (now strip) (d .counts))))
+        × (d .cell ≡ recordOf (headAt (now strip) 0)) ⌝ }
     ensures { λ r. ⌜ RestFilled (cellAt (now (strip .entry)) (d .counts)) l (now (pages .entry)) (now (pages .exit)) r ⌝ }
 {
     let counts = d.counts;
-    let lo = floats_at(strip, 5);
-    let size = floats_at(strip, 11);
-    let spot = fill_sectors(pages, strip, counts, work, l);
+    let cell = d.cell;
+    let bb_min = cell.bb_min;
+    let bb_size = cell.bb_size;
+    let spot = fill_sectors(pages, strip, cell, counts, work, l);
     let sectors = spot.layout;
     let first = strip.len() - 1 - 4 * counts.points - 11 * counts.portals;
-    let portals = front::lay_portals(pages, sectors, strip, first, counts.portals, lo, size);
+    let portals = front::lay_portals(
+        pages,
+        sectors,
+        strip,
+        first,
+        counts.portals,
+        bb_min,
+        bb_size,
+    );
     let links = front::lay_links(pages, portals, strip, counts.polys, d.links);
     RestEnds {
         sectors,
@@ -182,19 +196,19 @@ fn addresses(d: Decision, lists: ListEnds, rest: RestEnds) -> Addresses
 {
     let counts = d.counts;
     Addresses {
-        vertices: sectors::address_of(lists.header, LIST_HEADER_SIZE),
-        indices: sectors::address_of(lists.vertices, LIST_HEADER_SIZE),
-        edges: sectors::address_of(lists.indices, LIST_HEADER_SIZE),
-        polygons: sectors::address_of(lists.edges, LIST_HEADER_SIZE),
+        vertices: sectors::address_of(lists.header, LIST_SIZE),
+        indices: sectors::address_of(lists.vertices, LIST_SIZE),
+        edges: sectors::address_of(lists.indices, LIST_SIZE),
+        polygons: sectors::address_of(lists.edges, LIST_SIZE),
         root: sectors::address_of(lists.polygons, SECTOR_SIZE),
-        portals: sectors::address_of(rest.sectors, 28 * counts.portals),
+        portals: sectors::address_of(rest.sectors, PORTAL_SIZE * counts.portals),
         links: sectors::address_of(rest.portals, 2 * d.links),
     }
 }
 
 // How many areas there are. A length above 32 counts as 32.
 fn area_count(areas: Areas) -> u32
-    ensures { λ r. ⌜ r ≡ length (idsOf areas) ⌝ }
+    ensures { λ r. ⌜ r ≡ length (areaIds areas) ⌝ }
 {
     fields::least(areas.len, 32) as u32
 }
@@ -227,8 +241,9 @@ fn fill(strip: &[u32], d: Decision, bytes: u32, work: &mut [u32], pages: &mut [u
     let rest = fill_rest(pages, strip, d, work, lists.polygons);
     let a = addresses(d, lists, rest);
     let n = totals(d, rest.points, bytes);
+    let cell = d.cell;
     let areas = d.areas;
-    front::put_header(pages, strip, a, n, areas);
+    front::put_header(pages, cell, a, n, areas);
 }
 
 // Writes the cell of a strip into the lent pages. A refusal leaves them as they were. Work is for the call's own use: four words to a word of the strip.
@@ -238,20 +253,20 @@ pub fn serialize_ynv(strip: &[u32], work: &mut [u32], pages: &mut [u8]) -> Seria
     ensures work { λ _. ⌜ length (now (work .exit)) ≡ length (now (work .entry)) ⌝ }
 {
     let d = plan::plan(strip, work);
-    if d.fault != 0 {
-        return SerializeAnswer::Refused(Refusal {
-            number: d.fault,
-            place: d.place,
-        });
+    let verdict = d.verdict;
+    match verdict {
+        Verdict::Fine => {
+            let reach = front::ends::pages_end(strip, d, work);
+            let length = reach.at;
+            if pages.len() < length {
+                return SerializeAnswer::Refused(Refusal {
+                    number: 2,
+                    place: 0,
+                });
+            }
+            fill(strip, d, reach.bytes, work, pages);
+            SerializeAnswer::Written(Written { length })
+        }
+        Verdict::Refused(r) => SerializeAnswer::Refused(r),
     }
-    let reach = front::ends::pages_end(strip, d, work);
-    let length = reach.at;
-    if pages.len() < length {
-        return SerializeAnswer::Refused(Refusal {
-            number: 2,
-            place: 0,
-        });
-    }
-    fill(strip, d, reach.bytes, work, pages);
-    SerializeAnswer::Written(Written { length })
 }

@@ -2,7 +2,7 @@
 use Prim.Native.Nat.{_*_, _^_, _<_}
 use native.Mathlib.Omega.{arith}
 use Rattle.blocks.specs.Layout.{behind}
-use Rattle.blocks.specs.Lists.{counts, sizes}
+use Rattle.blocks.specs.Lists.{partCounts, sizes}
 use Rattle.blocks.proofs.Layouts.{end-ge, laid-block}
 use Rattle.blocks.proofs.Lists.{table-length}
 use borrow.Author.Needs.{needs}
@@ -11,7 +11,7 @@ use Rattle.blocks.proofs.lay_table.Tie as tie
 
 -- the table ends below 2^28, since the items behind it do
 below : (s : tie.Start) → behind (s .args .l .at) (16 * s .args .k) < 2 ^ 28
-below s = let a = s .args in omega (arith, s .pre .2, end-ge (behind (a .l .at) (16 * a .k)) (sizes (a .w) (counts (a .k) (a .per) (a .n))))
+below s = let a = s .args in omega (arith, s .pre .2, end-ge (behind (a .l .at) (16 * a .k)) (sizes (a .w) (partCounts (a .k) (a .per) (a .n))))
 
 mul-pad : tie.Need-mul-pad
 mul-pad c = omega (arith, below (c .before .before))

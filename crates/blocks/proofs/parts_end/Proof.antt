@@ -6,14 +6,14 @@ use native.Mathlib.Nat.{sub-zero}
 use native.Mathlib.Omega.{arith}
 use borrow.Author.Needs.{needs}
 use Rattle.blocks.specs.Layout.{behind, endOf}
-use Rattle.blocks.specs.Lists.{counts, sizes}
+use Rattle.blocks.specs.Lists.{partCounts, sizes}
 use Rattle.blocks.proofs.Lists.{size-turn, room-turn, end-turn}
 use Rattle.blocks.proofs.parts_end.Statement.{statement}
 use Rattle.blocks.proofs.parts_end.Tie as tie
 
 abbrev Inv-loop : tie.InvT-loop
 Inv-loop w per k n next₀ left₀ i₀ next left i =
-    (i ≤ k) × (endOf (next .at) (sizes w (counts (k - i) per left)) ≡ endOf (next₀ .at) (sizes w (counts k per n)))
+    (i ≤ k) × (endOf (next .at) (sizes w (partCounts (k - i) per left)) ≡ endOf (next₀ .at) (sizes w (partCounts k per n)))
 
 abbrev μ-loop : tie.MeasureT-loop
 μ-loop w per k n next₀ left₀ i₀ next left i = k - i

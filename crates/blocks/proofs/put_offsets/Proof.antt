@@ -8,7 +8,7 @@ use borrow.Author.Needs.{needs}
 use lib.ListN.{length}
 use Rattle.fields.specs.Bytes.{les, put}
 use Rattle.fields.proofs.Puts.{put-nil}
-use Rattle.blocks.specs.Lists.{counts, firsts}
+use Rattle.blocks.specs.Lists.{partCounts, firsts}
 use Rattle.blocks.proofs.Lists.{offsets-turn}
 use Rattle.blocks.proofs.put_offsets.Statement.{statement}
 use Rattle.blocks.proofs.put_offsets.Tie as tie
@@ -19,7 +19,7 @@ Inv-loop out₀ at per k n entry₀ first₀ left₀ i₀ out entry first left i
     × (first + left ≡ n)
     × (length out ≡ length out₀)
     × (entry + 4 * (k - i) ≡ at + 4 * k)
-    × (put entry (les 4 (firsts first (counts (k - i) per left))) out ≡ put at (les 4 (firsts 0 (counts k per n))) out₀)
+    × (put entry (les 4 (firsts first (partCounts (k - i) per left))) out ≡ put at (les 4 (firsts 0 (partCounts k per n))) out₀)
 
 abbrev μ-loop : tie.MeasureT-loop
 μ-loop out₀ at per k n entry₀ first₀ left₀ i₀ out entry first left i = k - i

@@ -9,7 +9,7 @@ use lib.ListN.{length}
 use Rattle.fields.specs.Bytes.{put}
 use Rattle.fields.proofs.Puts.{put-nil}
 use Rattle.blocks.specs.Layout.{behind, endOf}
-use Rattle.blocks.specs.Lists.{counts, sizes, tableBytes}
+use Rattle.blocks.specs.Lists.{partCounts, sizes, tableBytes}
 use Rattle.blocks.proofs.Lists.{size-turn, room-turn, end-turn, table-turn}
 use Rattle.blocks.proofs.put_table.Statement.{statement}
 use Rattle.blocks.proofs.put_table.Tie as tie
@@ -20,8 +20,8 @@ Inv-loop out₀ at w per k n entry₀ next₀ left₀ i₀ out entry next left i
     × (left ≤ n)
     × (length out ≡ length out₀)
     × (entry + 16 * (k - i) ≡ at + 16 * k)
-    × (endOf (next .at) (sizes w (counts (k - i) per left)) ≡ endOf (next₀ .at) (sizes w (counts k per n)))
-    × (put entry (tableBytes w (next .at) (counts (k - i) per left)) out ≡ put at (tableBytes w (next₀ .at) (counts k per n)) out₀)
+    × (endOf (next .at) (sizes w (partCounts (k - i) per left)) ≡ endOf (next₀ .at) (sizes w (partCounts k per n)))
+    × (put entry (tableBytes w (next .at) (partCounts (k - i) per left)) out ≡ put at (tableBytes w (next₀ .at) (partCounts k per n)) out₀)
 
 abbrev μ-loop : tie.MeasureT-loop
 μ-loop out₀ at w per k n entry₀ next₀ left₀ i₀ out entry next left i = k - i

@@ -4,7 +4,7 @@ use native.Mathlib.Omega.{arith}
 use Rattle.fields.specs.Bytes.{cat}
 use Rattle.decimal.specs.Text.{ascii}
 use Rattle.cellsum_line.specs.Line.{acceptedText}
-use Rattle.cellsum_line.proofs.Line.{nothing, stored, then}
+use Rattle.cellsum_line.proofs.Line.{nothing, stored, stored-then}
 use borrow.Author.Needs.{needs}
 use Rattle.cellsum_line.proofs.put_cell.Statement.{statement}
 use Rattle.cellsum_line.proofs.put_cell.Tie as tie
@@ -39,7 +39,7 @@ returns c =
     let n = first .put-named .ensures in
     let d = second .put-counts .ensures in
     let t = third .put-text .ensures in
-    (then (n .0) (then (d .0) (then (stored (t .0) (t .1)) nothing)), omega (arith, n .1, d .1, t .0))
+    (stored-then (n .0) (stored-then (d .0) (stored-then (stored (t .0) (t .1)) nothing)), omega (arith, n .1, d .1, t .0))
 
 pub put-cell-spec : {M : Type 1} → statement M
 put-cell-spec =

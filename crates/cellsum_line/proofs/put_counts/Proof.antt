@@ -4,7 +4,7 @@ use native.Mathlib.Omega.{arith}
 use Rattle.fields.specs.Bytes.{cat}
 use Rattle.decimal.specs.Text.{ascii}
 use Rattle.cellsum_line.specs.Line.{countsText}
-use Rattle.cellsum_line.proofs.Line.{nothing, then}
+use Rattle.cellsum_line.proofs.Line.{nothing, stored-then}
 use borrow.Author.Needs.{needs}
 use Rattle.cellsum_line.proofs.put_counts.Statement.{statement}
 use Rattle.cellsum_line.proofs.put_counts.Tie as tie
@@ -47,7 +47,7 @@ returns c =
     let portals = second .put-named2 .ensures in
     let points = third .put-named3 .ensures in
     let sectors = fourth .put-named4 .ensures in
-    (then (polys .0) (then (portals .0) (then (points .0) (then (sectors .0) nothing))), omega (arith, polys .1, portals .1, points .1, sectors .1))
+    (stored-then (polys .0) (stored-then (portals .0) (stored-then (points .0) (stored-then (sectors .0) nothing))), omega (arith, polys .1, portals .1, points .1, sectors .1))
 
 pub put-counts-spec : {M : Type 1} → statement M
 put-counts-spec =

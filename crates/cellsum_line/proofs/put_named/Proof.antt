@@ -1,7 +1,7 @@
 -- `cellsum_line::put_named` meets its contract: the number's text is stored behind the name's.
 use native.Mathlib.Omega.{arith}
 use Rattle.decimal.proofs.Decimal.{length-u64}
-use Rattle.cellsum_line.proofs.Line.{stored, then}
+use Rattle.cellsum_line.proofs.Line.{stored, stored-then}
 use borrow.Author.Needs.{needs}
 use Rattle.cellsum_line.proofs.put_named.Statement.{statement}
 use Rattle.cellsum_line.proofs.put_named.Tie as tie
@@ -30,7 +30,7 @@ returns c =
     let start = c .before .before .before .before .before .before .before .before .before .before in
     let t = c .before .before .before .before .before .before .put-text .ensures in
     let d = c .before .before .put-decimal .ensures in
-    (then (stored (t .0) (t .1)) (stored (d .0) (d .1)), omega (arith, length-u64 (start .args .n) (start .fits .n .fits), t .0, d .0))
+    (stored-then (stored (t .0) (t .1)) (stored (d .0) (d .1)), omega (arith, length-u64 (start .args .n) (start .fits .n .fits), t .0, d .0))
 
 pub put-named-spec : {M : Type 1} → statement M
 put-named-spec =

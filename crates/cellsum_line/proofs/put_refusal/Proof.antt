@@ -4,7 +4,7 @@ use native.Mathlib.Omega.{arith}
 use Rattle.fields.specs.Bytes.{cat}
 use Rattle.decimal.specs.Text.{ascii}
 use Rattle.cellsum_line.specs.Line.{refusedText}
-use Rattle.cellsum_line.proofs.Line.{nothing, stored, then}
+use Rattle.cellsum_line.proofs.Line.{nothing, stored, stored-then}
 use borrow.Author.Needs.{needs}
 use Rattle.cellsum_line.proofs.put_refusal.Statement.{statement}
 use Rattle.cellsum_line.proofs.put_refusal.Tie as tie
@@ -45,7 +45,7 @@ returns c =
     let n = first .put-named .ensures in
     let p = second .put-named2 .ensures in
     let t = third .put-text .ensures in
-    (then (n .0) (then (p .0) (then (stored (t .0) (t .1)) nothing)), omega (arith, n .1, p .1, t .0))
+    (stored-then (n .0) (stored-then (p .0) (stored-then (stored (t .0) (t .1)) nothing)), omega (arith, n .1, p .1, t .0))
 
 pub put-refusal-spec : {M : Type 1} → statement M
 put-refusal-spec =

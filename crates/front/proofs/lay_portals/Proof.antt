@@ -16,8 +16,8 @@ use Rattle.front.proofs.lay_portals.Tie as tie
 returns : tie.Need-returns
 returns c =
     let a = c .before .before .before .args in
-    let bs = cat (portalItems (a .lo) (a .size) (portalsAt (now (a .strip)) (a .first) (a .n))) in
-    let long : length bs ≡ 28 * a .n = portals-long (a .lo) (a .size) (now (a .strip)) (a .first) (a .n) in
+    let bs = cat (portalItems (a .bb-min) (a .bb-size) (portalsAt (now (a .strip)) (a .first) (a .n))) in
+    let long : length bs ≡ 28 * a .n = portals-long (a .bb-min) (a .bb-size) (now (a .strip)) (a .first) (a .n) in
     laid-nothing _ bs _ (omega (arith, long, c .if1 .taken))
 
 mul-pad : tie.Need-mul-pad
@@ -41,8 +41,8 @@ same-length c = search needs
 returns-2 : tie.Need-returns-2
 returns-2 c =
     let a = c .before .before .before .before .before .before .before .before .before .before .before .before .args in
-    let bs = cat (portalItems (a .lo) (a .size) (portalsAt (now (a .strip)) (a .first) (a .n))) in
-    let long : length bs ≡ 28 * a .n = portals-long (a .lo) (a .size) (now (a .strip)) (a .first) (a .n) in
+    let bs = cat (portalItems (a .bb-min) (a .bb-size) (portalsAt (now (a .strip)) (a .first) (a .n))) in
+    let long : length bs ≡ 28 * a .n = portals-long (a .bb-min) (a .bb-size) (now (a .strip)) (a .first) (a .n) in
     laid-some bs long (omega (arith, c .before .before .before .before .before .before .before .before .before .if1 .left)) (c .before .before .before .before .before .before .before .pad .ensures .0) (c .before .before .before .before .before .before .before .pad .ensures .1) (c .before .before .before .put-portals .ensures) (c .alloc .ensures)
 
 pub lay-portals-spec : {M : Type 1} → statement M

@@ -5,27 +5,21 @@ use Prim.Native.Nat.{ℕ}
 use native.Mathlib.Omega.{arith}
 use denote.Ref.{now}
 use Rattle.fields.specs.Bytes.{put}
-use Rattle.strip.specs.Reading.{headAt}
+use Rattle.cell_record.specs.Record.{headBy}
 use Rattle.front.specs.Front.{placesIn, countsIn}
 use Rattle.front.proofs.Records.{first-words}
 use borrow.Author.Needs.{needs}
 use Rattle.front.proofs.put_first.Statement.{statement}
 use Rattle.front.proofs.put_first.Tie as tie
 
-shared-slice-read-t7 : tie.Need-shared-slice-read-t7
-shared-slice-read-t7 c = search needs
+bits-of-float-requires : tie.Need-bits-of-float-requires
+bits-of-float-requires c κs = search needs
 
-shared-slice-read-t9 : tie.Need-shared-slice-read-t9
-shared-slice-read-t9 c = search needs
+bits-of-float-requires-2 : tie.Need-bits-of-float-requires-2
+bits-of-float-requires-2 c κs = search needs
 
-shared-slice-read-t11 : tie.Need-shared-slice-read-t11
-shared-slice-read-t11 c = search needs
-
-shared-slice-read-t13 : tie.Need-shared-slice-read-t13
-shared-slice-read-t13 c = search needs
-
-shared-slice-read-t15 : tie.Need-shared-slice-read-t15
-shared-slice-read-t15 c = search needs
+bits-of-float-requires-3 : tie.Need-bits-of-float-requires-3
+bits-of-float-requires-3 c κs = search needs
 
 slice-aggregate-put-all : tie.Need-slice-aggregate-put-all
 slice-aggregate-put-all c = search needs
@@ -37,21 +31,24 @@ same-length : tie.Need-same-length
 same-length c = search needs
 
 returns : tie.Need-returns
-unfolding headAt
+unfolding headBy
 returns c =
-    let a = c .before .before .before .before .before .before .before .before .before .before .before .before .args in
-    let s = now (a .strip) in
-    c .before .before .put-all .ensures ∙ ap (λ (bs : List ℕ). put 0 bs (now (a .out))) (first-words (headAt s 0) (placesIn (a .a)) (countsIn (a .n)) (omega (arith, c .before .before .before .before .before .before .before .before .before .before .before .before .good)) (omega (arith, c .before .before .before .before .before .before .before .before .before .before .before .before .good)) (omega (arith, c .before .before .before .before .before .before .before .before .before .before .before .before .good)))
+    let stored = c .before .before in
+    let z-read = stored .before .before .before in
+    let y-read = z-read .before in
+    let x-read = y-read .before in
+    let entry = x-read .before .before .before in
+    let a = entry .args in
+    let words = rw (x-read .bits-of-float .ensures, y-read .bits-of-float2 .ensures, z-read .bits-of-float3 .ensures) at (stored .put-all .ensures) in
+    words ∙ ap (λ (bs : List ℕ). put 0 bs (now (a .out))) (first-words (headBy (a .cell)) (placesIn (a .a)) (countsIn (a .n)) (omega (arith, entry .good)) (omega (arith, entry .good)) (omega (arith, entry .good)))
 
 pub put-first-spec : {M : Type 1} → statement M
 put-first-spec =
     tie.close
     (tie.spec
-    shared-slice-read-t7
-    shared-slice-read-t9
-    shared-slice-read-t11
-    shared-slice-read-t13
-    shared-slice-read-t15
+    bits-of-float-requires
+    bits-of-float-requires-2
+    bits-of-float-requires-3
     slice-aggregate-put-all
     put-all-requires
     same-length

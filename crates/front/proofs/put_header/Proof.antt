@@ -1,7 +1,6 @@
 -- `front::put_header` meets its contract: the three runs are one. Assumes nothing.
-use denote.Ref.{now}
-use Rattle.strip.specs.Reading.{headAt}
-use Rattle.areas.specs.Areas.{idsOf}
+use Rattle.cell_record.specs.Record.{headBy}
+use Rattle.areas.specs.Areas.{areaIds}
 use Rattle.front.specs.Front.{placesIn, countsIn}
 use Rattle.front.proofs.Records.{header-runs}
 use borrow.Author.Needs.{needs}
@@ -25,8 +24,9 @@ same-length c = search needs
 
 returns : tie.Need-returns
 returns c =
-    let a = c .before .before .before .before .before .before .before .before .before .before .before .before .before .before .before .before .args in
-    header-runs (headAt (now (a .strip)) 0) (placesIn (a .a)) (countsIn (a .n)) (idsOf (a .areas)) _ _ _ _ (c .before .before .before .before .before .before .before .before .before .before .before .put-first .ensures) (c .before .before .before .before .before .before .put-areas .ensures) (c .before .before .put-last .ensures)
+    let first = c .before .before .before .before .before .before .before .before .before .before .before in
+    let a = first .before .before .before .before .args in
+    header-runs (headBy (a .cell)) (placesIn (a .a)) (countsIn (a .n)) (areaIds (a .areas)) _ _ _ _ (first .put-first .ensures) (c .before .before .before .before .before .before .put-areas .ensures) (c .before .before .put-last .ensures)
 
 pub put-header-spec : {M : Type 1} → statement M
 put-header-spec =

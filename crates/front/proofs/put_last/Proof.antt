@@ -5,18 +5,12 @@ use Prim.Native.Nat.{ℕ}
 use native.Mathlib.Omega.{arith}
 use denote.Ref.{now}
 use Rattle.fields.specs.Bytes.{put}
-use Rattle.strip.specs.Reading.{headAt}
+use Rattle.cell_record.specs.Record.{headBy}
 use Rattle.front.specs.Front.{placesIn, countsIn}
 use Rattle.front.proofs.Records.{last-words}
 use borrow.Author.Needs.{needs}
 use Rattle.front.proofs.put_last.Statement.{statement}
 use Rattle.front.proofs.put_last.Tie as tie
-
-shared-slice-read-t7 : tie.Need-shared-slice-read-t7
-shared-slice-read-t7 c = search needs
-
-shared-slice-read-t9 : tie.Need-shared-slice-read-t9
-shared-slice-read-t9 c = search needs
 
 slice-aggregate-put-all : tie.Need-slice-aggregate-put-all
 slice-aggregate-put-all c = search needs
@@ -28,18 +22,16 @@ same-length : tie.Need-same-length
 same-length c = search needs
 
 returns : tie.Need-returns
-unfolding headAt
+unfolding headBy
 returns c =
-    let a = c .before .before .before .before .before .before .before .before .before .args in
-    let s = now (a .strip) in
-    c .before .before .put-all .ensures ∙ ap (λ (bs : List ℕ). put 280 bs (now (a .out))) (last-words (headAt s 0) (placesIn (a .a)) (countsIn (a .n)) (omega (arith, c .before .before .before .before .before .before .before .before .before .good)) (omega (arith, c .before .before .before .before .before .before .before .before .before .good)) (omega (arith, c .before .before .before .before .before .before .before .before .before .good)) (omega (arith, c .before .before .before .before .before .before .before .before .before .good)))
+    let entry = c .before .before .before .before .before .before in
+    let a = entry .args in
+    c .before .before .put-all .ensures ∙ ap (λ (bs : List ℕ). put 280 bs (now (a .out))) (last-words (headBy (a .cell)) (placesIn (a .a)) (countsIn (a .n)) (omega (arith, entry .good)) (omega (arith, entry .good)) (omega (arith, entry .good)) (omega (arith, entry .good)))
 
 pub put-last-spec : {M : Type 1} → statement M
 put-last-spec =
     tie.close
     (tie.spec
-    shared-slice-read-t7
-    shared-slice-read-t9
     slice-aggregate-put-all
     put-all-requires
     same-length

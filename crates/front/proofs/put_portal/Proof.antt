@@ -96,7 +96,7 @@ same-length c = search needs
 returns : tie.Need-returns
 returns c =
     let a = c .before .before .before .before .before .before .before .before .before .before .before .before .before .before .before .before .before .before .before .before .before .args in
-    c .before .before .put-all .ensures ∙ ap (λ (bs : List ℕ). put (a .to) bs (now (a .out))) (portal-words (a .lo) (a .size) (now (a .strip)) (a .at) _ _ _ (c .before .before .before .before .before .before .before .before .before .before .before .before .before .before .before .before .before .before .shorts-at .ensures) (c .before .before .before .before .before .before .before .before .before .before .before .before .before .before .before .before .before .shorts-at2 .ensures) (c .before .before .before .before .before .before .before .before .before .before .before .before .before .portal-areas .ensures))
+    c .before .before .put-all .ensures ∙ ap (λ (bs : List ℕ). put (a .to) bs (now (a .out))) (portal-words (a .bb-min) (a .bb-size) (now (a .strip)) (a .at) _ _ _ (c .before .before .before .before .before .before .before .before .before .before .before .before .before .before .before .before .before .before .shorts-at .ensures) (c .before .before .before .before .before .before .before .before .before .before .before .before .before .before .before .before .before .shorts-at2 .ensures) (c .before .before .before .before .before .before .before .before .before .before .before .before .before .portal-areas .ensures))
 
 pub put-portal-spec : {M : Type 1} → statement M
 put-portal-spec =

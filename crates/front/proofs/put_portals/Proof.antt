@@ -6,10 +6,10 @@ use Rattle.front.proofs.put_portals.Statement.{statement}
 use Rattle.front.proofs.put_portals.Tie as tie
 
 abbrev Inv-loop : tie.InvT-loop
-Inv-loop out₀ start strip first n lo size to₀ at₀ i₀ out to at i = Portaling lo size strip first n start out₀ out to at i
+Inv-loop out₀ start strip first n bb-min bb-size to₀ at₀ i₀ out to at i = Portaling bb-min bb-size strip first n start out₀ out to at i
 
 abbrev μ-loop : tie.MeasureT-loop
-μ-loop out₀ start strip first n lo size to₀ at₀ i₀ out to at i = n - i
+μ-loop out₀ start strip first n bb-min bb-size to₀ at₀ i₀ out to at i = n - i
 
 loop-holds : tie.Need-loop-holds Inv-loop μ-loop
 loop-holds c = portaling-start _ _ _ _ _ _ _

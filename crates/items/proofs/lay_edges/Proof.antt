@@ -14,20 +14,20 @@ use Rattle.items.proofs.lay_edges.Tie as tie
 put-edges-requires : tie.Need-put-edges-requires
 put-edges-requires c κs = search needs
 
-mul-lay-list : tie.Need-mul-lay-list
-mul-lay-list c = search needs
+mul-write-list : tie.Need-mul-write-list
+mul-write-list c = search needs
 
-sub-lay-list : tie.Need-sub-lay-list
-sub-lay-list c = search needs
+sub-write-list : tie.Need-sub-write-list
+sub-write-list c = search needs
 
-part-lay-list-start : tie.Need-part-lay-list-start
-part-lay-list-start c = search needs
+part-write-list-start : tie.Need-part-write-list-start
+part-write-list-start c = search needs
 
-part-lay-list-end : tie.Need-part-lay-list-end
-part-lay-list-end c = search needs
+part-write-list-end : tie.Need-part-write-list-end
+part-write-list-end c = search needs
 
-lay-list-requires : tie.Need-lay-list-requires
-lay-list-requires c κs = search needs
+write-list-requires : tie.Need-write-list-requires
+write-list-requires c κs = search needs
 
 same-length : tie.Need-same-length
 same-length c = search needs
@@ -40,7 +40,7 @@ returns c = let a = c .before .before .before .before .before .before .before .b
     let ids : List ℕ = take (a .len) (a .ids .now) in
     let ks : List Corner = cornersAt (a .strip .now) (a .n) in
     let room : a .base + length (edgeWords ids ks) ≤ length (a .work .now) = omega (arith, length-words ids ks, c .before .before .before .before .before .before .before .before .before .before .before .before .before .before .pre .1, c .before .before .before .before .before .before .before .before .before .before .before .before .before .before .pre .2) in
-    let laid = rw (c .before .before .before .before .before .before .before .before .put-edges .ensures, made (a .base) (edgeWords ids ks) (a .work .now) room, c .before .before .before .before .before .before .before .before .before .before .before .before .before .before .pre .1, edge-words ids ks _) at (c .before .before .lay-list .ensures) in
+    let laid = rw (c .before .before .before .before .before .before .before .before .put-edges .ensures, made (a .base) (edgeWords ids ks) (a .work .now) room, c .before .before .before .before .before .before .before .before .before .before .before .before .before .before .pre .1, edge-words ids ks _) at (c .before .before .write-list .ensures) in
     (laid, c .before .before .before .before .before .before .before .before .put-edges .ensures)
 
 pub lay-edges-spec : {M : Type 1} → statement M
@@ -48,11 +48,11 @@ lay-edges-spec =
     tie.close
     (tie.spec
     put-edges-requires
-    mul-lay-list
-    sub-lay-list
-    part-lay-list-start
-    part-lay-list-end
-    lay-list-requires
+    mul-write-list
+    sub-write-list
+    part-write-list-start
+    part-write-list-end
+    write-list-requires
     same-length
     same-length-2
     returns)

@@ -1,5 +1,7 @@
 -- `plan::put_rest` meets its contract. Assumes nothing.
 use native.Mathlib.Omega.{arith}
+use Rattle.strip.specs.Reading.{headAt}
+use Rattle.cell_record.specs.Record.{recordOf}
 use Rattle.plan.proofs.Rest.{rest-fits, rest-stored}
 use borrow.Author.Needs.{needs}
 use Rattle.plan.proofs.put_rest.Statement.{statement}
@@ -9,7 +11,9 @@ tables-end-requires : tie.Need-tables-end-requires
 tables-end-requires c κs = search needs
 
 put-boxes-requires : tie.Need-put-boxes-requires
-put-boxes-requires c κs = (omega (arith, c .before .before .before .before .pre .1), omega (arith, c .before .tables-end .ensures, rest-fits (c .before .before .before .before .args .strip .now) (c .before .before .before .before .args .counts) (c .before .before .before .before .pre .0) (c .before .before .before .before .pre .1), c .before .before .before .before .pre .2))
+put-boxes-requires c κs =
+    let entry = c .before .before .before .before in
+    (omega (arith, entry .pre .2), omega (arith, c .before .tables-end .ensures, rest-fits (entry .args .strip .now) (entry .args .counts) (entry .pre .0) (entry .pre .2), entry .pre .3))
 
 root-box-requires : tie.Need-root-box-requires
 root-box-requires c κs = search needs
@@ -23,23 +27,37 @@ mul-first c = search needs
 sub-first-2 : tie.Need-sub-first-2
 sub-first-2 c = search needs
 
-shared-slice-read-put-leaves : tie.Need-shared-slice-read-put-leaves
-shared-slice-read-put-leaves c = search needs
-
 mul-put-leaves : tie.Need-mul-put-leaves
-mul-put-leaves c = omega (arith, rest-fits (c .before .before .before .before .before .before .before .before .before .before .args .strip .now) (c .before .before .before .before .before .before .before .before .before .before .args .counts) (c .before .before .before .before .before .before .before .before .before .before .pre .0) (c .before .before .before .before .before .before .before .before .before .before .pre .1), c .before .before .before .before .before .before .before .before .before .before .good)
+mul-put-leaves c =
+    let entry = c .before .before .before .before .before .before .before .before .before in
+    omega (arith, rest-fits (entry .args .strip .now) (entry .args .counts) (entry .pre .0) (entry .pre .2), entry .good)
 
 add-put-leaves : tie.Need-add-put-leaves
-add-put-leaves c = omega (arith, c .before .before .before .before .before .before .before .tables-end .ensures, rest-fits (c .before .before .before .before .before .before .before .before .before .before .args .strip .now) (c .before .before .before .before .before .before .before .before .before .before .args .counts) (c .before .before .before .before .before .before .before .before .before .before .pre .0) (c .before .before .before .before .before .before .before .before .before .before .pre .1), c .before .before .before .before .before .before .before .before .before .before .good)
+add-put-leaves c =
+    let ended = c .before .before .before .before .before .before in
+    let entry = ended .before .before .before in
+    omega (arith, ended .tables-end .ensures, rest-fits (entry .args .strip .now) (entry .args .counts) (entry .pre .0) (entry .pre .2), entry .good)
 
 put-leaves-requires : tie.Need-put-leaves-requires
-put-leaves-requires c κs = (omega (arith, c .before .before .before .before .before .before .before .before .before .before .pre .1), omega (arith, c .before .before .before .before .before .before .before .tables-end .ensures, rest-fits (c .before .before .before .before .before .before .before .before .before .before .args .strip .now) (c .before .before .before .before .before .before .before .before .before .before .args .counts) (c .before .before .before .before .before .before .before .before .before .before .pre .0) (c .before .before .before .before .before .before .before .before .before .before .pre .1), c .before .before .before .before .before .before .before .before .before .before .pre .2, c .before .before .before .before .before .put-boxes .kept))
+put-leaves-requires c κs =
+    let boxed = c .before .before .before .before in
+    let ended = boxed .before .before in
+    let entry = ended .before .before .before in
+    (omega (arith, entry .pre .2), omega (arith, ended .tables-end .ensures, rest-fits (entry .args .strip .now) (entry .args .counts) (entry .pre .0) (entry .pre .2), entry .pre .3, boxed .put-boxes .kept))
 
 same-length : tie.Need-same-length
 same-length c = search needs
 
 returns : tie.Need-returns
-returns c = rest-stored _ (c .before .before .before .before .before .before .before .before .before .before .before .before .before .args .counts) _ _ _ _ _ _ (c .before .before .before .before .before .before .before .before .before .before .tables-end .ensures) (omega (arith, c .before .before .before .before .before .before .before .before .before .before .before .before .before .pre .1)) (c .before .before .before .before .before .root-box .ensures) (c .before .before .before .before .before .before .before .before .put-boxes .ensures) (c .before .before .put-leaves .ensures)
+unfolding headAt recordOf
+returns c =
+    let rooted = c .before .before .before .before in
+    let boxed = rooted .before .before .before in
+    let ended = boxed .before .before in
+    let entry = ended .before .before .before in
+    let stored = rw (entry .pre .1) at (c .before .before .put-leaves .ensures) in
+    let root = rw (entry .pre .1) at (rooted .root-box .ensures) in
+    rest-stored _ (entry .args .counts) _ _ _ _ _ _ (ended .tables-end .ensures) (omega (arith, entry .pre .2)) root (boxed .put-boxes .ensures) stored
 
 pub put-rest-spec : {M : Type 1} → statement M
 put-rest-spec =
@@ -51,7 +69,6 @@ put-rest-spec =
     sub-first
     mul-first
     sub-first-2
-    shared-slice-read-put-leaves
     mul-put-leaves
     add-put-leaves
     put-leaves-requires

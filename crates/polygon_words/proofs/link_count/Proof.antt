@@ -1,5 +1,6 @@
 -- `polygon_words::link_count` meets its contract.
 use native.Mathlib.Omega.{arith}
+use denote.Ref.{now}
 use borrow.Author.Needs.{needs}
 use Rattle.polygon_words.proofs.Words.{links-all, links-none}
 use Rattle.polygon_words.proofs.link_count.Statement.{statement}
@@ -18,10 +19,13 @@ add-if1 : tie.Need-add-if1
 add-if1 c = search needs
 
 returns : tie.Need-returns
-returns c = (links-all _ _ (c .before .u32-le .ensures) (c .if1 .taken), omega arith)
+returns c =
+    let all = links-all (now (c .before .before .before .args .rec)) (c .before .before .before .args .n) (c .before .u32-le .ensures) (omega (arith, c .if1 .taken)) in
+    (omega (arith, all), omega arith)
 
 returns-2 : tie.Need-returns-2
-returns-2 c = (links-none _ _ (c .before .u32-le .ensures) (c .if1 .left), search needs)
+returns-2 c =
+    (links-none (now (c .before .before .before .args .rec)) (c .before .before .before .args .n) (c .before .u32-le .ensures) (omega (arith, c .if1 .left)), search needs)
 
 pub link-count-spec : {M : Type 1} → statement M
 link-count-spec =

@@ -7,14 +7,14 @@ use borrow.Author.Needs.{needs}
 use Rattle.fields.specs.Bytes.{cut}
 use Rattle.lists.specs.Cursors.{Stands}
 use Rattle.polygons.specs.Passes.{itemsIn}
-use Rattle.polygons.specs.declared.Tally.the-variants.{Words}
+use Rattle.strip.specs.Outcome.{Paper, values, refusal, refusalOf}
 use Rattle.polygons.specs.Polygons.{then, tallyFrom}
 use Rattle.polygons.proofs.Tallies.{run-begin, run-more, run-stop, run-end, stepped-bad, stepped-good}
 use Rattle.polygons.proofs.check_run.Statement.{statement}
 use Rattle.polygons.proofs.check_run.Tie as tie
 
 abbrev Inv-loop : tie.InvT-loop
-Inv-loop system graphics run m first limits table words₀ c₀ k₀ words c k = (k ≤ m) × Stands table c × (words ≤ 18434 * k) × (then (Words words) (tallyFrom limits (itemsIn system graphics 2 table) (first + k) (cut 48 (m - k) (drop (48 * k) run))) ≡ tallyFrom limits (itemsIn system graphics 2 table) first (cut 48 m run))
+Inv-loop system graphics run m first limits table words₀ c₀ k₀ words c k = (k ≤ m) × Stands table c × (words ≤ 18434 * k) × (then (values words) (tallyFrom limits (itemsIn system graphics 2 table) (first + k) (cut 48 (m - k) (drop (48 * k) run))) ≡ tallyFrom limits (itemsIn system graphics 2 table) first (cut 48 m run))
 
 abbrev μ-loop : tie.MeasureT-loop
 μ-loop system graphics run m first limits table words₀ c₀ k₀ words c k = m - k

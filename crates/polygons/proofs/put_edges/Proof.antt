@@ -63,17 +63,17 @@ put-edge-run-requires : tie.Need-put-edge-run-requires Inv-loop μ-loop
 put-edge-run-requires c κs =
     let start = c .before .before .before .before .before .before .before .before .before .before .before in
     let turn = c .before .before .before .before .before .loop in
-    let t = taken _ _ 8 _ (omega arith) (start .pre .0) (start .args .start) (start .args .count) (turn .k) (c .before .before .before .seek .ensures) (c .before .before .list-run .ensures) (c .before .least .ensures) (start .pre .2) (c .before .before .before .before .loop-test .taken) in (t .whole, omega (arith, t .fits, turn .inv .2, start .pre .3))
+    let t = taken _ _ 8 _ (omega arith) (start .pre .0) (start .args .start) (start .args .count) (turn .k) (c .before .before .before .seek .ensures) (c .before .before .list-run .ensures .0) (c .before .least .ensures) (start .pre .2) (c .before .before .before .before .loop-test .taken) in (t .whole, omega (arith, t .fits, turn .inv .2, start .pre .3))
 
 add-k : tie.Need-add-k Inv-loop μ-loop
 add-k c =
     let start = c .before .before .before .before .before .before .before .before .before .before .before .before .before .before in
-    let t = taken _ _ 8 _ (omega arith) (start .pre .0) (start .args .start) (start .args .count) (c .before .before .before .before .before .before .before .before .loop .k) (c .before .before .before .before .before .before .seek .ensures) (c .before .before .before .before .before .list-run .ensures) (c .before .before .before .before .least .ensures) (start .pre .2) (c .before .before .before .before .before .before .before .loop-test .taken) in omega (arith, t .fits)
+    let t = taken _ _ 8 _ (omega arith) (start .pre .0) (start .args .start) (start .args .count) (c .before .before .before .before .before .before .before .before .loop .k) (c .before .before .before .before .before .before .seek .ensures) (c .before .before .before .before .before .list-run .ensures .0) (c .before .before .before .before .least .ensures) (start .pre .2) (c .before .before .before .before .before .before .before .loop-test .taken) in omega (arith, t .fits)
 
 loop-less : tie.Need-loop-less Inv-loop μ-loop
 loop-less c =
     let start = c .before .before .before .before .before .before .before .before .before .before .before .before .before .before in
-    let t = taken _ _ 8 _ (omega arith) (start .pre .0) (start .args .start) (start .args .count) (c .before .before .before .before .before .before .before .before .loop .k) (c .before .before .before .before .before .before .seek .ensures) (c .before .before .before .before .before .list-run .ensures) (c .before .before .before .before .least .ensures) (start .pre .2) (c .before .before .before .before .before .before .before .loop-test .taken) in omega (arith, t .some, t .fits)
+    let t = taken _ _ 8 _ (omega arith) (start .pre .0) (start .args .start) (start .args .count) (c .before .before .before .before .before .before .before .before .loop .k) (c .before .before .before .before .before .before .seek .ensures) (c .before .before .before .before .before .list-run .ensures .0) (c .before .before .before .before .least .ensures) (start .pre .2) (c .before .before .before .before .before .before .before .loop-test .taken) in omega (arith, t .some, t .fits)
 
 loop-again : tie.Need-loop-again Inv-loop μ-loop
 loop-again c =
@@ -83,7 +83,7 @@ loop-again c =
     let list-run = c .before .before .before .before .before .list-run in
     let least = c .before .before .before .before .least in
     let put-edge-run = c .before .before .put-edge-run in
-    let t = taken _ _ 8 _ (omega arith) (start .pre .0) (start .args .start) (start .args .count) (turn .k) (seek .ensures) (list-run .ensures) (least .ensures) (start .pre .2) (c .before .before .before .before .before .before .before .loop-test .taken) in (t .fits, seek .ensures .stands, ap length (put-edge-run .ensures) ∙ rw (length-put, turn .inv .2), rw (put-edge-run .ensures) (put-part edgeWords 6 edge-six _ _ (turn .k) (least .result) (cut 8 (least .result) (list-run .result .now)) _ (t .step) (cut-length 8 (least .result) (list-run .result .now)) _ ∙ turn .inv .3))
+    let t = taken _ _ 8 _ (omega arith) (start .pre .0) (start .args .start) (start .args .count) (turn .k) (seek .ensures) (list-run .ensures .0) (least .ensures) (start .pre .2) (c .before .before .before .before .before .before .before .loop-test .taken) in (t .fits, seek .ensures .stands, ap length (put-edge-run .ensures) ∙ rw (length-put, turn .inv .2), rw (put-edge-run .ensures) (put-part edgeWords 6 edge-six _ _ (turn .k) (least .result) (cut 8 (least .result) (list-run .result .now)) _ (t .step) (cut-length 8 (least .result) (list-run .result .now)) _ ∙ turn .inv .3))
 
 same-length : tie.Need-same-length Inv-loop μ-loop
 same-length c = c .before .loop .inv .2

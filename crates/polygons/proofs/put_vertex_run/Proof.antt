@@ -38,7 +38,7 @@ list-run-requires c κs = (c .before .before .before .before .before .before .be
 put-near-requires : tie.Need-put-near-requires Inv-loop μ-loop
 put-near-requires c κs =
     let held = c .before .before .seek .ensures in
-    let long = part-length held _ _ 6 (c .before .before .before .before .before .before .before .before .before .before .before .pre .0 .0) (c .before .list-run .ensures) in
+    let long = part-length held _ _ 6 (c .before .before .before .before .before .before .before .before .before .before .before .pre .0 .0) (c .before .list-run .ensures .0) in
     let read = c .before .before .before .index-at .ensures in
     (omega (arith, long), c .before .before .before .before .before .before .before .before .before .before .before .pre .0 .2, omega (arith, c .before .before .before .before .before .loop .inv .2, c .before .before .before .before .before .before .before .before .before .before .before .pre .0 .3), c .before .before .before .before .loop-test .taken, omega (arith, held .low, read), omega (arith, held .high, read))
 
@@ -49,7 +49,7 @@ loop-again : tie.Need-loop-again Inv-loop μ-loop
 loop-again c =
     let near = c .before .before .put-near .ensures .1 in
     let held = c .before .before .before .before .before .seek .ensures in
-    (near .most, held .stands, near .same-length ∙ c .before .before .before .before .before .before .before .before .loop .inv .2, near .strip _ (held-part held _ _ 6 (c .before .before .before .before .before .before .before .before .before .before .before .before .before .before .pre .0 .0) (c .before .before .before .before .list-run .ensures)) ∙ c .before .before .before .before .before .before .before .before .loop .inv .3)
+    (near .most, held .stands, near .same-length ∙ c .before .before .before .before .before .before .before .before .loop .inv .2, near .strip _ (held-part held _ _ 6 (c .before .before .before .before .before .before .before .before .before .before .before .before .before .before .pre .0 .0) (c .before .before .before .before .list-run .ensures .0)) ∙ c .before .before .before .before .before .before .before .before .loop .inv .3)
 
 same-length : tie.Need-same-length Inv-loop μ-loop
 same-length c = c .before .loop .inv .2

@@ -72,17 +72,17 @@ put-vertex-run-requires c κs =
     let turn = c .before .before .before .before .before .loop in
     let list-run = c .before .before .list-run in
     let least = c .before .least in
-    let t = taken _ _ 2 _ (omega arith) (start .pre .0 .1) (start .args .start) (start .args .count) (turn .k) (c .before .before .before .seek .ensures) (list-run .ensures) (least .ensures) (start .pre .1 .0) (c .before .before .before .before .loop-test .taken) in ((start .pre .0 .0, turn .inv .1, t .whole, omega (arith, t .fits, turn .inv .3, start .pre .1 .1)), both-below _ (cut 2 (least .result) (list-run .result .now)) (left (itemsIn (start .args .system .now) (start .args .graphics .now) 2 (start .args .indices .now)) (start .args .start) (start .args .count) (turn .k + least .result)) (t .step) (turn .inv .4) .0)
+    let t = taken _ _ 2 _ (omega arith) (start .pre .0 .1) (start .args .start) (start .args .count) (turn .k) (c .before .before .before .seek .ensures) (list-run .ensures .0) (least .ensures) (start .pre .1 .0) (c .before .before .before .before .loop-test .taken) in ((start .pre .0 .0, turn .inv .1, t .whole, omega (arith, t .fits, turn .inv .3, start .pre .1 .1)), both-below _ (cut 2 (least .result) (list-run .result .now)) (left (itemsIn (start .args .system .now) (start .args .graphics .now) 2 (start .args .indices .now)) (start .args .start) (start .args .count) (turn .k + least .result)) (t .step) (turn .inv .4) .0)
 
 add-k : tie.Need-add-k Inv-loop μ-loop
 add-k c =
     let start = c .before .before .before .before .before .before .before .before .before .before .before .before .before .before .before .before in
-    let t = taken _ _ 2 _ (omega arith) (start .pre .0 .1) (start .args .start) (start .args .count) (c .before .before .before .before .before .before .before .before .loop .k) (c .before .before .before .before .before .before .seek .ensures) (c .before .before .before .before .before .list-run .ensures) (c .before .before .before .before .least .ensures) (start .pre .1 .0) (c .before .before .before .before .before .before .before .loop-test .taken) in omega (arith, t .fits, start .pre .1 .0, start .pre .0 .1 .few)
+    let t = taken _ _ 2 _ (omega arith) (start .pre .0 .1) (start .args .start) (start .args .count) (c .before .before .before .before .before .before .before .before .loop .k) (c .before .before .before .before .before .before .seek .ensures) (c .before .before .before .before .before .list-run .ensures .0) (c .before .before .before .before .least .ensures) (start .pre .1 .0) (c .before .before .before .before .before .before .before .loop-test .taken) in omega (arith, t .fits, start .pre .1 .0, start .pre .0 .1 .few)
 
 loop-less : tie.Need-loop-less Inv-loop μ-loop
 loop-less c =
     let start = c .before .before .before .before .before .before .before .before .before .before .before .before .before .before .before .before in
-    let t = taken _ _ 2 _ (omega arith) (start .pre .0 .1) (start .args .start) (start .args .count) (c .before .before .before .before .before .before .before .before .loop .k) (c .before .before .before .before .before .before .seek .ensures) (c .before .before .before .before .before .list-run .ensures) (c .before .before .before .before .least .ensures) (start .pre .1 .0) (c .before .before .before .before .before .before .before .loop-test .taken) in omega (arith, t .some, t .fits)
+    let t = taken _ _ 2 _ (omega arith) (start .pre .0 .1) (start .args .start) (start .args .count) (c .before .before .before .before .before .before .before .before .loop .k) (c .before .before .before .before .before .before .seek .ensures) (c .before .before .before .before .before .list-run .ensures .0) (c .before .before .before .before .least .ensures) (start .pre .1 .0) (c .before .before .before .before .before .before .before .loop-test .taken) in omega (arith, t .some, t .fits)
 
 loop-again : tie.Need-loop-again Inv-loop μ-loop
 loop-again c =
@@ -92,7 +92,7 @@ loop-again c =
     let list-run = c .before .before .before .before .before .list-run in
     let least = c .before .before .before .before .least in
     let put-vertex-run = c .before .before .put-vertex-run in
-    let t = taken _ _ 2 _ (omega arith) (start .pre .0 .1) (start .args .start) (start .args .count) (turn .k) (seek .ensures) (list-run .ensures) (least .ensures) (start .pre .1 .0) (c .before .before .before .before .before .before .before .loop-test .taken) in (t .fits, put-vertex-run .ensures .0, seek .ensures .stands, ap length (put-vertex-run .ensures .1) ∙ rw (length-put, turn .inv .3), both-below _ (cut 2 (least .result) (list-run .result .now)) (left (itemsIn (start .args .system .now) (start .args .graphics .now) 2 (start .args .indices .now)) (start .args .start) (start .args .count) (turn .k + least .result)) (t .step) (turn .inv .4) .1, rw (put-vertex-run .ensures .1) (put-part vecWords 3 vec-three _ _ (turn .k) (least .result) (cut 2 (least .result) (list-run .result .now)) (left (itemsIn (start .args .system .now) (start .args .graphics .now) 2 (start .args .indices .now)) (start .args .start) (start .args .count) (turn .k + least .result)) (t .step) (cut-length 2 (least .result) (list-run .result .now)) _ ∙ turn .inv .5))
+    let t = taken _ _ 2 _ (omega arith) (start .pre .0 .1) (start .args .start) (start .args .count) (turn .k) (seek .ensures) (list-run .ensures .0) (least .ensures) (start .pre .1 .0) (c .before .before .before .before .before .before .before .loop-test .taken) in (t .fits, put-vertex-run .ensures .0, seek .ensures .stands, ap length (put-vertex-run .ensures .1) ∙ rw (length-put, turn .inv .3), both-below _ (cut 2 (least .result) (list-run .result .now)) (left (itemsIn (start .args .system .now) (start .args .graphics .now) 2 (start .args .indices .now)) (start .args .start) (start .args .count) (turn .k + least .result)) (t .step) (turn .inv .4) .1, rw (put-vertex-run .ensures .1) (put-part vecWords 3 vec-three _ _ (turn .k) (least .result) (cut 2 (least .result) (list-run .result .now)) (left (itemsIn (start .args .system .now) (start .args .graphics .now) 2 (start .args .indices .now)) (start .args .start) (start .args .count) (turn .k + least .result)) (t .step) (cut-length 2 (least .result) (list-run .result .now)) _ ∙ turn .inv .5))
 
 same-length : tie.Need-same-length Inv-loop μ-loop
 same-length c = c .before .loop .inv .3

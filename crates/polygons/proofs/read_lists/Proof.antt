@@ -1,7 +1,8 @@
 -- `polygons::read_lists` meets its contract.
 use native.Mathlib.Omega.{arith}
-use mathlib.Core.Path.{refl, sym, _∙_}
+use mathlib.Core.Path.{refl, sym, ap, _∙_}
 use borrow.Author.Needs.{needs}
+use Rattle.lists.specs.Lists.{paper}
 use Rattle.lists.proofs.Accepted.{readable}
 use Rattle.polygons.specs.Listed.{listsOf}
 use Rattle.polygons.proofs.read_lists.Statement.{statement}
@@ -45,19 +46,19 @@ enum-known-polys c = search needs
 
 returns : tie.Need-returns
 unfolding listsOf
-returns c = (rw ((sym (c .before .before .before .read-list .ensures .0) ∙ c .before .r .given .1)), tt)
+returns c = (rw ((sym (c .before .before .before .read-list .ensures .0) ∙ ap paper (c .before .r .given .1))), tt)
 
 returns-2 : tie.Need-returns-2
 unfolding listsOf
-returns-2 c = (rw ((sym (c .before .before .before .before .before .before .before .read-list .ensures .0) ∙ c .before .before .before .before .before .vertices .given .1), (sym (c .before .before .before .read-list2 .ensures .0) ∙ c .before .r2 .given .1)), tt)
+returns-2 c = (rw ((sym (c .before .before .before .before .before .before .before .read-list .ensures .0) ∙ ap paper (c .before .before .before .before .before .vertices .given .1)), (sym (c .before .before .before .read-list2 .ensures .0) ∙ ap paper (c .before .r2 .given .1))), tt)
 
 returns-3 : tie.Need-returns-3
 unfolding listsOf
-returns-3 c = (rw ((sym (c .before .before .before .before .before .before .before .before .before .before .before .read-list .ensures .0) ∙ c .before .before .before .before .before .before .before .before .before .vertices .given .1), (sym (c .before .before .before .before .before .before .before .read-list2 .ensures .0) ∙ c .before .before .before .before .before .indices .given .1), (sym (c .before .before .before .read-list3 .ensures .0) ∙ c .before .r3 .given .1)), tt)
+returns-3 c = (rw ((sym (c .before .before .before .before .before .before .before .before .before .before .before .read-list .ensures .0) ∙ ap paper (c .before .before .before .before .before .before .before .before .before .vertices .given .1)), (sym (c .before .before .before .before .before .before .before .read-list2 .ensures .0) ∙ ap paper (c .before .before .before .before .before .indices .given .1)), (sym (c .before .before .before .read-list3 .ensures .0) ∙ ap paper (c .before .r3 .given .1))), tt)
 
 returns-4 : tie.Need-returns-4
 unfolding listsOf
-returns-4 c = (rw ((sym (c .before .before .before .before .before .before .before .before .before .before .before .before .before .before .before .read-list .ensures .0) ∙ c .before .before .before .before .before .before .before .before .before .before .before .before .before .vertices .given .1), (sym (c .before .before .before .before .before .before .before .before .before .before .before .read-list2 .ensures .0) ∙ c .before .before .before .before .before .before .before .before .before .indices .given .1), (sym (c .before .before .before .before .before .before .before .read-list3 .ensures .0) ∙ c .before .before .before .before .before .edges .given .1), (sym (c .before .before .before .read-list4 .ensures .0) ∙ c .before .r4 .given .1)), tt)
+returns-4 c = (rw ((sym (c .before .before .before .before .before .before .before .before .before .before .before .before .before .before .before .read-list .ensures .0) ∙ ap paper (c .before .before .before .before .before .before .before .before .before .before .before .before .before .vertices .given .1)), (sym (c .before .before .before .before .before .before .before .before .before .before .before .read-list2 .ensures .0) ∙ ap paper (c .before .before .before .before .before .before .before .before .before .indices .given .1)), (sym (c .before .before .before .before .before .before .before .read-list3 .ensures .0) ∙ ap paper (c .before .before .before .before .before .edges .given .1)), (sym (c .before .before .before .read-list4 .ensures .0) ∙ ap paper (c .before .r4 .given .1))), tt)
 
 returns-5 : tie.Need-returns-5
 unfolding listsOf
@@ -71,7 +72,7 @@ returns-5 c =
     let edges = c .before .before .before .before .before .edges in
     let read-list4 = c .before .before .before .read-list4 in
     let polys = c .before .polys in
-    let r6 = readable _ _ 6 (start .args .va) 1 (omega arith) (read-list .ensures) (vertices .given .1) in let r2 = readable _ _ 2 (start .args .ia) 2 (omega arith) (read-list2 .ensures) (indices .given .1) in let r8 = readable _ _ 8 (start .args .ea) 3 (omega arith) (read-list3 .ensures) (edges .given .1) in let r48 = readable _ _ 48 (start .args .pa) 4 (omega arith) (read-list4 .ensures) (polys .given .1) in (rw ((sym (read-list .ensures .0) ∙ vertices .given .1), (sym (read-list2 .ensures .0) ∙ indices .given .1), (sym (read-list3 .ensures .0) ∙ edges .given .1), (sym (read-list4 .ensures .0) ∙ polys .given .1)), record { vertices = record { readable = r6 .0; count = r6 .1 }; indices = record { readable = r2 .0; count = r2 .1 }; edges = record { readable = r8 .0; count = r8 .1 }; polys = record { readable = r48 .0; count = r48 .1 }; link-count = refl })
+    let r6 = readable _ _ 6 (start .args .va) 1 (omega arith) (read-list .ensures) (vertices .given .1) in let r2 = readable _ _ 2 (start .args .ia) 2 (omega arith) (read-list2 .ensures) (indices .given .1) in let r8 = readable _ _ 8 (start .args .ea) 3 (omega arith) (read-list3 .ensures) (edges .given .1) in let r48 = readable _ _ 48 (start .args .pa) 4 (omega arith) (read-list4 .ensures) (polys .given .1) in (rw ((sym (read-list .ensures .0) ∙ ap paper (vertices .given .1)), (sym (read-list2 .ensures .0) ∙ ap paper (indices .given .1)), (sym (read-list3 .ensures .0) ∙ ap paper (edges .given .1)), (sym (read-list4 .ensures .0) ∙ ap paper (polys .given .1))), record { vertices = record { readable = r6 .0; count = r6 .1 }; indices = record { readable = r2 .0; count = r2 .1 }; edges = record { readable = r8 .0; count = r8 .1 }; polys = record { readable = r48 .0; count = r48 .1 }; link-count = refl })
 
 pub read-lists-spec : {M : Type 1} → statement M
 read-lists-spec =

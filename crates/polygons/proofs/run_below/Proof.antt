@@ -47,7 +47,7 @@ least-requires c κs = search needs
 all-below-requires : tie.Need-all-below-requires Inv-loop μ-loop
 all-below-requires c κs =
     let start = c .before .before .before .before .before .before .before .before in
-    let t = taken _ _ 2 _ (omega arith) (start .pre .0) (start .args .start) (start .args .count) (c .before .before .before .before .loop .k) (c .before .before .seek .ensures) (c .before .list-run .ensures) (c .least .ensures) (start .pre .2) (c .before .before .before .loop-test .taken) in t .whole
+    let t = taken _ _ 2 _ (omega arith) (start .pre .0) (start .args .start) (start .args .count) (c .before .before .before .before .loop .k) (c .before .before .seek .ensures) (c .before .list-run .ensures .0) (c .least .ensures) (start .pre .2) (c .before .before .before .loop-test .taken) in t .whole
 
 returns : tie.Need-returns Inv-loop μ-loop
 returns c =
@@ -56,17 +56,17 @@ returns c =
     let seek = c .before .before .before .before .seek in
     let list-run = c .before .before .before .list-run in
     let least = c .before .before .least in
-    let t = taken _ _ 2 _ (omega arith) (start .pre .0) (start .args .start) (start .args .count) (turn .k) (seek .ensures) (list-run .ensures) (least .ensures) (start .pre .2) (c .before .before .before .before .before .loop-test .taken) in (not-below-part _ (cut 2 (least .result) (list-run .result .now)) _ (t .step) (c .before .all-below .ensures) (not-true _ (c .if1 .taken)) ∙ turn .inv .2, seek .ensures .stands)
+    let t = taken _ _ 2 _ (omega arith) (start .pre .0) (start .args .start) (start .args .count) (turn .k) (seek .ensures) (list-run .ensures .0) (least .ensures) (start .pre .2) (c .before .before .before .before .before .loop-test .taken) in (not-below-part _ (cut 2 (least .result) (list-run .result .now)) _ (t .step) (c .before .all-below .ensures) (not-true _ (c .if1 .taken)) ∙ turn .inv .2, seek .ensures .stands)
 
 add-k : tie.Need-add-k Inv-loop μ-loop
 add-k c =
     let start = c .before .before .before .before .before .before .before .before .before .before in
-    let t = taken _ _ 2 _ (omega arith) (start .pre .0) (start .args .start) (start .args .count) (c .before .before .before .before .before .before .loop .k) (c .before .before .before .before .seek .ensures) (c .before .before .before .list-run .ensures) (c .before .before .least .ensures) (start .pre .2) (c .before .before .before .before .before .loop-test .taken) in omega (arith, t .fits)
+    let t = taken _ _ 2 _ (omega arith) (start .pre .0) (start .args .start) (start .args .count) (c .before .before .before .before .before .before .loop .k) (c .before .before .before .before .seek .ensures) (c .before .before .before .list-run .ensures .0) (c .before .before .least .ensures) (start .pre .2) (c .before .before .before .before .before .loop-test .taken) in omega (arith, t .fits)
 
 loop-less : tie.Need-loop-less Inv-loop μ-loop
 loop-less c =
     let start = c .before .before .before .before .before .before .before .before .before .before in
-    let t = taken _ _ 2 _ (omega arith) (start .pre .0) (start .args .start) (start .args .count) (c .before .before .before .before .before .before .loop .k) (c .before .before .before .before .seek .ensures) (c .before .before .before .list-run .ensures) (c .before .before .least .ensures) (start .pre .2) (c .before .before .before .before .before .loop-test .taken) in omega (arith, t .some, t .fits)
+    let t = taken _ _ 2 _ (omega arith) (start .pre .0) (start .args .start) (start .args .count) (c .before .before .before .before .before .before .loop .k) (c .before .before .before .before .seek .ensures) (c .before .before .before .list-run .ensures .0) (c .before .before .least .ensures) (start .pre .2) (c .before .before .before .before .before .loop-test .taken) in omega (arith, t .some, t .fits)
 
 loop-again : tie.Need-loop-again Inv-loop μ-loop
 loop-again c =
@@ -75,7 +75,7 @@ loop-again c =
     let seek = c .before .before .before .before .seek in
     let list-run = c .before .before .before .list-run in
     let least = c .before .before .least in
-    let t = taken _ _ 2 _ (omega arith) (start .pre .0) (start .args .start) (start .args .count) (turn .k) (seek .ensures) (list-run .ensures) (least .ensures) (start .pre .2) (c .before .before .before .before .before .loop-test .taken) in (t .fits, seek .ensures .stands, below-part _ (cut 2 (least .result) (list-run .result .now)) _ (t .step) (c .before .all-below .ensures) (not-false _ (c .if1 .left)) ∙ turn .inv .2)
+    let t = taken _ _ 2 _ (omega arith) (start .pre .0) (start .args .start) (start .args .count) (turn .k) (seek .ensures) (list-run .ensures .0) (least .ensures) (start .pre .2) (c .before .before .before .before .before .loop-test .taken) in (t .fits, seek .ensures .stands, below-part _ (cut 2 (least .result) (list-run .result .now)) _ (t .step) (c .before .all-below .ensures) (not-false _ (c .if1 .left)) ∙ turn .inv .2)
 
 returns-2 : tie.Need-returns-2 Inv-loop μ-loop
 returns-2 c =

@@ -1,5 +1,5 @@
 -- `proved::p12_grid` meets its contract: its callee's equation, and what the writer decides.
-use mathlib.Core.Path.{_∙_}
+use mathlib.Core.Path.{refl, _∙_}
 use borrow.Author.Needs.{needs}
 use Rattle.proved.proofs.Saved.{grid-length}
 use Rattle.proved.proofs.p12_grid.Statement.{statement}
@@ -12,7 +12,7 @@ save-empty-requires : tie.Need-save-empty-requires
 save-empty-requires c κs = search needs
 
 returns : tie.Need-returns
-returns c = c .before .save-empty .ensures .0 ∙ grid-length
+returns c = c .before .save-empty .ensures .0 ∙ grid-length 1 4040 refl
 
 pub p12-grid-spec : {M : Type 1} → statement M
 p12-grid-spec = tie.close (tie.spec slice-aggregate-save-empty save-empty-requires returns)

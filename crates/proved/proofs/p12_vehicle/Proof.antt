@@ -1,5 +1,5 @@
 -- `proved::p12_vehicle` meets its contract: its callee's equation, and what the writer decides.
-use mathlib.Core.Path.{_∙_}
+use mathlib.Core.Path.{refl, _∙_}
 use borrow.Author.Needs.{needs}
 use Rattle.proved.proofs.Saved.{vehicle-length}
 use Rattle.proved.proofs.p12_vehicle.Statement.{statement}
@@ -12,7 +12,7 @@ save-empty-requires : tie.Need-save-empty-requires
 save-empty-requires c κs = search needs
 
 returns : tie.Need-returns
-returns c = c .before .save-empty .ensures .0 ∙ vehicle-length
+returns c = c .before .save-empty .ensures .0 ∙ vehicle-length 4 10000 refl
 
 pub p12-vehicle-spec : {M : Type 1} → statement M
 p12-vehicle-spec = tie.close (tie.spec slice-aggregate-save-empty save-empty-requires returns)

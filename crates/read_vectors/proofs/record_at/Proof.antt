@@ -1,11 +1,10 @@
 -- `read_vectors::record_at` meets its contract: its callees' equations.
-use mathlib.Core.Path.{refl}
 use borrow.Author.Needs.{needs}
 use Rattle.read_vectors.proofs.record_at.Statement.{statement}
 use Rattle.read_vectors.proofs.record_at.Tie as tie
 
 returns : tie.Need-returns
-returns c = (record { system = refl; system-end = cc; graphics = cc; graphics-end = cc; strip = cc; next = cc }, search needs)
+returns c = (cc, search needs)
 
 pub record-at-spec : {M : Type 1} → statement M
 record-at-spec =

@@ -1,11 +1,11 @@
 -- `replay::end_of` meets its contract.
-use Rattle.replay.specs.Ends.{endOf}
+use Rattle.replay.specs.Ends.{recordEnd}
 use borrow.Author.Needs.{needs}
 use Rattle.replay.proofs.end_of.Statement.{statement}
 use Rattle.replay.proofs.end_of.Tie as tie
 
 returns : tie.Need-returns
-unfolding endOf
+unfolding recordEnd
 returns c = search needs
 
 pub end-of-spec : {M : Type 1} → statement M

@@ -3,6 +3,7 @@ use native.Mathlib.Omega.{arith}
 use mathlib.Core.Path.{sym}
 use lib.Bits.{and-le-l}
 use borrow.Author.Needs.{needs}
+use Rattle.resource.specs.Section.{resolvedAt}
 use Rattle.resource.proofs.Masks.{graphics, not-graphics}
 use Rattle.resource.proofs.Good.{graphics-part, system-part}
 use Rattle.resource.proofs.good_part.Statement.{statement}
@@ -18,7 +19,10 @@ part-result-end : tie.Need-part-result-end
 part-result-end c = graphics-part _ _ _ _ (c .before .pre) (graphics (c .before .args .va) (c .if1 .taken)) .0
 
 returns : tie.Need-returns
-returns c = sym (graphics-part _ _ _ _ (c .before .before .pre) (graphics (c .before .before .args .va) (c .before .if1 .taken)) .1)
+unfolding resolvedAt
+returns c =
+    let named = graphics (c .before .before .args .va) (c .before .if1 .taken) in
+    (sym (graphics-part _ _ _ _ (c .before .before .pre) named .1), rw named)
 
 sub-from-2 : tie.Need-sub-from-2
 sub-from-2 c = system-part _ _ _ _ (c .before .pre) (not-graphics (c .before .args .va) (c .if1 .left)) .0
@@ -30,7 +34,10 @@ part-result-end-2 : tie.Need-part-result-end-2
 part-result-end-2 c = system-part _ _ _ _ (c .before .pre) (not-graphics (c .before .args .va) (c .if1 .left)) .1
 
 returns-2 : tie.Need-returns-2
-returns-2 c = sym (system-part _ _ _ _ (c .before .before .pre) (not-graphics (c .before .before .args .va) (c .before .if1 .left)) .2)
+unfolding resolvedAt
+returns-2 c =
+    let other = not-graphics (c .before .before .args .va) (c .before .if1 .left) in
+    (sym (system-part _ _ _ _ (c .before .before .pre) other .2), rw other)
 
 pub good-part-spec : {M : Type 1} → statement M
 good-part-spec =

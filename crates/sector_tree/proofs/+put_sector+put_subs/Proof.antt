@@ -11,7 +11,7 @@ use Rattle.sector_tree.proofs.+put_sector+put_subs.Lts-put_sector as pu
 use Rattle.sector_tree.proofs.put_subs.Reads as put-subs
 use Rattle.sector_tree.proofs.put_subs.Kinds as put-subs-kinds
 use Rattle.sector_tree.proofs.+put_sector+put_subs.Lts-put_subs as put-subs-lts
-use Rattle.fields.proofs.u64_le.Reads as u64-le-reads
+use Rattle.sector_tree.proofs.sub_at.Reads as sub-at-reads
 use Rattle.resource.proofs.resolve.Reads as resolve-reads
 use Rattle.sector_tree.proofs.put_sector_points.Reads as put-sector-points-reads
 use Rattle.sector_tree.proofs.Puts.{visits-left, points-fit, subs-fit, tree-written, Rest, rest-end, rest-skip, rest-tree, rest-next}
@@ -38,7 +38,7 @@ put-subs-below t =
     and 2 put-subs-kinds.ps (falls 2 put-subs-kinds.ps _<_ μ-put-subs t) put-subs.Pre
 
 abbrev put-subs-calls : ℕ → put-subs-lts.Claims
-put-subs-calls t = (u64-le-reads.Asked, u64-le-reads.Learnt, put-sector-below t, put-sector.Post)
+put-subs-calls t = (sub-at-reads.Asked, sub-at-reads.Learnt, put-sector-below t, put-sector.Post)
 
 abbrev put-sector-calls : ℕ → put-sector-lts.Claims
 put-sector-calls t = (resolve-reads.Asked, resolve-reads.Learnt, put-sector-points-reads.Asked, put-sector-points-reads.Learnt, put-subs-below t, put-subs.Post)
@@ -68,13 +68,13 @@ put-subs-loop-holds : (t : ℕ) → put-subs-lts.Need-loop-holds (put-subs-calls
 put-subs-loop-holds t c = record { few = search needs; spent = search needs; long = refl; fits = c .before .before .before .before .pre .1; then = λ r new w. w }
 
 put-subs-put-sector-requires : (t : ℕ) → put-subs-lts.Need-put-sector-requires (put-subs-calls t) (put-subs-at t) put-subs.Post put-subs-Inv-loop put-subs-μ-loop
-put-subs-put-sector-requires t c κs = (omega arith, rest-tree _ _ (c .before .before .before .before .loop .inv) (c .before .before .before .loop-test .taken) (c .before .before .u64-le .ensures) (c .before .if1 .taken))
+put-subs-put-sector-requires t c κs = (omega arith, rest-tree _ _ (c .before .before .before .before .loop .inv) (c .before .before .before .loop-test .taken) (c .before .before .sub-at .ensures) (c .before .if1 .taken))
 
 put-subs-loop-again : (t : ℕ) → put-subs-lts.Need-loop-again (put-subs-calls t) (put-subs-at t) put-subs.Post put-subs-Inv-loop put-subs-μ-loop
-put-subs-loop-again t c = rest-next _ _ (c .before .before .before .before .before .before .before .loop .inv) (c .before .before .before .before .before .before .loop-test .taken) (c .before .before .before .before .before .u64-le .ensures) (c .before .before .before .before .if1 .taken) (c .before .before .put-sector .ensures) (c .before .before .put-sector .kept .1 .1 .1 .1 .0)
+put-subs-loop-again t c = rest-next _ _ (c .before .before .before .before .before .before .before .loop .inv) (c .before .before .before .before .before .before .loop-test .taken) (c .before .before .before .before .before .sub-at .ensures) (c .before .before .before .before .if1 .taken) (c .before .before .put-sector .ensures) (c .before .before .put-sector .kept .1 .1 .1 .1 .0)
 
 put-subs-loop-again-2 : (t : ℕ) → put-subs-lts.Need-loop-again-2 (put-subs-calls t) (put-subs-at t) put-subs.Post put-subs-Inv-loop put-subs-μ-loop
-put-subs-loop-again-2 t c = rest-skip _ _ (c .before .before .before .loop .inv) (c .before .before .loop-test .taken) (c .before .u64-le .ensures) (c .if1 .left)
+put-subs-loop-again-2 t c = rest-skip _ _ (c .before .before .before .loop .inv) (c .before .before .loop-test .taken) (c .before .sub-at .ensures) (c .if1 .left)
 
 put-subs-same-length : (t : ℕ) → put-subs-lts.Need-same-length (put-subs-calls t) (put-subs-at t) put-subs.Post put-subs-Inv-loop put-subs-μ-loop
 put-subs-same-length t c = c .before .loop .inv .long
@@ -97,8 +97,6 @@ pub +put-sector+put-subs-spec : {M : Type 1} → statement M
     put-subs-Inv-loop
     put-subs-μ-loop
     (put-subs-loop-holds t)
-    (λ c. search needs)
-    (λ c. search needs)
     (λ c. search needs)
     (λ c κs. search needs)
     (put-subs-put-sector-requires t)

@@ -11,7 +11,7 @@ use Rattle.sector_tree.proofs.+visit_sector+visit_subs.Lts-visit_sector
 use Rattle.sector_tree.proofs.visit_subs.Reads as visit-subs
 use Rattle.sector_tree.proofs.visit_subs.Kinds as visit-subs-kinds
 use Rattle.sector_tree.proofs.+visit_sector+visit_subs.Lts-visit_subs as visit-subs-lts
-use Rattle.fields.proofs.u64_le.Reads as u64-le-reads
+use Rattle.sector_tree.proofs.sub_at.Reads as sub-at-reads
 use Rattle.resource.proofs.resolve.Reads as resolve-reads
 use Rattle.sector_tree.proofs.find_points.Reads as find-points-reads
 use Rattle.sector_tree.proofs.Steps.{too-many, bad-sector, bad-data, into, few, Turn, turn-end, turn-skip, turn-stop, turn-next}
@@ -41,7 +41,7 @@ sector-calls t =
     (resolve-reads.Asked, resolve-reads.Learnt, find-points-reads.Asked, find-points-reads.Learnt, visit-subs-below t, visit-subs.Post)
 
 abbrev subs-calls : ℕ → visit-subs-lts.Claims
-subs-calls t = (u64-le-reads.Asked, u64-le-reads.Learnt, visit-sector-below t, visit-sector.Post)
+subs-calls t = (sub-at-reads.Asked, sub-at-reads.Learnt, visit-sector-below t, visit-sector.Post)
 
 abbrev subs-Inv-loop : visit-subs-lts.InvT-loop
 subs-Inv-loop system graphics sector left points l₀ p₀ i₀ l p i = Turn system graphics sector left points l p i
@@ -55,18 +55,18 @@ subs-loop-holds t c = record { few = search needs; spent = search needs; within 
 subs-returns : (t : ℕ) → visit-subs-lts.Need-returns (subs-calls t) (visit-subs-at t) visit-subs.Post subs-Inv-loop subs-μ-loop
 subs-returns t c =
     turn-stop _ _ (c .before .before .before .before .before .before .before .loop .inv) (c .before .before .before .before .before .before .loop-test .taken)
-    (c .before .before .before .before .before .u64-le .ensures) (c .before .before .before .before .if1 .taken) (c .before .before .before .visit-sector .ensures)
+    (c .before .before .before .before .before .sub-at .ensures) (c .before .before .before .before .if1 .taken) (c .before .before .before .visit-sector .ensures)
     (c .before .number .given .1)
 
 subs-loop-again : (t : ℕ) → visit-subs-lts.Need-loop-again (subs-calls t) (visit-subs-at t) visit-subs.Post subs-Inv-loop subs-μ-loop
 subs-loop-again t c =
     turn-next _ _ (c .before .before .before .before .before .before .before .loop .inv) (c .before .before .before .before .before .before .loop-test .taken)
-    (c .before .before .before .before .before .u64-le .ensures) (c .before .before .before .before .if1 .taken) (c .before .before .before .visit-sector .ensures)
+    (c .before .before .before .before .before .sub-at .ensures) (c .before .before .before .before .if1 .taken) (c .before .before .before .visit-sector .ensures)
     (c .before .a .given .1)
 
 subs-loop-again-2 : (t : ℕ) → visit-subs-lts.Need-loop-again-2 (subs-calls t) (visit-subs-at t) visit-subs.Post subs-Inv-loop subs-μ-loop
 subs-loop-again-2 t c =
-    turn-skip _ _ (c .before .before .before .loop .inv) (c .before .before .loop-test .taken) (c .before .u64-le .ensures) (c .if1 .left)
+    turn-skip _ _ (c .before .before .before .loop .inv) (c .before .before .loop-test .taken) (c .before .sub-at .ensures) (c .if1 .left)
 
 subs-returns-2 : (t : ℕ) → visit-subs-lts.Need-returns-2 (subs-calls t) (visit-subs-at t) visit-subs.Post subs-Inv-loop subs-μ-loop
 subs-returns-2 t c = turn-end _ _ (c .before .loop .inv) (c .loop-test .left)
@@ -112,8 +112,6 @@ pub +visit-sector+visit-subs-spec : {M : Type 1} → statement M
     subs-Inv-loop
     subs-μ-loop
     (subs-loop-holds t)
-    (λ c. search needs)
-    (λ c. search needs)
     (λ c. search needs)
     (λ c κs. search needs)
     (λ c κs. search needs)

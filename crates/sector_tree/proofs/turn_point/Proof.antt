@@ -1,12 +1,12 @@
 -- `turn_point` meets its contract: its three words are the position.
-use mathlib.Core.Path.{_∙_}
-use Rattle.sector_tree.proofs.Turned.{turn-put}
+use Rattle.sector_tree.specs.Write.{turnedAt}
 use borrow.Author.Needs.{needs}
 use Rattle.sector_tree.proofs.turn_point.Statement.{statement}
 use Rattle.sector_tree.proofs.turn_point.Tie as tie
 
 returns : tie.Need-returns
-returns c = c .before .before .put3 .ensures ∙ turn-put _ _ _ _ (c .before .before .before .before .before .before .before .before .axis-bits .ensures) (c .before .before .before .before .before .before .axis-bits2 .ensures) (c .before .before .before .before .axis-bits3 .ensures)
+unfolding turnedAt
+returns c = c .before .before .put-position .ensures
 
 pub turn-point-spec : {M : Type 1} → statement M
 turn-point-spec =
@@ -16,17 +16,14 @@ turn-point-spec =
     (λ c. search needs)
     (λ c. search needs)
     (λ c. search needs)
-    (λ c κs. search needs)
     (λ c. search needs)
     (λ c. search needs)
     (λ c. search needs)
     (λ c. search needs)
-    (λ c κs. search needs)
     (λ c. search needs)
     (λ c. search needs)
     (λ c. search needs)
     (λ c. search needs)
-    (λ c κs. search needs)
     (λ c. search needs)
     (λ c κs. search needs)
     (λ c. search needs)

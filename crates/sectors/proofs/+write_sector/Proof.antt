@@ -8,14 +8,14 @@ use lib.ListN.{length}
 use denote.Ref.{now}
 use Rattle.math.specs.declared.vec3.Vec3.{Vec3 as Floats}
 use Rattle.quantise.specs.declared.quarter.QuarterBox.{QuarterBox}
-use Rattle.strip.specs.Cell.{Point}
+use Rattle.strip.specs.Cell.{NavPoint}
 use Rattle.strip.specs.Reading.{pointsAt}
 use Rattle.blocks.specs.Layout.{behind}
-use Rattle.pages.specs.Sectors.{idsOf, grown, from0}
+use Rattle.pages.specs.Sectors.{leafIds, grown, from0}
 use Rattle.quadtree.specs.Work.{boxesIn, pickedFrom}
 use Rattle.quadtree.proofs.Widths.{down}
 use Rattle.sectors.specs.declared.Spot.{Spot}
-use Rattle.sectors.specs.Written.{Room}
+use Rattle.sectors.specs.Written.{TreeRoom}
 use Rattle.sectors.proofs.Steps.{Stand, first-small, next0, next1, next2, next3, stand1, stand2, stand3, grown-wrote}
 use borrow.Author.Needs.{needs}
 use borrow.Fn.Kinds.{In}
@@ -90,18 +90,18 @@ module _ (t : ℕ) where
 
   module _ (s : Begin) where
     abbrev ids : QuarterBox → List ℕ
-    ids q = idsOf q 0 (boxesIn (now (s .args .boxes)))
+    ids q = leafIds q 0 (boxesIn (now (s .args .boxes)))
 
-    abbrev stored : ℕ → List Point
-    stored k = pickedFrom (now (s .args .leafs)) k 0 (pointsAt (now (s .args .strip)) (s .args .points .at) (length (now (s .args .leafs))))
+    abbrev stored : ℕ → List NavPoint
+    stored k = pickedFrom (now (s .args .leaf-numbers)) k 0 (pointsAt (now (s .args .strip)) (s .args .points .at) (length (now (s .args .leaf-numbers))))
 
     abbrev d : ℕ
     d = s .args .depth - 1
 
     module _ (h : s .args .depth ≡ 0 → ⊥) where
-      room : Room (grown ids stored (suc d) (s .args .spot .leaf) (s .args .b)) (s .args .spot .layout .at) (s .args .spot .first)
+      room : TreeRoom (grown ids stored (suc d) (s .args .spot .leaf) (s .args .b)) (s .args .spot .layout .at) (s .args .spot .first)
       room =
-          subst (λ (n : ℕ). Room (grown ids stored n (s .args .spot .leaf) (s .args .b)) (s .args .spot .layout .at) (s .args .spot .first)) (down (s .args .depth) h)
+          subst (λ (n : ℕ). TreeRoom (grown ids stored n (s .args .spot .leaf) (s .args .b)) (s .args .spot .layout .at) (s .args .spot .first)) (down (s .args .depth) h)
           (s .pre .1 .1)
 
       own-small : behind (s .args .spot .layout .at) 96 < 2 ^ 28
@@ -123,30 +123,30 @@ module _ (t : ℕ) where
   stand0 c = record { ends = c .alloc .ensures; leaves = refl; points = refl }
 
   abbrev lo : Own → Floats
-  lo c = start c .args .points .lo
+  lo c = start c .args .points .«bb_min»
 
   abbrev size : Own → Floats
-  size c = start c .args .points .size
+  size c = start c .args .points .«bb_size»
 
-  room0 : (c : Own) → Room (grown (ids (start c)) (stored (start c)) (d (start c)) (p0 c .leaf) (c .before .before .before .before .before .before .split .result .s0)) (p0 c .layout .at) (p0 c .first)
+  room0 : (c : Own) → TreeRoom (grown (ids (start c)) (stored (start c)) (d (start c)) (p0 c .leaf) (c .before .before .before .before .before .before .split .result .s0)) (p0 c .layout .at) (p0 c .first)
   room0 c = let s = start c in next0 (lo c) (size c) (ids s) (stored s) (d s) (s .args .b) (s .args .spot) (room s (some c)) (c .before .before .before .before .before .before .split .ensures .0) (stand0 c)
 
   at1 : (c : W1) → let k = own1 c in c .write-sector .result .leaf ≡ start k .args .spot .leaf + 4 ^ d (start k)
   at1 c = let k = own1 c in let s = start k in stand1 (lo k) (size k) (ids s) (stored s) (d s) (s .args .b) (s .args .spot) (room s (some k)) (k .before .before .before .before .before .before .split .ensures .0) (stand0 k) (k .before .before .before .before .before .before .split .ensures .1) (c .write-sector .ensures) .leaves
 
-  room1 : (c : W1) → let k = own1 c in let p = c .write-sector .result in Room (grown (ids (start k)) (stored (start k)) (d (start k)) (p .leaf) (k .before .before .before .before .before .before .split .result .s1)) (p .layout .at) (p .first)
+  room1 : (c : W1) → let k = own1 c in let p = c .write-sector .result in TreeRoom (grown (ids (start k)) (stored (start k)) (d (start k)) (p .leaf) (k .before .before .before .before .before .before .split .result .s1)) (p .layout .at) (p .first)
   room1 c = let k = own1 c in let s = start k in next1 (lo k) (size k) (ids s) (stored s) (d s) (s .args .b) (s .args .spot) (room s (some k)) (k .before .before .before .before .before .before .split .ensures .0) (stand0 k) (k .before .before .before .before .before .before .split .ensures .1) (c .write-sector .ensures)
 
   at2 : (c : W2) → let k = own2 c in c .write-sector2 .result .leaf ≡ start k .args .spot .leaf + 2 * 4 ^ d (start k)
   at2 c = let k = own2 c in let s = start k in stand2 (lo k) (size k) (ids s) (stored s) (d s) (s .args .b) (s .args .spot) (room s (some k)) (k .before .before .before .before .before .before .split .ensures .0) (stand0 k) (k .before .before .before .before .before .before .split .ensures .1) (c .before .before .before .before .write-sector .ensures) (k .before .before .before .before .before .before .split .ensures .2) (c .write-sector2 .ensures) .leaves
 
-  room2 : (c : W2) → let k = own2 c in let p = c .write-sector2 .result in Room (grown (ids (start k)) (stored (start k)) (d (start k)) (p .leaf) (k .before .before .before .before .before .before .split .result .s2)) (p .layout .at) (p .first)
+  room2 : (c : W2) → let k = own2 c in let p = c .write-sector2 .result in TreeRoom (grown (ids (start k)) (stored (start k)) (d (start k)) (p .leaf) (k .before .before .before .before .before .before .split .result .s2)) (p .layout .at) (p .first)
   room2 c = let k = own2 c in let s = start k in next2 (lo k) (size k) (ids s) (stored s) (d s) (s .args .b) (s .args .spot) (room s (some k)) (k .before .before .before .before .before .before .split .ensures .0) (stand0 k) (k .before .before .before .before .before .before .split .ensures .1) (c .before .before .before .before .write-sector .ensures) (k .before .before .before .before .before .before .split .ensures .2) (c .write-sector2 .ensures)
 
   at3 : (c : W3) → let k = own3 c in c .write-sector3 .result .leaf ≡ start k .args .spot .leaf + 3 * 4 ^ d (start k)
   at3 c = let k = own3 c in let s = start k in stand3 (lo k) (size k) (ids s) (stored s) (d s) (s .args .b) (s .args .spot) (room s (some k)) (k .before .before .before .before .before .before .split .ensures .0) (stand0 k) (k .before .before .before .before .before .before .split .ensures .1) (c .before .before .before .before .before .before .before .before .write-sector .ensures) (k .before .before .before .before .before .before .split .ensures .2) (c .before .before .before .before .write-sector2 .ensures) (k .before .before .before .before .before .before .split .ensures .3) (c .write-sector3 .ensures) .leaves
 
-  room3 : (c : W3) → let k = own3 c in let p = c .write-sector3 .result in Room (grown (ids (start k)) (stored (start k)) (d (start k)) (p .leaf) (k .before .before .before .before .before .before .split .result .s3)) (p .layout .at) (p .first)
+  room3 : (c : W3) → let k = own3 c in let p = c .write-sector3 .result in TreeRoom (grown (ids (start k)) (stored (start k)) (d (start k)) (p .leaf) (k .before .before .before .before .before .before .split .result .s3)) (p .layout .at) (p .first)
   room3 c = let k = own3 c in let s = start k in next3 (lo k) (size k) (ids s) (stored s) (d s) (s .args .b) (s .args .spot) (room s (some k)) (k .before .before .before .before .before .before .split .ensures .0) (stand0 k) (k .before .before .before .before .before .before .split .ensures .1) (c .before .before .before .before .before .before .before .before .write-sector .ensures) (k .before .before .before .before .before .before .split .ensures .2) (c .before .before .before .before .write-sector2 .ensures) (k .before .before .before .before .before .before .split .ensures .3) (c .write-sector3 .ensures)
 
 write-sector-write-leaf-requires : (t : ℕ) → write-sector-lts.Need-write-leaf-requires (calls t) (write-sector-at t) write-sector.Post

@@ -17,8 +17,8 @@ use Rattle.sectors.proofs.lay_points.Tie as tie
 returns : tie.Need-returns
 returns c =
     let a = c .before .before .before .before .args in
-    let ts = pickedFrom (now (a .leafs)) (a .k) 0 (pointsAt (now (a .strip)) (a .points .at) (length (now (a .leafs)))) in
-    laid-nothing (a .l) (cat (pointItems (a .points .lo) (a .points .size) ts)) (now (a .out)) (omega (arith, length-points (a .points .lo) (a .points .size) ts, c .before .before .before .before .pre .1, c .if1 .taken))
+    let ts = pickedFrom (now (a .leaf-numbers)) (a .k) 0 (pointsAt (now (a .strip)) (a .points .at) (length (now (a .leaf-numbers)))) in
+    laid-nothing (a .l) (cat (pointItems (a .points .«bb_min») (a .points .«bb_size») ts)) (now (a .out)) (omega (arith, length-points (a .points .«bb_min») (a .points .«bb_size») ts, c .before .before .before .before .pre .1, c .if1 .taken))
 
 mul-pad : tie.Need-mul-pad
 mul-pad c = omega (arith, c .before .before .before .before .before .pre .2)
@@ -41,8 +41,8 @@ same-length c = search needs
 returns-2 : tie.Need-returns-2
 returns-2 c =
     let a = c .before .before .before .before .before .before .before .before .before .before .before .before .before .args in
-    let ts = pickedFrom (now (a .leafs)) (a .k) 0 (pointsAt (now (a .strip)) (a .points .at) (length (now (a .leafs)))) in
-    laid-some (cat (pointItems (a .points .lo) (a .points .size) ts)) (length-points (a .points .lo) (a .points .size) ts ∙ ap (λ (j : ℕ). 8 * j) (sym (c .before .before .before .before .before .before .before .before .before .before .before .before .before .pre .1))) (omega (arith, c .before .before .before .before .before .before .before .before .before .if1 .left)) (c .before .before .before .before .before .before .before .pad .ensures .0) (c .before .before .before .before .before .before .before .pad .ensures .1) (c .before .before .before .put-points .ensures) (c .alloc .ensures)
+    let ts = pickedFrom (now (a .leaf-numbers)) (a .k) 0 (pointsAt (now (a .strip)) (a .points .at) (length (now (a .leaf-numbers)))) in
+    laid-some (cat (pointItems (a .points .«bb_min») (a .points .«bb_size») ts)) (length-points (a .points .«bb_min») (a .points .«bb_size») ts ∙ ap (λ (j : ℕ). 8 * j) (sym (c .before .before .before .before .before .before .before .before .before .before .before .before .before .pre .1))) (omega (arith, c .before .before .before .before .before .before .before .before .before .if1 .left)) (c .before .before .before .before .before .before .before .pad .ensures .0) (c .before .before .before .before .before .before .before .pad .ensures .1) (c .before .before .before .put-points .ensures) (c .alloc .ensures)
 
 pub lay-points-spec : {M : Type 1} → statement M
 lay-points-spec =

@@ -8,22 +8,22 @@ use lib.ListN.{length}
 use denote.Ref.{now}
 use Rattle.fields.specs.Bytes.{les, put}
 use Rattle.fields.proofs.Puts.{put-nil, length-put}
-use Rattle.pages.specs.Sectors.{meets, idsOf}
-use Rattle.quadtree.specs.Work.{boxBy, boxAt, boxesAt, boxesIn}
+use Rattle.pages.specs.Sectors.{meets, leafIds}
+use Rattle.quadtree.specs.Work.{boxAt, boxesAt, boxesIn}
 use Rattle.quadtree.proofs.Picks.{ids-turn, count-ids-turn, ids-end}
 use Rattle.sectors.proofs.Keeping.{put-id}
 use Rattle.sectors.proofs.put_ids.Statement.{statement}
 use Rattle.sectors.proofs.put_ids.Tie as tie
 
 abbrev Inv-loop : tie.InvT-loop
-Inv-loop out₀ at boxes qx qy polys p₀ i₀ out p i =
+Inv-loop out₀ at boxes q polys p₀ i₀ out p i =
     (i ≤ length boxes / 3)
     × (length out ≡ length out₀)
-    × (p + 2 * length (idsOf (boxBy qx qy 0) i (boxesAt boxes (3 * i) (length boxes / 3 - i))) ≡ at + 2 * length (idsOf (boxBy qx qy 0) 0 (boxesIn boxes)))
-    × (put p (les 2 (idsOf (boxBy qx qy 0) i (boxesAt boxes (3 * i) (length boxes / 3 - i)))) out ≡ put at (les 2 (idsOf (boxBy qx qy 0) 0 (boxesIn boxes))) out₀)
+    × (p + 2 * length (leafIds q i (boxesAt boxes (3 * i) (length boxes / 3 - i))) ≡ at + 2 * length (leafIds q 0 (boxesIn boxes)))
+    × (put p (les 2 (leafIds q i (boxesAt boxes (3 * i) (length boxes / 3 - i)))) out ≡ put at (les 2 (leafIds q 0 (boxesIn boxes))) out₀)
 
 abbrev μ-loop : tie.MeasureT-loop
-μ-loop out₀ at boxes qx qy polys p₀ i₀ out p i = length boxes / 3 - i
+μ-loop out₀ at boxes q polys p₀ i₀ out p i = length boxes / 3 - i
 
 loop-holds : tie.Need-loop-holds Inv-loop μ-loop
 loop-holds c =
@@ -53,10 +53,10 @@ loop-again c =
     let w = now (a .boxes) in
     let n = length w / 3 in
     let i = t .i in
-    let q = boxBy (a .qx) (a .qy) 0 in
+    let q = a .q in
     let h : i < n = c .before .before .before .before .before .loop-test .taken in
     let b = meets q (boxAt w (3 * i)) in
-    let rest = idsOf q (i + 1) (boxesAt w (3 * (i + 1)) (n - (i + 1))) in
+    let rest = leafIds q (i + 1) (boxesAt w (3 * (i + 1)) (n - (i + 1))) in
     let f = c .before .before .put-id-if in
     let r : f .result ≡ t .p + 2 * cond b 1 0 = rw (c .before .before .before .meets-at .ensures) at (f .ensures .0) in
     let s : f .last .0 ≡ put (t .p) (les 2 (cond b (i ∷ []) [])) (t .out) = rw (c .before .before .before .meets-at .ensures) at (f .ensures .1) in
@@ -81,7 +81,7 @@ unfolding les
 returns c =
     let t = c .before .loop in
     let a = c .before .before .before .before .args in
-    let e = ids-end (now (a .boxes)) (boxBy (a .qx) (a .qy) 0) (t .i) (length (now (a .boxes)) / 3) (c .loop-test .left) in
+    let e = ids-end (now (a .boxes)) (a .q) (t .i) (length (now (a .boxes)) / 3) (c .loop-test .left) in
     rw (e, put-nil) at (t .inv .3)
 
 pub put-ids-spec : {M : Type 1} → statement M

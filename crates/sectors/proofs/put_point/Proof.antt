@@ -51,10 +51,10 @@ returns : tie.Need-returns
 returns c =
     let a = c .before .before .before .before .before .before .before .before .before .before .before .before .args in
     let s = now (a .strip) in
-    let q = c .before .before .before .before .before .before .before .before .quantise .ensures ∙ ap (λ (v : Floats). shorts v (a .lo) (a .size)) (c .before .before .before .before .before .before .before .before .before .floats-at .ensures) in
-    let e0 : leBytes 4 (c .before .before .before .before .before .before .pair .result) ≡ leBytes 2 (shorts (floats (vecAt s (a .at + 1))) (a .lo) (a .size) .x) ++ leBytes 2 (shorts (floats (vecAt s (a .at + 1))) (a .lo) (a .size) .y) = rw q at (c .before .before .before .before .before .before .pair .ensures) in
-    let e1 : leBytes 4 (c .before .before .before .before .before .pair2 .result) ≡ leBytes 2 (shorts (floats (vecAt s (a .at + 1))) (a .lo) (a .size) .z) ++ leBytes 2 (getD s (a .at) 0 % 65536) = rw q at (c .before .before .before .before .before .pair2 .ensures) in
-    c .before .before .put-all .ensures ∙ ap (λ (bs : List ℕ). put (a .p) bs (now (a .out))) (point-words (a .lo) (a .size) s (a .at) _ _ e0 e1)
+    let q = c .before .before .before .before .before .before .before .before .quantise .ensures ∙ ap (λ (v : Floats). shorts v (a .bb-min) (a .bb-size)) (c .before .before .before .before .before .before .before .before .before .floats-at .ensures) in
+    let e0 : leBytes 4 (c .before .before .before .before .before .before .pair .result) ≡ leBytes 2 (shorts (floats (vecAt s (a .at + 1))) (a .bb-min) (a .bb-size) .x) ++ leBytes 2 (shorts (floats (vecAt s (a .at + 1))) (a .bb-min) (a .bb-size) .y) = rw q at (c .before .before .before .before .before .before .pair .ensures) in
+    let e1 : leBytes 4 (c .before .before .before .before .before .pair2 .result) ≡ leBytes 2 (shorts (floats (vecAt s (a .at + 1))) (a .bb-min) (a .bb-size) .z) ++ leBytes 2 (getD s (a .at) 0 % 65536) = rw q at (c .before .before .before .before .before .pair2 .ensures) in
+    c .before .before .put-all .ensures ∙ ap (λ (bs : List ℕ). put (a .p) bs (now (a .out))) (point-words (a .bb-min) (a .bb-size) s (a .at) _ _ e0 e1)
 
 pub put-point-spec : {M : Type 1} → statement M
 put-point-spec =

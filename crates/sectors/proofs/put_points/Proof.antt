@@ -9,7 +9,7 @@ use lib.ListN.{length, getD}
 use denote.Ref.{now}
 use Rattle.fields.specs.Bytes.{cat, put}
 use Rattle.fields.proofs.Puts.{put-nil, length-put}
-use Rattle.strip.specs.Cell.{Point}
+use Rattle.strip.specs.Cell.{NavPoint}
 use Rattle.strip.specs.Reading.{pointAt, pointsAt}
 use Rattle.pages.specs.Sectors.{pointItems}
 use Rattle.quadtree.specs.Work.{pickedFrom}
@@ -19,19 +19,19 @@ use Rattle.sectors.proofs.put_points.Statement.{statement}
 use Rattle.sectors.proofs.put_points.Tie as tie
 
 abbrev Inv-loop : tie.InvT-loop
-Inv-loop out₀ at leafs strip k lo size place₀ p₀ i₀ out place p i =
+Inv-loop out₀ at numbers strip k lo size place₀ p₀ i₀ out place p i =
     (place ≡ place₀ + 4 * i)
-    × (i ≤ length leafs)
+    × (i ≤ length numbers)
     × (length out ≡ length out₀)
-    × (p + 8 * length (pickedFrom leafs k i (pointsAt strip place (length leafs - i))) ≡ at + 8 * length (pickedFrom leafs k 0 (pointsAt strip place₀ (length leafs))))
-    × (put p (cat (pointItems lo size (pickedFrom leafs k i (pointsAt strip place (length leafs - i))))) out ≡ put at (cat (pointItems lo size (pickedFrom leafs k 0 (pointsAt strip place₀ (length leafs))))) out₀)
+    × (p + 8 * length (pickedFrom numbers k i (pointsAt strip place (length numbers - i))) ≡ at + 8 * length (pickedFrom numbers k 0 (pointsAt strip place₀ (length numbers))))
+    × (put p (cat (pointItems lo size (pickedFrom numbers k i (pointsAt strip place (length numbers - i))))) out ≡ put at (cat (pointItems lo size (pickedFrom numbers k 0 (pointsAt strip place₀ (length numbers))))) out₀)
 
 abbrev μ-loop : tie.MeasureT-loop
-μ-loop out₀ at leafs strip k lo size place₀ p₀ i₀ out place p i = length leafs - i
+μ-loop out₀ at numbers strip k lo size place₀ p₀ i₀ out place p i = length numbers - i
 
 loop-holds : tie.Need-loop-holds Inv-loop μ-loop
 loop-holds c =
-    let n = length (now (c .before .before .before .before .before .args .leafs)) in
+    let n = length (now (c .before .before .before .before .before .args .leaf-numbers)) in
     let e : n - 0 ≡ n = omega arith in
     (omega arith, omega arith, refl, rw e refl, rw e refl)
 
@@ -57,7 +57,7 @@ loop-again : tie.Need-loop-again Inv-loop μ-loop
 loop-again c =
     let t = c .before .before .before .before .before .before .loop in
     let a = c .before .before .before .before .before .before .before .before .before .before .before .before .args in
-    let w = now (a .leafs) in
+    let w = now (a .leaf-numbers) in
     let s = now (a .strip) in
     let n = length w in
     let i = t .i in
@@ -65,8 +65,8 @@ loop-again c =
     let b = eqb (getD w i 0) (a .k) in
     let x = pointAt s (t .place) in
     let rest = pickedFrom w (a .k) (i + 1) (pointsAt s (t .place + 4) (n - (i + 1))) in
-    let lo = a .points .lo in
-    let size = a .points .size in
+    let lo = a .points .«bb_min» in
+    let size = a .points .«bb_size» in
     let f = c .before .before .put-point-if in
     let e = points-turn w s (a .k) (t .place) i n h in
     let l = ap length e ∙ keep-length b x rest in
@@ -78,7 +78,7 @@ loop-again c =
       ap (put (f .result) (cat (pointItems lo size rest))) (f .ensures .1)
           ∙ ap (λ (j : ℕ). put j (cat (pointItems lo size rest)) (put (t .p) (cat (pointItems lo size (cond b (x ∷ []) []))) (t .out))) (f .ensures .0)
           ∙ put-point lo size (t .p) b x rest (t .out)
-          ∙ ap (λ (ts : List Point). put (t .p) (cat (pointItems lo size ts)) (t .out)) (sym e)
+          ∙ ap (λ (ts : List NavPoint). put (t .p) (cat (pointItems lo size ts)) (t .out)) (sym e)
           ∙ y .4,
     )
 
@@ -90,7 +90,7 @@ unfolding cat pointItems
 returns c =
     let t = c .before .loop in
     let a = c .before .before .before .before .before .before .before .args in
-    let e = points-end (now (a .leafs)) (now (a .strip)) (a .k) (t .place) (t .i) (length (now (a .leafs))) (c .loop-test .left) in
+    let e = points-end (now (a .leaf-numbers)) (now (a .strip)) (a .k) (t .place) (t .i) (length (now (a .leaf-numbers))) (c .loop-test .left) in
     rw (e, put-nil) at (t .inv .4)
 
 pub put-points-spec : {M : Type 1} → statement M

@@ -6,16 +6,16 @@ use native.Mathlib.Omega.{arith}
 use lib.ListN.{length}
 use denote.Ref.{now}
 use Rattle.fields.specs.Bytes.{les}
-use Rattle.strip.specs.Cell.{Point}
+use Rattle.strip.specs.Cell.{NavPoint}
 use Rattle.strip.specs.Reading.{pointAt, pointsAt}
 use Rattle.strip.proofs.Steps.{items-length}
 use Rattle.blocks.specs.Layout.{behind, endOf, Laid}
 use Rattle.pages.specs.Optional.{blockOf, sizeOf}
-use Rattle.pages.specs.Sectors.{quarters, idsOf, grown, pointsFrom, dataFrom}
+use Rattle.pages.specs.Sectors.{quarters, leafIds, grown, pointsFrom, dataFrom}
 use Rattle.pages.specs.Sectors.Sector.{leaf}
 use Rattle.quadtree.specs.Work.{boxesIn, pickedFrom, countIn}
 use Rattle.quadtree.proofs.Picks.{count-picked}
-use Rattle.sectors.specs.Written.{Room}
+use Rattle.sectors.specs.Written.{TreeRoom}
 use Rattle.sectors.proofs.Leaves.{Bounds, bounds, ids-ends, points-ends, leaf-wrote}
 use Rattle.sectors.proofs.write_leaf.Statement.{statement}
 use Rattle.sectors.proofs.write_leaf.Tie as tie
@@ -86,15 +86,15 @@ laidIds c = c .before .before .before .before
 
 module _ (s : Begin) where
   abbrev idsIn : List ℕ
-  idsIn = idsOf (quarters (s .args .b)) 0 (boxesIn (now (s .args .boxes)))
+  idsIn = leafIds (quarters (s .args .b)) 0 (boxesIn (now (s .args .boxes)))
 
-  abbrev pointsIn : List Point
-  pointsIn = pickedFrom (now (s .args .leafs)) (s .args .spot .leaf) 0 (pointsAt (now (s .args .strip)) (s .args .points .at) (length (now (s .args .leafs))))
+  abbrev pointsIn : List NavPoint
+  pointsIn = pickedFrom (now (s .args .leaf-numbers)) (s .args .spot .leaf) 0 (pointsAt (now (s .args .strip)) (s .args .points .at) (length (now (s .args .leaf-numbers))))
 
   abbrev end : ℕ
   end = s .args .spot .layout .at
 
-  room : Room (leaf (s .args .b) idsIn pointsIn) end (s .args .spot .first)
+  room : TreeRoom (leaf (s .args .b) idsIn pointsIn) end (s .args .spot .first)
   unfolding grown
   room = s .pre .1
 
@@ -110,7 +110,7 @@ ids-count c = c .before .leaf-ids .ensures
 points-count : (c : Counted) → c .count-points .result ≡ length (pointsIn (begin c))
 points-count c =
     let a = begin c .args in
-    let w = now (a .leafs) in
+    let w = now (a .leaf-numbers) in
     let ts = pointsAt (now (a .strip)) (a .points .at) (length w) in
     c .count-points .ensures ∙ ap (countIn w (a .spot .leaf) 0) (sym (items-length (pointAt (now (a .strip))) (λ at. at + 4) (length w) (a .points .at))) ∙ count-picked w (a .spot .leaf) 0 ts
 
@@ -128,7 +128,7 @@ ids-behind : (c : Ids) → c .lay-ids .result .at ≡ pointsFrom (end (start (ow
 ids-behind c =
     let k = own c in
     let s = start k in
-    ids-ends (s .args .points .lo) (s .args .points .size) (idsIn s) (ids-laid c) ∙ ap (λ (j : ℕ). endOf j (sizeOf (2 * length (idsIn s)))) (k .alloc .ensures)
+    ids-ends (s .args .points .«bb_min») (s .args .points .«bb_size») (idsIn s) (ids-laid c) ∙ ap (λ (j : ℕ). endOf j (sizeOf (2 * length (idsIn s)))) (k .alloc .ensures)
 
 points-end : (c : Ids) → endOf (c .lay-ids .result .at) (sizeOf (8 * counted (own c) .count-points .result))
     ≡ dataFrom (end (start (own c))) (length (idsIn (start (own c)))) (length (pointsIn (start (own c))))
@@ -141,7 +141,7 @@ points-end c =
 points-behind : (c : Stored) → c .lay-points .result .at ≡ dataFrom (end (start (own (laidIds c)))) (length (idsIn (start (own (laidIds c))))) (length (pointsIn (start (own (laidIds c)))))
 points-behind c =
     let s = start (own (laidIds c)) in
-    points-ends (s .args .points .lo) (s .args .points .size) (pointsIn s) (c .lay-points .ensures) ∙ ap (λ (j : ℕ). endOf j (sizeOf (8 * length (pointsIn s)))) (ids-behind (laidIds c))
+    points-ends (s .args .points .«bb_min») (s .args .points .«bb_size») (pointsIn s) (c .lay-points .ensures) ∙ ap (λ (j : ℕ). endOf j (sizeOf (8 * length (pointsIn s)))) (ids-behind (laidIds c))
 
 data-small : (c : Stored) → behind (c .lay-points .result .at) 32 < 2 ^ 28
 data-small c = let b = bounded (start (own (laidIds c))) in rw (points-behind c) (omega arith)
@@ -248,7 +248,7 @@ returns c =
     let q = c .before .before .before .before .before .before .before .before .before .before .before .before .before in
     let k = own (laidIds q) in
     let s = start k in
-    leaf-wrote (s .args .points .lo) (s .args .points .size) (s .args .b) (idsIn s) (pointsIn s) (k .alloc .ensures) (k .before .before .before .pad .ensures .1) (ids-laid (laidIds q)) (q .lay-points .ensures)
+    leaf-wrote (s .args .points .«bb_min») (s .args .points .«bb_size») (s .args .b) (idsIn s) (pointsIn s) (k .alloc .ensures) (k .before .before .before .pad .ensures .1) (ids-laid (laidIds q)) (q .lay-points .ensures)
     (c .before .before .before .before .before .before .before .before .before .before .address-of .ensures) (c .before .before .before .before .before .before .before .before .before .address-of2 .ensures) (ids-count (counted k)) (points-count (counted k)) (c .before .before .before .before .before .before .before .lay-data .ensures)
     (c .before .before .before .before .address-of3 .ensures) (k .before .before .before .pad .ensures .0) (c .before .before .put-sector .ensures) refl refl
 

@@ -5,14 +5,14 @@ use mathlib.Core.Path.{_≡_, refl}
 use denote.Ref.{now}
 use lib.ListN.{length, length-set, getD}
 use borrow.Author.Count.{below-none}
-use Rattle.fields.specs.Bytes.{le}
+use Rattle.fields.specs.Bytes.{leAt}
 use Rattle.vectors.proofs.Turns.{filled}
 use borrow.Author.Needs.{needs}
 use Rattle.vectors.proofs.load.Statement.{statement}
 use Rattle.vectors.proofs.load.Tie as tie
 
 abbrev Inv-loop : tie.InvT-loop
-Inv-loop bytes words₀ i₀ words i = (length words ≡ length words₀) × ((j : ℕ) → j < i → getD words j 0 ≡ le 4 bytes (4 * j))
+Inv-loop bytes words₀ i₀ words i = (length words ≡ length words₀) × ((j : ℕ) → j < i → getD words j 0 ≡ leAt 4 bytes (4 * j))
 
 abbrev μ-loop : tie.MeasureT-loop
 μ-loop bytes words₀ i₀ words i = length words - i
@@ -41,7 +41,7 @@ loop-less c = rw length-set (omega arith)
 loop-again : tie.Need-loop-again Inv-loop μ-loop
 loop-again c = let l = c .before .before .loop in (
   rw length-set (l .inv .0),
-  filled (l .words) (λ (j : ℕ). le 4 (now (c .before .before .before .before .before .args .bytes)) (4 * j)) (l .i) (c .u32-le .result) (c .before .loop-test .taken) (l .inv .1) (c .u32-le .ensures),
+  filled (l .words) (λ (j : ℕ). leAt 4 (now (c .before .before .before .before .before .args .bytes)) (4 * j)) (l .i) (c .u32-le .result) (c .before .loop-test .taken) (l .inv .1) (c .u32-le .ensures),
 )
 
 same-length : tie.Need-same-length Inv-loop μ-loop

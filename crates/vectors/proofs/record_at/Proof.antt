@@ -1,6 +1,7 @@
 -- `vectors::record_at` meets its contract.
 use Prim.Native.Nat.{_+_}
 use native.Mathlib.Omega.{arith}
+use Rattle.replay.specs.Ends.{recordEnd}
 use borrow.Author.Needs.{needs}
 use Rattle.vectors.proofs.record_at.Statement.{statement}
 use Rattle.vectors.proofs.record_at.Tie as tie
@@ -51,7 +52,8 @@ add-next : tie.Need-add-next
 add-next c = search needs
 
 returns : tie.Need-returns
-returns c = search needs
+unfolding recordEnd
+returns c = (cc, search needs)
 
 pub record-at-spec : {M : Type 1} → statement M
 record-at-spec =

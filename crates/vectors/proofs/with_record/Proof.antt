@@ -1,5 +1,7 @@
 -- `vectors::with_record` meets its contract.
 use native.Mathlib.Omega.{arith}
+use Rattle.replay.specs.Tallies.{left-out}
+use Rattle.replay.proofs.Tallies.{step, later}
 use borrow.Author.Needs.{needs}
 use Rattle.vectors.proofs.with_record.Statement.{statement}
 use Rattle.vectors.proofs.with_record.Tie as tie
@@ -11,10 +13,10 @@ shared-slice-read-tag : tie.Need-shared-slice-read-tag
 shared-slice-read-tag c = search needs
 
 returns : tie.Need-returns
-returns c = search needs
+returns c = (left-out (λ h. omega (arith, h .0)), later _ _ _ _ (c .before .before .before .pre .1) (omega arith))
 
 returns-2 : tie.Need-returns-2
-returns-2 c = search needs
+returns-2 c = (left-out (λ h. omega (arith, h .1)), later _ _ _ _ (c .before .before .before .before .pre .1) (omega arith))
 
 mul-agrees : tie.Need-mul-agrees
 mul-agrees c = search needs
@@ -47,7 +49,7 @@ counted-requires : tie.Need-counted-requires
 counted-requires c κs = (c .before .before .before .before .before .before .before .pre .1, omega arith)
 
 returns-3 : tie.Need-returns-3
-returns-3 c = search needs
+returns-3 c = (step _ _ _ _ _ _ (omega arith, omega arith) (c .before .agrees .ensures) (c .counted .ensures .0), c .counted .ensures .1)
 
 pub with-record-spec : {M : Type 1} → statement M
 with-record-spec =

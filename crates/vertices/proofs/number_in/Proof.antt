@@ -37,17 +37,17 @@ begun c = let a = c .before .before .before .before .before .before .before .arg
     putMid (a .m) (length (a .work .now) - a .m) (a .work .now) (c .before .before .before .clear .last .0)
 
 -- after a lookup
-step : (c : tie.After-find-or-add Inv-loop μ-loop) →
+step : (c : tie.After-vertex-index Inv-loop μ-loop) →
     let a = c .before .before .before .before .before .before .before .before .before .before .before .args in
     let at = c .before .before .before .before .loop in
     Step (met (a .triples .now) 0 (a .m)) (a .m) (a .buckets) (drop (a .m) (begun (c .before .before .before .before))) (take (a .m) (begun (c .before .before .before .before)))
-    (drop (a .m) (at .work)) (take (a .m) (at .work)) (at .n) (at .i) (c .before .before .whole-triple-at .result) (c .find-or-add .last .0) (c .find-or-add .result)
+    (drop (a .m) (at .work)) (take (a .m) (at .work)) (at .n) (at .i) (c .before .before .whole-triple-at .result) (c .vertex-index .last .0) (c .vertex-index .result)
 step c = record {
   going = c .before .before .before .before .loop .inv .1;
   size = length-met _ _ _;
   more = c .before .before .before .loop-test .taken;
   key = given-at _ _ _ _ (c .before .before .before .loop-test .taken) (c .before .before .whole-triple-at .ensures .0);
-  looked = rw (lent _ _ (within (c .before .before .before .before))) at (c .find-or-add .ensures);
+  looked = rw (lent _ _ (within (c .before .before .before .before))) at (c .vertex-index .ensures);
 }
 
 mul-clear : tie.Need-mul-clear Inv-loop μ-loop
@@ -77,20 +77,20 @@ mul-whole-triple-at c = search needs
 whole-triple-at-requires : tie.Need-whole-triple-at-requires Inv-loop μ-loop
 whole-triple-at-requires c κs = omega (arith, c .loop-test .taken, c .before .before .before .before .before .before .before .before .pre .2)
 
-mul-find-or-add : tie.Need-mul-find-or-add Inv-loop μ-loop
-mul-find-or-add c = search needs
+mul-vertex-index : tie.Need-mul-vertex-index Inv-loop μ-loop
+mul-vertex-index c = search needs
 
-sub-find-or-add : tie.Need-sub-find-or-add Inv-loop μ-loop
-sub-find-or-add c = search needs
+sub-vertex-index : tie.Need-sub-vertex-index Inv-loop μ-loop
+sub-vertex-index c = search needs
 
-part-find-or-add-start : tie.Need-part-find-or-add-start Inv-loop μ-loop
-part-find-or-add-start c = search needs
+part-vertex-index-start : tie.Need-part-vertex-index-start Inv-loop μ-loop
+part-vertex-index-start c = search needs
 
-part-find-or-add-end : tie.Need-part-find-or-add-end Inv-loop μ-loop
-part-find-or-add-end c = search needs
+part-vertex-index-end : tie.Need-part-vertex-index-end Inv-loop μ-loop
+part-vertex-index-end c = search needs
 
-find-or-add-requires : tie.Need-find-or-add-requires Inv-loop μ-loop
-find-or-add-requires c κs = let g = c .before .before .before .loop .inv .1 in
+vertex-index-requires : tie.Need-vertex-index-requires Inv-loop μ-loop
+vertex-index-requires c κs = let g = c .before .before .before .loop .inv .1 in
     let a = c .before .before .before .before .before .before .before .before .before .before .args in
     rw (lent (a .m) (c .before .before .before .loop .work) (within (c .before .before .before)))
     (record { table = g .table; trees = tree-left (a .m) _ _ (c .before .before .before .before .before .before .before .before .before .before .pre .4) (omega (arith, g .few, c .before .before .loop-test .taken)); more = omega (arith, g .few, length-drop (a .m) (c .before .before .before .loop .work), long (c .before .before .before), c .before .before .loop-test .taken, c .before .before .before .before .before .before .before .before .before .before .pre); short = c .before .whole-triple-at .ensures .1 })
@@ -117,7 +117,7 @@ returns : tie.Need-returns Inv-loop μ-loop
 returns c = let a = c .before .before .before .before .before .before .before .before .before .before .before .before .before .before .before .args in
     let w = c .before .before .before .before .before .before .before .before .loop .work in
     let h = within (c .before .before .before .before .before .before .before .before) in
-    let f = c .before .before .before .before .find-or-add in
+    let f = c .before .before .before .before .vertex-index in
     let first = c .before .before .before .before .before .before .before .before .before .before .before .clear in
     let fits = c .before .before .before .before .before .before .before .before .before .before .before .before .before .before .before .pre in
     finish (a .m) _ (a .work .now) (omega (arith, fits)) (first .last .0) (first .kept .0) (first .ensures) (omega (arith, fits)) _ _ _
@@ -133,7 +133,7 @@ loop-again : tie.Need-loop-again Inv-loop μ-loop
 loop-again c = let m = c .before .before .before .before .before .before .before .before .before .before .before .before .before .before .before .before .args .m in
     let at = c .before .before .before .before .before .before .before .before .before .loop in
     let h = within (c .before .before .before .before .before .before .before .before .before) in
-    let f = c .before .before .before .before .before .find-or-add in
+    let f = c .before .before .before .before .before .vertex-index in
     let e = f .last .0 in
     let l = f .kept .0 in
     let k = c .before .known .given .0 .0 in
@@ -167,11 +167,11 @@ number-in-spec =
     loop-holds
     mul-whole-triple-at
     whole-triple-at-requires
-    mul-find-or-add
-    sub-find-or-add
-    part-find-or-add-start
-    part-find-or-add-end
-    find-or-add-requires
+    mul-vertex-index
+    sub-vertex-index
+    part-vertex-index-start
+    part-vertex-index-end
+    vertex-index-requires
     enum-known-known
     cast-work
     mul-work

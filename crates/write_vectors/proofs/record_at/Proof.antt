@@ -1,11 +1,10 @@
 -- `write_vectors::record_at` meets its contract: its callees' equations.
-use mathlib.Core.Path.{refl}
 use borrow.Author.Needs.{needs}
 use Rattle.write_vectors.proofs.record_at.Statement.{statement}
 use Rattle.write_vectors.proofs.record_at.Tie as tie
 
 returns : tie.Need-returns
-returns c = (record { runs = refl; bytes = cc; bytes-end = cc; next = cc }, search needs)
+returns c = (cc, search needs)
 
 pub record-at-spec : {M : Type 1} → statement M
 record-at-spec =

@@ -1,43 +1,56 @@
 -- `write_vectors::tally_of` meets its contract. The loop's invariant: the tally is of the records passed. The measure is how many bytes are left.
 use Prim.Native.Nat.{_-_, _≤_}
 use native.Mathlib.Omega.{arith}
-use mathlib.Core.Path.{refl}
+use mathlib.Core.Path.{refl, sym, _∙_}
 use lib.ListN.{length}
-use Rattle.replay.specs.Tallies.{Tallied}
+use Rattle.replay.specs.Tallies.{Tallied, at-first}
 use Rattle.replay.proofs.Tallies.{later}
 use borrow.Author.Needs.{needs}
+use Rattle.write_vectors.specs.Agreement.{PassedAt}
+use Rattle.write_vectors.proofs.Records.{one-record}
 use Rattle.write_vectors.proofs.tally_of.Statement.{statement}
 use Rattle.write_vectors.proofs.tally_of.Tie as tie
 
 abbrev Inv-loop : tie.InvT-loop
-Inv-loop list low high t₀ at₀ t at = (at ≤ length list) × Tallied (length list) at t
+Inv-loop list low high t₀ at₀ t at = (at ≤ length list) × PassedAt list low high at t × Tallied (length list) at t
 
 abbrev μ-loop : tie.MeasureT-loop
 μ-loop list low high t₀ at₀ t at = length list - at
 
 loop-holds : tie.Need-loop-holds Inv-loop μ-loop
-loop-holds c = (omega arith, record { few = omega arith; part = omega arith; shown = omega arith; all = λ h. refl })
+loop-holds c = (omega arith, at-first, record { few = omega arith; part = omega arith; shown = omega arith; all = λ h. refl })
 
 sub-loop : tie.Need-sub-loop Inv-loop μ-loop
 sub-loop c = omega arith
 
 returns : tie.Need-returns Inv-loop μ-loop
-returns c = later _ _ _ _ (c .before .before .before .loop .inv .1) (c .before .before .before .loop .inv .0)
+returns c =
+    let here = c .before .before .before .loop in
+    record { end = here .at; passed = here .inv .1; ended = λ h. omega (arith, h .1, c .before .u32-le .ensures); bounds = later _ _ _ _ (here .inv .2) (here .inv .0) }
 
 record-at-requires : tie.Need-record-at-requires Inv-loop μ-loop
 record-at-requires c κs = omega arith
 
 with-record-requires : tie.Need-with-record-requires Inv-loop μ-loop
-with-record-requires c κs = (omega arith, c .record-at .ensures .1, c .before .before .before .before .loop .inv .1)
+with-record-requires c κs = (omega arith, c .record-at .ensures .1, c .before .before .before .before .loop .inv .2)
 
 loop-less : tie.Need-loop-less Inv-loop μ-loop
 loop-less c = omega (arith, c .before .record-at .ensures .1 .starts, c .before .record-at .ensures .1 .whole, c .before .record-at .ensures .1 .behind)
 
 loop-again : tie.Need-loop-again Inv-loop μ-loop
-loop-again c = (c .before .record-at .ensures .1 .within, later _ _ _ _ (c .with-record .ensures) (omega (arith, c .before .record-at .ensures .1 .starts, c .before .record-at .ensures .1 .whole, c .before .record-at .ensures .1 .behind)))
+loop-again c =
+    let here = c .before .before .before .before .before .loop in
+    let r = c .before .record-at in
+    let stands = r .ensures .1 in (
+      stands .within,
+      one-record _ _ _ _ (r .result) _ _ (here .inv .1) (omega arith, omega (arith, c .before .before .before .u32-le .ensures)) (r .ensures .0) (c .with-record .ensures .0),
+      later _ _ _ _ (c .with-record .ensures .1) (omega (arith, stands .starts, stands .whole, stands .behind)),
+    )
 
 returns-2 : tie.Need-returns-2 Inv-loop μ-loop
-returns-2 c = later _ _ _ _ (c .before .loop .inv .1) (c .before .loop .inv .0)
+returns-2 c =
+    let here = c .before .loop in
+    record { end = here .at; passed = here .inv .1; ended = λ h. omega (arith, h .0); bounds = later _ _ _ _ (here .inv .2) (here .inv .0) }
 
 pub tally-of-spec : {M : Type 1} → statement M
 tally-of-spec =

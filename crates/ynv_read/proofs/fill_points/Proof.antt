@@ -1,19 +1,31 @@
 -- `fill_points` meets its contract. The cell's box is what shorts are turned back in.
+use Prim.Native.Nat.{ℕ}
+use mathlib.Core.Path.{ap, _∙_}
+use mathlib.Core.List.{List}
+use Rattle.fields.specs.Bytes.{leAt}
 use Rattle.ynv_read.proofs.Heads.{back-is}
-use mathlib.Core.Path.{_∙_}
 use borrow.Author.Needs.{needs}
 use Rattle.ynv_read.proofs.fill_points.Statement.{statement}
 use Rattle.ynv_read.proofs.fill_points.Tie as tie
 
 put-tree-points-requires : tie.Need-put-tree-points-requires
-put-tree-points-requires c κs = rw (c .before .root-address .ensures) (c .before .before .before .before .before .before .before .before .pre)
+put-tree-points-requires c κs =
+    let at-u64-le = c .before in
+    let start = at-u64-le .before .before .before .before .before in
+    let root = at-u64-le .u64-le .ensures ∙ ap (λ (l : List ℕ). leAt 8 l 0x120) (start .pre .0 .header-is) in rw root (start .pre .1)
 
 returns : tie.Need-returns
 returns c =
-    let back = back-is (c .before .before .before .before .before .before .before .before .before .before .before .args .system .now) (c .before .before .before .before .before .before .before .before .before .before .before .args .graphics .now) (c .before .before .before .before .before .before .before .frame-of .ensures) in
-    (c .before .before .put-tree-points .ensures .0 ∙ rw (c .before .before .before .before .root-address .ensures), c .before .before .put-tree-points .ensures .1 ∙ rw (c .before .before .before .before .root-address .ensures, back))
+    let at-put-tree-points = c .before .before in
+    let at-u64-le = at-put-tree-points .before .before in
+    let start = at-u64-le .before .before .before .before .before in
+    let root = at-u64-le .u64-le .ensures ∙ ap (λ (l : List ℕ). leAt 8 l 0x120) (start .pre .0 .header-is) in let back = back-is (start .args .system .now) (start .args .graphics .now) (start .pre .0 .cell-is) in (at-put-tree-points .put-tree-points .ensures .0 ∙ rw root, at-put-tree-points .put-tree-points .ensures .1 ∙ rw (root, back))
 
 pub fill-points-spec : {M : Type 1} → statement M
 fill-points-spec =
     tie.close
-    (tie.spec (λ c κs. search needs) (λ c κs. search needs) put-tree-points-requires (λ c. search needs) returns)
+    (tie.spec
+    (λ c κs. search needs)
+    put-tree-points-requires
+    (λ c. search needs)
+    returns)

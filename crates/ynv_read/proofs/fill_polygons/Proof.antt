@@ -4,11 +4,33 @@ use borrow.Author.Needs.{needs}
 use Rattle.ynv_read.proofs.fill_polygons.Statement.{statement}
 use Rattle.ynv_read.proofs.fill_polygons.Tie as tie
 
+links-of-requires : tie.Need-links-of-requires
+links-of-requires c κs =
+    let start = c .before .before .before .before .before .before .before .before .before in
+    start .pre .0 .header-is
+
 put-polygons-requires : tie.Need-put-polygons-requires
-put-polygons-requires c κs = may-put (c .before .before .before .before .before .before .before .before .before .before .before .before .before .before .args .system .now) (c .before .before .before .before .before .before .before .before .before .before .before .before .before .before .args .graphics .now) (c .before .before .before .before .before .before .before .before .before .before .list-addresses .ensures) (c .before .before .before .before .before .before .before .before .before .frame-of .ensures) (c .before .before .before .before .before .before .list-table .ensures) (c .before .before .before .before .before .list-table2 .ensures) (c .before .before .before .before .list-table3 .ensures) (c .before .before .before .list-table4 .ensures) (c .before .before .links-of .ensures) (c .before .header-of .ensures) (c .before .before .before .before .before .before .before .before .before .before .before .before .before .before .pre)
+put-polygons-requires c κs =
+    let at-links-of = c .before in
+    let at-list-table4 = at-links-of .before in
+    let at-list-table3 = at-list-table4 .before in
+    let at-list-table2 = at-list-table3 .before in
+    let at-list-table = at-list-table2 .before in
+    let at-list-addresses = at-list-table .before in
+    let start = at-list-addresses .before .before .before .before .before in
+    may-put (start .args .system .now) (start .args .graphics .now) (start .pre .0) (at-list-addresses .list-addresses .ensures) (at-list-table .list-table .ensures) (at-list-table2 .list-table2 .ensures) (at-list-table3 .list-table3 .ensures) (at-list-table4 .list-table4 .ensures) (at-links-of .links-of .ensures) (start .pre .1)
 
 returns : tie.Need-returns
-returns c = polys-put (c .before .before .before .before .before .before .before .before .before .before .before .before .before .before .before .before .before .args .system .now) (c .before .before .before .before .before .before .before .before .before .before .before .before .before .before .before .before .before .args .graphics .now) (c .before .before .before .before .before .before .before .before .before .before .before .before .before .list-addresses .ensures) (c .before .before .before .before .before .before .before .before .before .before .before .before .frame-of .ensures) (c .before .before .before .before .before .before .before .before .before .list-table .ensures) (c .before .before .before .before .before .before .before .before .list-table2 .ensures) (c .before .before .before .before .before .before .before .list-table3 .ensures) (c .before .before .before .before .before .before .list-table4 .ensures) (c .before .before .before .before .before .links-of .ensures) (c .before .before .before .before .header-of .ensures) (c .before .before .before .before .before .before .before .before .before .before .before .before .before .before .before .before .before .args .strip .now) (c .before .before .put-polygons .ensures)
+returns c =
+    let at-put-polygons = c .before .before in
+    let at-links-of = at-put-polygons .before .before in
+    let at-list-table4 = at-links-of .before in
+    let at-list-table3 = at-list-table4 .before in
+    let at-list-table2 = at-list-table3 .before in
+    let at-list-table = at-list-table2 .before in
+    let at-list-addresses = at-list-table .before in
+    let start = at-list-addresses .before .before .before .before .before in
+    polys-put (start .args .system .now) (start .args .graphics .now) (start .pre .0) (at-list-addresses .list-addresses .ensures) (at-list-table .list-table .ensures) (at-list-table2 .list-table2 .ensures) (at-list-table3 .list-table3 .ensures) (at-list-table4 .list-table4 .ensures) (at-links-of .links-of .ensures) (start .args .strip .now) (at-put-polygons .put-polygons .ensures)
 
 pub fill-polygons-spec : {M : Type 1} → statement M
 fill-polygons-spec =
@@ -19,9 +41,7 @@ fill-polygons-spec =
     (λ c κs. search needs)
     (λ c κs. search needs)
     (λ c κs. search needs)
-    (λ c κs. search needs)
-    (λ c κs. search needs)
-    (λ c κs. search needs)
+    links-of-requires
     put-polygons-requires
     (λ c. search needs)
     returns)

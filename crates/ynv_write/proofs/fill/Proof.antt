@@ -13,38 +13,30 @@ fill-lists-requires c κs = c .before .before .before .before .before .pre .0
 
 fill-rest-requires : tie.Need-fill-rest-requires
 fill-rest-requires c κs =
-    let s = c .before .before .before .before .before .before .before .before .before .before .before .before .args .strip .now in
-    let w = c .before .before .before .before .before .before .before .before .before .before .before .before .args .work .now in
-    let d = c .before .before .before .before .before .before .before .before .before .before .before .before .args .d in
-    let R = c .before .before .before .before .before .before .before .before .before .before .before .before .pre .0 in
-    (c .before .before .before .before .before .before .fill-lists .ensures .1 .kept, link-count s w d R, c .before .before .before .before .before .before .fill-lists .ensures .0 .polygons)
+    let listed = c .before .before .before .before .before .before .fill-lists .ensures in
+    let entry = c .before .before .before .before .before .before .before .before .before .before .before .before in
+    let R = entry .pre .0 in
+    (listed .1 .kept, link-count (entry .args .strip .now) (entry .args .work .now) (entry .args .d) R, listed .0 .polygons, R .tabled .cell)
 
 addresses-requires : tie.Need-addresses-requires
 addresses-requires c κs =
-    let s = c .before .before .before .before .before .before .before .before .before .before .before .before .before .before .before .args .strip .now in
-    let w = c .before .before .before .before .before .before .before .before .before .before .before .before .before .before .before .args .work .now in
-    let d = c .before .before .before .before .before .before .before .before .before .before .before .before .before .before .before .args .d in
-    let R = c .before .before .before .before .before .before .before .before .before .before .before .before .before .before .before .pre .0 in
-    near s w d R (c .before .before .before .before .before .before .before .before .before .fill-lists .ensures .0) (c .before .before .fill-rest .ensures)
+    let entry = c .before .before .before .before .before .before .before .before .before .before .before .before .before .before .before in
+    near (entry .args .strip .now) (entry .args .work .now) (entry .args .d) (entry .pre .0) (c .before .before .before .before .before .before .before .before .before .fill-lists .ensures .0) (c .before .before .fill-rest .ensures)
 
 totals-requires : tie.Need-totals-requires
 totals-requires c κs =
-    let s = c .before .before .before .before .before .before .before .before .before .before .before .before .before .before .before .before .args .strip .now in
-    let w = c .before .before .before .before .before .before .before .before .before .before .before .before .before .before .before .before .args .work .now in
-    let d = c .before .before .before .before .before .before .before .before .before .before .before .before .before .before .before .before .args .d in
-    let R = c .before .before .before .before .before .before .before .before .before .before .before .before .before .before .before .before .pre .0 in
-    few s w d R (c .before .before .before .before .before .before .before .before .before .before .before .before .before .before .before .before .args .bytes) (c .before .before .before .before .before .before .before .before .before .before .before .before .before .before .before .before .pre .1)
+    let entry = c .before .before .before .before .before .before .before .before .before .before .before .before .before .before .before .before in
+    few (entry .args .strip .now) (entry .args .work .now) (entry .args .d) (entry .pre .0) (entry .args .bytes) (entry .pre .1)
 
 put-header-requires : tie.Need-put-header-requires
-put-header-requires c κs = c .before .before .before .before .before .before .before .before .before .before .before .before .before .before .before .before .before .before .before .pre .0 .long
+put-header-requires c κs = search needs
 
 returns : tie.Need-returns
 returns c =
-    let s = c .before .before .before .before .before .before .before .before .before .before .before .before .before .before .before .before .before .before .before .before .before .before .args .strip .now in
-    let w = c .before .before .before .before .before .before .before .before .before .before .before .before .before .before .before .before .before .before .before .before .before .before .args .work .now in
-    let d = c .before .before .before .before .before .before .before .before .before .before .before .before .before .before .before .before .before .before .before .before .before .before .args .d in
-    let R = c .before .before .before .before .before .before .before .before .before .before .before .before .before .before .before .before .before .before .before .before .before .before .pre .0 in
-    filled s w d R (c .before .before .before .before .before .before .before .before .before .before .before .before .before .before .before .before .fill-lists .ensures .0) (c .before .before .before .before .before .before .before .before .before .fill-rest .ensures) (c .before .before .before .before .before .before .before .before .before .before .before .before .before .before .before .before .fill-lists .ensures .1) _ (c .before .before .before .before .before .before .addresses .ensures) _ (c .before .before .before .before .before .before .before .before .before .before .before .before .before .before .before .before .before .before .before .before .before .before .pre .1) _ (c .before .before .before .before .before .totals .ensures) (c .before .before .put-header .ensures)
+    let listed = c .before .before .before .before .before .before .before .before .before .before .before .before .before .before .before .before .before .fill-lists .ensures in
+    let known = c .before .before .before .before .before .before .before .before .before .before .before .before .before .before .before .before .before .before .before .before .before .before in
+    let entry = known .before in
+    filled (entry .args .strip .now) (entry .args .work .now) (entry .args .d) (entry .pre .0) (listed .0) (c .before .before .before .before .before .before .before .before .before .before .fill-rest .ensures) (λ k. known .shared-slice-known .given k .fits) (listed .1) _ (c .before .before .before .before .before .before .before .addresses .ensures) _ (entry .pre .1) _ (c .before .before .before .before .before .before .totals .ensures) (c .before .before .put-header .ensures)
 
 same-length : tie.Need-same-length
 same-length c = search needs

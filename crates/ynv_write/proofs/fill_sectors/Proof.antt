@@ -21,12 +21,6 @@ add-end c = search needs
 root-box-requires : tie.Need-root-box-requires
 root-box-requires c κs = search needs
 
-floats-at-requires : tie.Need-floats-at-requires
-floats-at-requires c κs = search needs
-
-floats-at-requires-2 : tie.Need-floats-at-requires-2
-floats-at-requires-2 c κs = search needs
-
 sub-write-sector : tie.Need-sub-write-sector
 sub-write-sector c = search needs
 
@@ -36,19 +30,14 @@ mul-write-sector c = search needs
 sub-write-sector-2 : tie.Need-sub-write-sector-2
 sub-write-sector-2 c = search needs
 
-shared-slice-read-depth-of : tie.Need-shared-slice-read-depth-of
-shared-slice-read-depth-of c = search needs
-
 depth-of-requires : tie.Need-depth-of-requires
 depth-of-requires c κs = search needs
 
 mul-write-sector-2 : tie.Need-mul-write-sector-2
 mul-write-sector-2 c =
-    let s = c .before .before .before .before .before .before .before .before .before .before .before .before .before .args .strip .now in
-    let w = c .before .before .before .before .before .before .before .before .before .before .before .before .before .args .work .now in
-    let n = c .before .before .before .before .before .before .before .before .before .before .before .before .before .args .n in
-    let K = c .before .before .before .before .before .before .before .before .before .before .before .before .before .pre .0 in
-    omega (arith, K .held .room, c .before .before .before .before .before .before .before .before .before .tables-end .ensures, c .before .before .before .before .before .before .before .before .before .before .before .before .before .good)
+    let ended = c .before .before .before .before .before .before .before .before in
+    let entry = ended .before .before .before .before in
+    omega (arith, entry .pre .0 .held .room, ended .tables-end .ensures, entry .good)
 
 sub-write-sector-3 : tie.Need-sub-write-sector-3
 sub-write-sector-3 c = search needs
@@ -58,19 +47,15 @@ part-write-sector-start c = search needs
 
 part-write-sector-end : tie.Need-part-write-sector-end
 part-write-sector-end c =
-    let s = c .before .before .before .before .before .before .before .before .before .before .before .before .before .args .strip .now in
-    let w = c .before .before .before .before .before .before .before .before .before .before .before .before .before .args .work .now in
-    let n = c .before .before .before .before .before .before .before .before .before .before .before .before .before .args .n in
-    let K = c .before .before .before .before .before .before .before .before .before .before .before .before .before .pre .0 in
-    omega (arith, K .held .room, c .before .before .before .before .before .before .before .before .before .tables-end .ensures)
+    let ended = c .before .before .before .before .before .before .before .before in
+    let entry = ended .before .before .before .before in
+    omega (arith, entry .pre .0 .held .room, ended .tables-end .ensures)
 
 mul-write-sector-3 : tie.Need-mul-write-sector-3
 mul-write-sector-3 c =
-    let s = c .before .before .before .before .before .before .before .before .before .before .before .before .before .before .args .strip .now in
-    let w = c .before .before .before .before .before .before .before .before .before .before .before .before .before .before .args .work .now in
-    let n = c .before .before .before .before .before .before .before .before .before .before .before .before .before .before .args .n in
-    let K = c .before .before .before .before .before .before .before .before .before .before .before .before .before .before .pre .0 in
-    omega (arith, K .held .room, c .before .before .before .before .before .before .before .before .before .before .tables-end .ensures, c .before .before .before .before .before .before .before .before .before .before .before .before .before .before .good)
+    let ended = c .before .before .before .before .before .before .before .before .before in
+    let entry = ended .before .before .before .before in
+    omega (arith, entry .pre .0 .held .room, ended .tables-end .ensures, entry .good)
 
 sub-write-sector-4 : tie.Need-sub-write-sector-4
 sub-write-sector-4 c = search needs
@@ -80,23 +65,26 @@ part-write-sector-start-2 c = search needs
 
 part-write-sector-end-2 : tie.Need-part-write-sector-end-2
 part-write-sector-end-2 c =
-    let s = c .before .before .before .before .before .before .before .before .before .before .before .before .before .before .args .strip .now in
-    let w = c .before .before .before .before .before .before .before .before .before .before .before .before .before .before .args .work .now in
-    let n = c .before .before .before .before .before .before .before .before .before .before .before .before .before .before .args .n in
-    let K = c .before .before .before .before .before .before .before .before .before .before .before .before .before .before .pre .0 in
-    omega (arith, K .held .room, c .before .before .before .before .before .before .before .before .before .before .tables-end .ensures)
+    let ended = c .before .before .before .before .before .before .before .before .before in
+    let entry = ended .before .before .before .before in
+    omega (arith, entry .pre .0 .held .room, ended .tables-end .ensures)
 
 write-sector-requires : tie.Need-write-sector-requires
 write-sector-requires c κs =
-    let s = c .before .before .before .before .before .before .before .before .before .before .before .before .before .before .before .args .strip .now in
-    let w = c .before .before .before .before .before .before .before .before .before .before .before .before .before .before .before .args .work .now in
-    let n = c .before .before .before .before .before .before .before .before .before .before .before .before .before .before .before .args .n in
-    let K = c .before .before .before .before .before .before .before .before .before .before .before .before .before .before .before .pre .0 in (
+    let deep = c .before .before .before .depth-of .ensures .0 in
+    let rooted = c .before .before .before .before .before .before .before in
+    let ended = rooted .before .before .before in
+    let entry = ended .before .before .before .before in
+    let s = entry .args .strip .now in
+    let w = entry .args .work .now in
+    let n = entry .args .n in
+    let K = entry .pre .0 in
+    let at = ended .tables-end in (
       (
-        leaves-few s w n K (c .before .before .before .before .before .before .before .before .before .before .before .tables-end .result) (c .before .before .before .before .before .before .before .before .before .before .before .tables-end .ensures) _ _ _ refl (c .before .before .before .depth-of .ensures .0) (c .before .before .before .before .before .before .before .before .root-box .ensures),
-        points-inside s w n K (c .before .before .before .before .before .before .before .before .before .before .before .tables-end .result) (c .before .before .before .before .before .before .before .before .before .before .before .tables-end .ensures) _ _ _ refl (c .before .before .before .depth-of .ensures .0) (c .before .before .before .before .before .before .before .before .root-box .ensures),
+        leaves-few s w n K (at .result) (at .ensures) _ _ _ refl _ (entry .pre .2) deep (rooted .root-box .ensures),
+        points-inside s w n K (at .result) (at .ensures) _ _ _ refl _ (entry .pre .2) deep (rooted .root-box .ensures),
       ),
-      sectors-ask s w n K (c .before .before .before .before .before .before .before .before .before .before .before .tables-end .result) (c .before .before .before .before .before .before .before .before .before .before .before .tables-end .ensures) _ _ _ refl (c .before .before .before .depth-of .ensures .0) (c .before .before .before .before .before .before .before .before .root-box .ensures) _ (c .before .before .before .before .before .before .before .before .before .before .before .before .before .before .before .pre .1),
+      sectors-ask s w n K (at .result) (at .ensures) _ _ _ refl _ (entry .pre .2) deep (rooted .root-box .ensures) _ (entry .pre .1),
     )
 
 same-length : tie.Need-same-length
@@ -104,11 +92,12 @@ same-length c = search needs
 
 returns : tie.Need-returns
 returns c =
-    let s = c .before .before .before .before .before .before .before .before .before .before .before .before .before .before .before .before .before .before .args .strip .now in
-    let w = c .before .before .before .before .before .before .before .before .before .before .before .before .before .before .before .before .before .before .args .work .now in
-    let n = c .before .before .before .before .before .before .before .before .before .before .before .before .before .before .before .before .before .before .args .n in
-    let K = c .before .before .before .before .before .before .before .before .before .before .before .before .before .before .before .before .before .before .pre .0 in
-    sectors-filled s w n K (c .before .before .before .before .before .before .before .before .before .before .before .before .before .before .tables-end .result) (c .before .before .before .before .before .before .before .before .before .before .before .before .before .before .tables-end .ensures) _ _ _ refl (c .before .before .before .before .before .before .depth-of .ensures .0) (c .before .before .before .before .before .before .before .before .before .before .before .root-box .ensures) _ _ (c .before .before .before .before .before .before .before .before .before .before .floats-at .ensures) (c .before .before .before .before .before .before .before .before .before .floats-at2 .ensures) (c .before .before .before .before .before .before .before .before .before .before .before .before .before .before .before .before .before .before .pre .1) refl (c .before .before .write-sector .ensures)
+    let deep = c .before .before .before .before .before .before .depth-of .ensures .0 in
+    let rooted = c .before .before .before .before .before .before .before .before .before .before in
+    let ended = rooted .before .before .before in
+    let entry = ended .before .before .before .before in
+    let at = ended .tables-end in
+    sectors-filled (entry .args .strip .now) (entry .args .work .now) (entry .args .n) (entry .pre .0) (at .result) (at .ensures) _ _ _ refl _ (entry .pre .2) deep (rooted .root-box .ensures) (entry .pre .1) refl (c .before .before .write-sector .ensures)
 
 pub fill-sectors-spec : {M : Type 1} → statement M
 fill-sectors-spec =
@@ -119,12 +108,9 @@ fill-sectors-spec =
     add-mid
     add-end
     root-box-requires
-    floats-at-requires
-    floats-at-requires-2
     sub-write-sector
     mul-write-sector
     sub-write-sector-2
-    shared-slice-read-depth-of
     depth-of-requires
     mul-write-sector-2
     sub-write-sector-3

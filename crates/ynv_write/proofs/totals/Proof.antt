@@ -43,13 +43,13 @@ cast-t16 : tie.Need-cast-t16
 cast-t16 c = search needs
 
 cast-t17 : tie.Need-cast-t17
-cast-t17 c = search needs
+cast-t17 c = omega (arith, c .before .before .before .before .before .before .before .before .before .before .before .pre)
 
 cast-t18 : tie.Need-cast-t18
-cast-t18 c = search needs
+cast-t18 c = omega (arith, c .before .before .before .before .before .before .before .before .before .before .before .pre)
 
 add-t19 : tie.Need-add-t19
-add-t19 c = search needs
+add-t19 c = omega (arith, c .before .before .before .before .before .before .before .before .before .before .before .pre)
 
 returns : tie.Need-returns
 returns c =

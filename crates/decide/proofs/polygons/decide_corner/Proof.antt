@@ -5,8 +5,8 @@ use borrow.Author.Needs.{needs}
 use Rattle.decide.proofs.polygons.decide_corner.Statement.{statement}
 use Rattle.decide.proofs.polygons.decide_corner.Tie as tie
 
-find-or-add-requires : tie.Need-find-or-add-requires
-find-or-add-requires c κs = search needs
+vertex-index-requires : tie.Need-vertex-index-requires
+vertex-index-requires c κs = search needs
 
 enum-known-known : tie.Need-enum-known-known
 enum-known-known c = search needs
@@ -18,10 +18,10 @@ same-length : tie.Need-same-length
 same-length c = search needs
 
 returns : tie.Need-returns
-returns c = corner-no-area _ _ _ _ _ _ _ _ _ _ (c .before .before .before .before .before .before .before .before .before .before .before .pre .0) (c .before .before .before .before .before .before .before .before .before .before .before .pre .1) _ (c .before .before .before .before .before .before .before .before .find-or-add .ensures) _ _ (c .before .before .before .before .known .given .1) _ _ (c .before .ensure-edge .ensures) (c .if1 .taken)
+returns c = corner-no-area _ _ _ _ _ _ _ _ _ _ (c .before .before .before .before .before .before .before .before .before .before .before .pre .0) (c .before .before .before .before .before .before .before .before .before .before .before .pre .1) _ (c .before .before .before .before .before .before .before .before .vertex-index .ensures) _ _ (c .before .before .before .before .known .given .1) _ _ (c .before .ensure-edge .ensures) (c .if1 .taken)
 
 cast-work : tie.Need-cast-work
-cast-work c = omega (arith, number-le _ _ _ _ _ (c .before .before .before .before .before .before .before .before .before .before .before .args .had) _ _ 0 0 (c .before .before .before .before .before .before .before .before .before .before .before .pre .0) (c .before .before .before .before .before .before .before .before .before .before .before .pre .1) _ (c .before .before .before .before .before .before .before .before .find-or-add .ensures) _ _ (c .before .before .before .before .known .given .1))
+cast-work c = omega (arith, number-le _ _ _ _ _ (c .before .before .before .before .before .before .before .before .before .before .before .args .had) _ _ 0 0 (c .before .before .before .before .before .before .before .before .before .before .before .pre .0) (c .before .before .before .before .before .before .before .before .before .before .before .pre .1) _ (c .before .before .before .before .before .before .before .before .vertex-index .ensures) _ _ (c .before .before .before .before .known .given .1))
 
 mul-work : tie.Need-mul-work
 mul-work c = search needs
@@ -45,19 +45,19 @@ same-length-2 : tie.Need-same-length-2
 same-length-2 c = search needs
 
 returns-2 : tie.Need-returns-2
-returns-2 c = corner-fine _ _ _ _ _ _ _ _ _ _ (c .before .before .before .before .before .before .before .before .before .before .before .pre .0) (c .before .before .before .before .before .before .before .before .before .before .before .pre .1) _ (c .before .before .before .before .before .before .before .before .find-or-add .ensures) _ _ (c .before .before .before .before .known .given .1) _ _ (c .before .ensure-edge .ensures) (c .if1 .left)
+returns-2 c = corner-fine _ _ _ _ _ _ _ _ _ _ (c .before .before .before .before .before .before .before .before .before .before .before .pre .0) (c .before .before .before .before .before .before .before .before .before .before .before .pre .1) _ (c .before .before .before .before .before .before .before .before .vertex-index .ensures) _ _ (c .before .before .before .before .known .given .1) _ _ (c .before .ensure-edge .ensures) (c .if1 .left)
 
 same-length-3 : tie.Need-same-length-3
 same-length-3 c = search needs
 
 returns-3 : tie.Need-returns-3
-returns-3 c = corner-no-vertex _ _ _ _ _ _ _ _ _ _ (c .before .before .before .before .before .before .before .pre .0) (c .before .before .before .before .before .before .before .pre .1) _ (c .before .before .before .before .find-or-add .ensures) (c .enum-told .given .1)
+returns-3 c = corner-no-vertex _ _ _ _ _ _ _ _ _ _ (c .before .before .before .before .before .before .before .pre .0) (c .before .before .before .before .before .before .before .pre .1) _ (c .before .before .before .before .vertex-index .ensures) (c .enum-told .given .1)
 
 pub decide-corner-spec : {M : Type 1} → statement M
 decide-corner-spec =
     tie.close
     (tie.spec
-    find-or-add-requires
+    vertex-index-requires
     enum-known-known
     ensure-edge-requires
     same-length

@@ -10,10 +10,10 @@ use Rattle.decide.proofs.polygons.decide_polygons.Statement.{statement}
 use Rattle.decide.proofs.polygons.decide_polygons.Tie as tie
 
 abbrev Inv-loop : tie.InvT-loop
-Inv-loop strip n frame work₀ ids₀ buckets room tables₀ at₀ start₀ links₀ i₀ work ids tables at start links i = Onward strip (frame .lo) (frame .size) n buckets room tables₀ work₀ ids₀ work ids tables at start links i
+Inv-loop strip n «bb_min» «bb_size» work₀ ids₀ buckets room tables₀ at₀ start₀ links₀ i₀ work ids tables at start links i = Onward strip «bb_min» «bb_size» n buckets room tables₀ work₀ ids₀ work ids tables at start links i
 
 abbrev μ-loop : tie.MeasureT-loop
-μ-loop strip n frame work₀ ids₀ buckets room tables₀ at₀ start₀ links₀ i₀ work ids tables at start links i = n - i
+μ-loop strip n «bb_min» «bb_size» work₀ ids₀ buckets room tables₀ at₀ start₀ links₀ i₀ work ids tables at start links i = n - i
 
 loop-holds : tie.Need-loop-holds Inv-loop μ-loop
 loop-holds c = begin _ _ _ _ _ _ _ _ _ (c .before .before .pre .0) (c .before .before .pre .2)

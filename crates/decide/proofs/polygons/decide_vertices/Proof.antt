@@ -8,10 +8,10 @@ use Rattle.decide.proofs.polygons.decide_vertices.Statement.{statement}
 use Rattle.decide.proofs.polygons.decide_vertices.Tie as tie
 
 abbrev Inv-loop : tie.InvT-loop
-Inv-loop strip frame work₀ ids₀ buckets room start vertices edges v₀ e₀ tables₀ i₀ work ids v e tables i = Going strip (frame .lo) (frame .size) vertices edges v₀ e₀ buckets room start tables₀ work₀ ids₀ work ids tables v e i
+Inv-loop strip «bb_min» «bb_size» work₀ ids₀ buckets room start vertices edges v₀ e₀ tables₀ i₀ work ids v e tables i = Going strip «bb_min» «bb_size» vertices edges v₀ e₀ buckets room start tables₀ work₀ ids₀ work ids tables v e i
 
 abbrev μ-loop : tie.MeasureT-loop
-μ-loop strip frame work₀ ids₀ buckets room start vertices edges v₀ e₀ tables₀ i₀ work ids v e tables i = vertices - i
+μ-loop strip «bb_min» «bb_size» work₀ ids₀ buckets room start vertices edges v₀ e₀ tables₀ i₀ work ids v e tables i = vertices - i
 
 loop-holds : tie.Need-loop-holds Inv-loop μ-loop
 loop-holds c = begin _ _ _ _ _ _ _ _ _ _ _ _ _ (c .before .before .pre .3)

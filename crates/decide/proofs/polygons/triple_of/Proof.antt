@@ -33,7 +33,7 @@ add-result-2 c = search needs
 
 returns : tie.Need-returns
 unfolding tripleIn
-returns c = (rw (c .before .before .before .quantise .ensures, c .before .before .before .before .before .before .floats-at .ensures), search needs)
+returns c = (rw (c .before .before .before .quantise .ensures, c .before .before .before .before .floats-at .ensures), search needs)
 
 pub triple-of-spec : {M : Type 1} → statement M
 triple-of-spec =

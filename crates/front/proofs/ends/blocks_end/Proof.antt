@@ -7,7 +7,7 @@ use native.Mathlib.Nat.{zero-add}
 use denote.Ref.{now}
 use Rattle.pages.specs.Optional.{sizeOf}
 use Rattle.pages.specs.Sectors.{depthBy}
-use Rattle.front.specs.Ends.{sum, reached, sizesBy}
+use Rattle.front.specs.Ends.{sumOf, reached, sizesBy}
 use Rattle.front.specs.declared.ends.Reach.{Reach}
 use Rattle.front.proofs.Behind.{joined, begins, onward, within-some, listsReach, behindLists, pages-ends, pages-within, lists-below}
 use Rattle.front.proofs.ends.blocks_end.Statement.{statement}
@@ -67,7 +67,7 @@ returns c =
     let ps : List ℕ = sizeOf (28 * a .d .counts .portals) in
     let ls : List ℕ = sizeOf (2 * a .d .links) in
     let all : c .next-some2 .result ≡ reached (listsReach (a .d .vertices) (a .d .corners) (a .d .counts .polys) (a .d .counts .portals) (a .d .links) t (c .before .before .before .before .before .lists-end .ensures)) (behindLists (a .d .vertices) (a .d .corners) (a .d .counts .polys) (a .d .counts .portals) (a .d .links) t (c .before .before .before .before .before .lists-end .ensures)) = c .next-some2 .ensures ∙ joined _ ps ls (c .before .before .next-some .ensures) ∙ joined _ t (ps ++ ls) (c .before .before .before .before .sectors-end .ensures) in
-    (ap (λ (r : Reach). r .at) all ∙ pages-ends (a .d .vertices) (a .d .corners) (a .d .counts .polys) (a .d .counts .portals) (a .d .links) t (c .before .before .before .before .before .lists-end .ensures), ap (λ (r : Reach). r .bytes) (c .before .before .before .before .sectors-end .ensures) ∙ zero-add (sum t))
+    (ap (λ (r : Reach). r .at) all ∙ pages-ends (a .d .vertices) (a .d .corners) (a .d .counts .polys) (a .d .counts .portals) (a .d .links) t (c .before .before .before .before .before .lists-end .ensures), ap (λ (r : Reach). r .bytes) (c .before .before .before .before .sectors-end .ensures) ∙ zero-add (sumOf t))
 
 pub blocks-end-spec : {M : Type 1} → statement M
 blocks-end-spec =

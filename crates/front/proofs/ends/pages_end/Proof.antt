@@ -19,9 +19,6 @@ add-end c = search needs
 root-box-requires : tie.Need-root-box-requires
 root-box-requires c κs = search needs
 
-shared-slice-read-blocks-end : tie.Need-shared-slice-read-blocks-end
-shared-slice-read-blocks-end c = search needs
-
 mul-blocks-end : tie.Need-mul-blocks-end
 mul-blocks-end c = search needs
 
@@ -47,11 +44,18 @@ part-blocks-end-end-2 : tie.Need-part-blocks-end-end-2
 part-blocks-end-end-2 c = search needs
 
 blocks-end-requires : tie.Need-blocks-end-requires
-blocks-end-requires c κs = planned-small _ _ (c .before .before .before .before .before .before .before .before .before .before .args .d) (c .before .before .before .before .before .before .before .before .before .before .pre) _ (c .before .before .before .before .before .before .tables-end .ensures) _ (c .before .before .before .root-box .ensures)
+blocks-end-requires c κs =
+    let rooted = c .before .before in
+    let ended = rooted .before .before .before .before in
+    let entry = ended .before .before .before .before in
+    planned-small _ _ (entry .args .d) (entry .pre) _ (ended .tables-end .ensures) _ (rooted .root-box .ensures)
 
 returns : tie.Need-returns
 returns c =
-    planned-ends _ _ (c .before .before .before .before .before .before .before .before .before .before .before .args .d) (c .before .before .before .before .before .before .before .before .before .before .before .pre) _ (c .before .before .before .before .before .before .before .tables-end .ensures) _ (c .before .before .before .before .root-box .ensures) (c .blocks-end .ensures .0) (c .blocks-end .ensures .1)
+    let rooted = c .before .before .before in
+    let ended = rooted .before .before .before .before in
+    let entry = ended .before .before .before .before in
+    planned-ends _ _ (entry .args .d) (entry .pre) _ (ended .tables-end .ensures) _ (rooted .root-box .ensures) (c .blocks-end .ensures .0) (c .blocks-end .ensures .1)
 
 pub pages-end-spec : {M : Type 1} → statement M
 pages-end-spec =
@@ -62,7 +66,6 @@ pages-end-spec =
     add-mid
     add-end
     root-box-requires
-    shared-slice-read-blocks-end
     mul-blocks-end
     sub-blocks-end
     part-blocks-end-start

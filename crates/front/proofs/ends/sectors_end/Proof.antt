@@ -1,20 +1,23 @@
 -- `front::ends::sectors_end` meets its contract. Assumes nothing.
 use native.Mathlib.Omega.{arith}
-use Rattle.quadtree.proofs.Widths.{depth-two, depth-none}
 use Rattle.front.proofs.ends.sectors_end.Statement.{statement}
 use Rattle.front.proofs.ends.sectors_end.Tie as tie
 
+depth-of-requires : tie.Need-depth-of-requires
+depth-of-requires c κs = tt
+
+leaf-count-requires : tie.Need-leaf-count-requires
+leaf-count-requires c κs = c .depth-of .ensures .1
+
 tree-end-requires : tie.Need-tree-end-requires
-tree-end-requires c κs = (omega arith, omega arith, rw (depth-two _ (c .if1 .taken)) at (c .before .before .before .pre))
+tree-end-requires c κs =
+    let depth = c .before in
+    let s = depth .before .before .before in
+    let width = c .leaf-count .ensures in
+    (width .0, omega (arith, width .0, width .1), rw (depth .depth-of .ensures .0) (s .pre))
 
 returns : tie.Need-returns
-returns c = rw (depth-two _ (c .before .if1 .taken)) (c .tree-end .ensures)
-
-tree-end-requires-2 : tie.Need-tree-end-requires-2
-tree-end-requires-2 c κs = (omega arith, omega arith, rw (depth-none _ (c .if1 .left)) at (c .before .before .before .pre))
-
-returns-2 : tie.Need-returns-2
-returns-2 c = rw (depth-none _ (c .before .if1 .left)) (c .tree-end2 .ensures)
+returns c = rw (c .before .before .depth-of .ensures .0) at (c .tree-end .ensures)
 
 pub sectors-end-spec : {M : Type 1} → statement M
-sectors-end-spec = tie.close (tie.spec tree-end-requires returns tree-end-requires-2 returns-2)
+sectors-end-spec = tie.close (tie.spec depth-of-requires leaf-count-requires tree-end-requires returns)

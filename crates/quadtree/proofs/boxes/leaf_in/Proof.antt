@@ -22,7 +22,7 @@ returns-2 : tie.Need-returns-2
 returns-2 c =
     first-past _ _ (c .before .before .before .sub-of .ensures .0) (c .before .before .if1 .left)
     (first-within _ _ (c .before .sub-of2 .ensures .0) (c .if2 .taken))
-    refl
+    (omega arith)
 
 sub-of-requires-3 : tie.Need-sub-of-requires-3
 sub-of-requires-3 c κs = tt

@@ -7,12 +7,14 @@ use lib.ListN.{length}
 use denote.Ref.{now}
 use Rattle.quantise.specs.declared.quarter.QuarterBox.{QuarterBox}
 use Rattle.quantise.specs.declared.bounds.Aabb.{Aabb}
-use Rattle.strip.specs.Cell.{Point}
-use Rattle.strip.specs.declared.Refusal.{Refusal}
-use Rattle.pages.specs.Sectors.{idsOf, sub0, sub1, sub2, leafCounts}
-use Rattle.quadtree.specs.Work.{boxesIn, pickedFrom, treeBy, Tells}
+use Rattle.strip.specs.Cell.{NavPoint}
+use Rattle.quadtree.specs.declared.leaves.LeafCheck.{LeafCheck}
+use Rattle.quadtree.specs.declared.leaves.LeafCheck.the-variants as LeafCheck
+use Rattle.pages.specs.Sectors.{leafIds, sub0, sub1, sub2, leafCounts}
+use Rattle.quadtree.specs.Work.{boxesIn, pickedFrom, treeBy, FirstRefused}
 use Rattle.quadtree.proofs.Widths.{down, quarter-width, quarter-room}
 use Rattle.quadtree.proofs.Tellings.{stop0, stop1, stop2, last3}
+use borrow.Author.Needs.{needs}
 use borrow.Fn.Kinds.{In}
 use borrow.Fn.PlainCycle.{Measures, is, falls, and}
 use Rattle.quadtree.proofs.leaves.check_from.Reads as check-from
@@ -58,25 +60,25 @@ module _ (t : ℕ) where
   some c = c .before .if1 .left
 
   -- of the points ts with the leaves that are lent
-  abbrev Of : Begin → List Point → Type 0
-  Of s ts = length ts ≡ length (now (s .args .leafs))
+  abbrev Of : Begin → List NavPoint → Type 0
+  Of s ts = length ts ≡ length (now (s .args .leaf-numbers))
 
   abbrev idsIn : Begin → QuarterBox → List ℕ
-  idsIn s q = idsOf q 0 (boxesIn (now (s .args .boxes)))
+  idsIn s q = leafIds q 0 (boxesIn (now (s .args .boxes)))
 
-  abbrev storedIn : Begin → List Point → ℕ → List Point
-  storedIn s ts k = pickedFrom (now (s .args .leafs)) k 0 ts
+  abbrev storedIn : Begin → List NavPoint → ℕ → List NavPoint
+  storedIn s ts k = pickedFrom (now (s .args .leaf-numbers)) k 0 ts
 
   -- what an answer tells of the leaves, `d` splits below b
-  abbrev Told : Begin → List Point → ℕ → Refusal → ℕ → Aabb → Type 0
-  Told s ts d r k b = Tells r k (leafCounts (treeBy (now (s .args .boxes)) (now (s .args .leafs)) ts d k b))
+  abbrev Told : Begin → List NavPoint → ℕ → LeafCheck → ℕ → Aabb → Type 0
+  Told s ts d r k b = FirstRefused r k (leafCounts (treeBy (now (s .args .boxes)) (now (s .args .leaf-numbers)) ts d k b))
 
-  told-at : (s : Begin) (ts : List Point) (r : Refusal) {j k : ℕ} {b c : Aabb} → j ≡ k → b ≡ c → Told s ts (s .args .depth - 1) r j b → Told s ts (s .args .depth - 1) r k c
+  told-at : (s : Begin) (ts : List NavPoint) (r : LeafCheck) {j k : ℕ} {b c : Aabb} → j ≡ k → b ≡ c → Told s ts (s .args .depth - 1) r j b → Told s ts (s .args .depth - 1) r k c
   told-at s ts r {j} {k} {b} {c} e f h =
       subst (λ (i : ℕ). Told s ts (s .args .depth - 1) r i c) e (subst (λ (a : Aabb). Told s ts (s .args .depth - 1) r j a) f h)
 
   -- one split down is the whole
-  told-up : (s : Begin) (ts : List Point) (r : Refusal) → (s .args .depth ≡ 0 → ⊥) → Told s ts (suc (s .args .depth - 1)) r (s .args .leaf) (s .args .b)
+  told-up : (s : Begin) (ts : List NavPoint) (r : LeafCheck) → (s .args .depth ≡ 0 → ⊥) → Told s ts (suc (s .args .depth - 1)) r (s .args .leaf) (s .args .b)
       → Told s ts (s .args .depth) r (s .args .leaf) (s .args .b)
   told-up s ts r h g = subst (λ (n : ℕ). Told s ts n r (s .args .leaf) (s .args .b)) (sym (down (s .args .depth) h)) g
 
@@ -91,20 +93,20 @@ module _ (t : ℕ) where
   asked s h =
       (omega (arith, s .pre .0, down (s .args .depth) h), wide s h, quarter-room (s .args .width) (s .args .depth) (s .pre .1 .0) h (s .args .leaf) (s .pre .1 .1))
 
-  told0 : (c : C1) (ts : List Point) → let s = start (c .before) in Of s ts → Told s ts (d s) (c .check-from .result) (s .args .leaf) (sub0 (s .args .b))
-  told0 c ts l = told-at (start (c .before)) ts _ refl (c .before .split .ensures .0) (c .check-from .ensures ts l)
+  told0 : (c : C1) (ts : List NavPoint) → let s = start (c .before) in Of s ts → Told s ts (d s) (c .check-from .result) (s .args .leaf) (sub0 (s .args .b))
+  told0 c ts l = told-at (start (c .before)) ts (c .check-from .result) refl (c .before .split .ensures .0) (c .check-from .ensures ts l)
 
-  told1 : (c : C2) (ts : List Point) → let s = start (c .before .before .before .before) in Of s ts → Told s ts (d s) (c .check-from2 .result) (s .args .leaf + 4 ^ d s) (sub1 (s .args .b))
+  told1 : (c : C2) (ts : List NavPoint) → let s = start (c .before .before .before .before) in Of s ts → Told s ts (d s) (c .check-from2 .result) (s .args .leaf + 4 ^ d s) (sub1 (s .args .b))
   told1 c ts l =
       let k = c .before .before .before .before in
       let e = wide (start k) (some k) in
-      told-at (start k) ts _ (omega arith) (k .split .ensures .1) (c .check-from2 .ensures ts l)
+      told-at (start k) ts (c .check-from2 .result) (omega arith) (k .split .ensures .1) (c .check-from2 .ensures ts l)
 
-  told2 : (c : C3) (ts : List Point) → let s = start (c .before .before .before .before .before .before .before) in Of s ts → Told s ts (d s) (c .check-from3 .result) (s .args .leaf + 2 * 4 ^ d s) (sub2 (s .args .b))
+  told2 : (c : C3) (ts : List NavPoint) → let s = start (c .before .before .before .before .before .before .before) in Of s ts → Told s ts (d s) (c .check-from3 .result) (s .args .leaf + 2 * 4 ^ d s) (sub2 (s .args .b))
   told2 c ts l =
       let k = c .before .before .before .before .before .before .before in
       let e = wide (start k) (some k) in
-      told-at (start k) ts _ (omega arith) (k .split .ensures .2) (c .check-from3 .ensures ts l)
+      told-at (start k) ts (c .check-from3 .result) (omega arith) (k .split .ensures .2) (c .check-from3 .ensures ts l)
 
 check-from-check-leaf-requires : (t : ℕ) → check-from-lts.Need-check-leaf-requires (calls t) (check-from-at t) check-from.Post
 check-from-check-leaf-requires t c κs =
@@ -128,11 +130,20 @@ check-from-check-from-requires t c κs =
     let a = asked t (start t c) (some t c) in
     (a .0, (a .1, omega (arith, a .2)))
 
+check-from-enum-known-r0 : (t : ℕ) → check-from-lts.Need-enum-known-r0 (calls t) (check-from-at t) check-from.Post
+check-from-enum-known-r0 t c =
+    search needs
+
 check-from-returns-2 : (t : ℕ) → check-from-lts.Need-returns-2 (calls t) (check-from-at t) check-from.Post
 check-from-returns-2 t c ts l =
-    let k = c .before .before .before in
+    let q0 = c .before .before .before in
+    let k = q0 .before in
     let s = start t k in
-    told-up t s ts _ (some t k) (stop0 (idsIn t s) (storedIn t s ts) (d t s) (s .args .leaf) (s .args .b) _ (told0 t (c .before .before) ts l) (c .if2 .taken))
+    told-up t s ts (LeafCheck.Refused (c .before .r0 .given .0 .0)) (some t k) (stop0 (idsIn t s) (storedIn t s ts) (d t s) (s .args .leaf) (s .args .b) _ (told0 t q0 ts l) _ (c .before .r0 .given .1))
+
+check-from-enum-told : (t : ℕ) → check-from-lts.Need-enum-told (calls t) (check-from-at t) check-from.Post
+check-from-enum-told t c =
+    search needs
 
 check-from-add-check-from : (t : ℕ) → check-from-lts.Need-add-check-from (calls t) (check-from-at t) check-from.Post
 check-from-add-check-from t c =
@@ -148,13 +159,25 @@ check-from-check-from-requires-2 t c κs =
     let a = asked t s (some t k) in
     (a .0, (a .1, omega (arith, a .2)))
 
+check-from-enum-known-r1 : (t : ℕ) → check-from-lts.Need-enum-known-r1 (calls t) (check-from-at t) check-from.Post
+check-from-enum-known-r1 t c =
+    search needs
+
 check-from-returns-3 : (t : ℕ) → check-from-lts.Need-returns-3 (calls t) (check-from-at t) check-from.Post
 check-from-returns-3 t c ts l =
-    let k = c .before .before .before .before .before .before in
+    let q1 = c .before .before .before in
+    let p0 = q1 .before in
+    let q0 = p0 .before .before in
+    let k = q0 .before in
     let s = start t k in
-    let q = c .before .before in
-    let q0 = c .before .before .before .before .before in
-    told-up t s ts _ (some t k) (stop1 (idsIn t s) (storedIn t s ts) (d t s) (s .args .leaf) (s .args .b) _ (told0 t q0 ts l) (c .before .before .before .if2 .left) _ (told1 t q ts l) (c .if3 .taken))
+    told-up t s ts (LeafCheck.Refused (c .before .r1 .given .0 .0)) (some t k)
+    (stop1 (idsIn t s) (storedIn t s ts) (d t s) (s .args .leaf) (s .args .b)
+    _ (told0 t q0 ts l) (p0 .enum-told .given .1)
+    _ (told1 t q1 ts l) _ (c .before .r1 .given .1))
+
+check-from-enum-told-2 : (t : ℕ) → check-from-lts.Need-enum-told-2 (calls t) (check-from-at t) check-from.Post
+check-from-enum-told-2 t c =
+    search needs
 
 check-from-mul-check-from : (t : ℕ) → check-from-lts.Need-mul-check-from (calls t) (check-from-at t) check-from.Post
 check-from-mul-check-from t c =
@@ -177,14 +200,28 @@ check-from-check-from-requires-3 t c κs =
     let a = asked t s (some t k) in
     (a .0, (a .1, omega (arith, a .2)))
 
+check-from-enum-known-r2 : (t : ℕ) → check-from-lts.Need-enum-known-r2 (calls t) (check-from-at t) check-from.Post
+check-from-enum-known-r2 t c =
+    search needs
+
 check-from-returns-4 : (t : ℕ) → check-from-lts.Need-returns-4 (calls t) (check-from-at t) check-from.Post
 check-from-returns-4 t c ts l =
-    let k = c .before .before .before .before .before .before .before .before .before in
+    let q2 = c .before .before .before in
+    let p1 = q2 .before in
+    let q1 = p1 .before .before in
+    let p0 = q1 .before in
+    let q0 = p0 .before .before in
+    let k = q0 .before in
     let s = start t k in
-    let q2 = c .before .before in
-    let q1 = c .before .before .before .before .before in
-    let q0 = c .before .before .before .before .before .before .before .before in
-    told-up t s ts _ (some t k) (stop2 (idsIn t s) (storedIn t s ts) (d t s) (s .args .leaf) (s .args .b) _ (told0 t q0 ts l) (c .before .before .before .before .before .before .if2 .left) _ (told1 t q1 ts l) (c .before .before .before .if3 .left) _ (told2 t q2 ts l) (c .if4 .taken))
+    told-up t s ts (LeafCheck.Refused (c .before .r2 .given .0 .0)) (some t k)
+    (stop2 (idsIn t s) (storedIn t s ts) (d t s) (s .args .leaf) (s .args .b)
+    _ (told0 t q0 ts l) (p0 .enum-told .given .1)
+    _ (told1 t q1 ts l) (p1 .enum-told2 .given .1)
+    _ (told2 t q2 ts l) _ (c .before .r2 .given .1))
+
+check-from-enum-told-3 : (t : ℕ) → check-from-lts.Need-enum-told-3 (calls t) (check-from-at t) check-from.Post
+check-from-enum-told-3 t c =
+    search needs
 
 check-from-mul-check-from-2 : (t : ℕ) → check-from-lts.Need-mul-check-from-2 (calls t) (check-from-at t) check-from.Post
 check-from-mul-check-from-2 t c =
@@ -209,13 +246,21 @@ check-from-check-from-requires-4 t c κs =
 
 check-from-returns-5 : (t : ℕ) → check-from-lts.Need-returns-5 (calls t) (check-from-at t) check-from.Post
 check-from-returns-5 t c ts l =
-    let k = c .before .before .before .before .before .before .before .before .before .before in
+    let p2 = c .before in
+    let q2 = p2 .before .before in
+    let p1 = q2 .before in
+    let q1 = p1 .before .before in
+    let p0 = q1 .before in
+    let q0 = p0 .before .before in
+    let k = q0 .before in
     let s = start t k in
-    let q2 = c .before .before .before in
-    let q1 = c .before .before .before .before .before .before in
-    let q0 = c .before .before .before .before .before .before .before .before .before in
     let e = wide t s (some t k) in
-    told-up t s ts _ (some t k) (last3 (idsIn t s) (storedIn t s ts) (d t s) (s .args .leaf) (s .args .b) _ (told0 t q0 ts l) (c .before .before .before .before .before .before .before .if2 .left) _ (told1 t q1 ts l) (c .before .before .before .before .if3 .left) _ (told2 t q2 ts l) (c .before .if4 .left) _ (told-at t s ts _ (omega arith) (k .split .ensures .3) (c .check-from4 .ensures ts l)))
+    told-up t s ts (c .check-from4 .result) (some t k)
+    (last3 (idsIn t s) (storedIn t s ts) (d t s) (s .args .leaf) (s .args .b)
+    _ (told0 t q0 ts l) (p0 .enum-told .given .1)
+    _ (told1 t q1 ts l) (p1 .enum-told2 .given .1)
+    _ (told2 t q2 ts l) (p2 .enum-told3 .given .1)
+    (c .check-from4 .result) (told-at t s ts (c .check-from4 .result) (omega arith) (k .split .ensures .3) (c .check-from4 .ensures ts l)))
 
 pub +check-from-spec : {M : Type 1} → statement M
 +check-from-spec = close μ-check-from λ t. check-from-lts.spec (calls t)
@@ -226,14 +271,20 @@ pub +check-from-spec : {M : Type 1} → statement M
     (check-from-sub-d t)
     (check-from-split-requires t)
     (check-from-check-from-requires t)
+    (check-from-enum-known-r0 t)
     (check-from-returns-2 t)
+    (check-from-enum-told t)
     (check-from-add-check-from t)
     (check-from-check-from-requires-2 t)
+    (check-from-enum-known-r1 t)
     (check-from-returns-3 t)
+    (check-from-enum-told-2 t)
     (check-from-mul-check-from t)
     (check-from-add-check-from-2 t)
     (check-from-check-from-requires-3 t)
+    (check-from-enum-known-r2 t)
     (check-from-returns-4 t)
+    (check-from-enum-told-3 t)
     (check-from-mul-check-from-2 t)
     (check-from-add-check-from-3 t)
     (check-from-check-from-requires-4 t)

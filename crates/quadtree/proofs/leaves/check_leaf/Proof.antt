@@ -4,7 +4,7 @@ use mathlib.Core.List.{List}
 use native.Mathlib.Omega.{arith}
 use lib.ListN.{length}
 use denote.Ref.{now}
-use Rattle.strip.specs.Cell.{Point}
+use Rattle.strip.specs.Cell.{NavPoint}
 use Rattle.pages.specs.Sectors.{grown, leafCounts}
 use Rattle.quadtree.specs.Work.{countIn, pickedFrom}
 use Rattle.quadtree.proofs.Picks.{count-picked}
@@ -29,9 +29,9 @@ abbrev start : Ids → Begin
 start c = c .before .before .before
 
 -- the points that are counted are the leaf's
-points-count : (s : Begin) (ts : List Point) → length ts ≡ length (now (s .args .leafs))
-    → countIn (now (s .args .leafs)) (s .args .leaf) 0 (length (now (s .args .leafs))) ≡ length (pickedFrom (now (s .args .leafs)) (s .args .leaf) 0 ts)
-points-count s ts l = ap (countIn (now (s .args .leafs)) (s .args .leaf) 0) (sym l) ∙ count-picked (now (s .args .leafs)) (s .args .leaf) 0 ts
+points-count : (s : Begin) (ts : List NavPoint) → length ts ≡ length (now (s .args .leaf-numbers))
+    → countIn (now (s .args .leaf-numbers)) (s .args .leaf) 0 (length (now (s .args .leaf-numbers))) ≡ length (pickedFrom (now (s .args .leaf-numbers)) (s .args .leaf) 0 ts)
+points-count s ts l = ap (countIn (now (s .args .leaf-numbers)) (s .args .leaf) 0) (sym l) ∙ count-picked (now (s .args .leaf-numbers)) (s .args .leaf) 0 ts
 
 leaf-ids-requires : tie.Need-leaf-ids-requires
 leaf-ids-requires c κs = tt

@@ -5,21 +5,21 @@ use Prim.Native.Nat.{_+_, _-_, _*_, _/_, _≤_}
 use native.Mathlib.Omega.{arith}
 use lib.ListN.{length}
 use denote.Ref.{now}
-use Rattle.pages.specs.Sectors.{meets, idsOf}
-use Rattle.quadtree.specs.Work.{boxBy, boxAt, boxesAt, boxesIn}
+use Rattle.pages.specs.Sectors.{meets, leafIds}
+use Rattle.quadtree.specs.Work.{boxAt, boxesAt, boxesIn}
 use Rattle.quadtree.proofs.Picks.{keep-one, count-ids-turn, ids-end}
 use Rattle.quadtree.proofs.leaves.count_ids.Statement.{statement}
 use Rattle.quadtree.proofs.leaves.count_ids.Tie as tie
 
 abbrev Inv-loop : tie.InvT-loop
-Inv-loop boxes qx qy polys n₀ i₀ n i =
+Inv-loop boxes q polys n₀ i₀ n i =
     (polys ≡ length boxes / 3)
     × (i ≤ polys)
     × (n ≤ i)
-    × (n + length (idsOf (boxBy qx qy 0) i (boxesAt boxes (3 * i) (polys - i))) ≡ length (idsOf (boxBy qx qy 0) 0 (boxesIn boxes)))
+    × (n + length (leafIds (q) i (boxesAt boxes (3 * i) (polys - i))) ≡ length (leafIds (q) 0 (boxesIn boxes)))
 
 abbrev μ-loop : tie.MeasureT-loop
-μ-loop boxes qx qy polys n₀ i₀ n i = polys - i
+μ-loop boxes q polys n₀ i₀ n i = polys - i
 
 loop-holds : tie.Need-loop-holds Inv-loop μ-loop
 loop-holds c =
@@ -52,7 +52,7 @@ loop-again : tie.Need-loop-again Inv-loop μ-loop
 loop-again c =
     let t = c .before .before .before in
     let a = t .before .before .args in
-    let q = boxBy (a .qx) (a .qy) 0 in
+    let q = a .q in
     let b = meets q (boxAt (now (a .boxes)) (3 * t .loop .i)) in
     let o : c .one-if .result ≡ cond b 1 0 = rw (c .before .meets-at .ensures) at (c .one-if .ensures) in
     let e = count-ids-turn (now (a .boxes)) q (t .loop .i) (length (now (a .boxes)) / 3) (omega arith) in
@@ -63,7 +63,7 @@ returns : tie.Need-returns Inv-loop μ-loop
 returns c =
     let t = c .before in
     let a = t .before .before .args in
-    let e = ap length (ids-end (now (a .boxes)) (boxBy (a .qx) (a .qy) 0) (t .loop .i) (length (now (a .boxes)) / 3) (omega arith)) in
+    let e = ap length (ids-end (now (a .boxes)) (a .q) (t .loop .i) (length (now (a .boxes)) / 3) (omega arith)) in
     let v = rw (t .loop .inv .0) at (t .loop .inv .3) in
     omega arith
 

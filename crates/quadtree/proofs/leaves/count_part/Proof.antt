@@ -11,10 +11,10 @@ use Rattle.quadtree.proofs.leaves.count_part.Statement.{statement}
 use Rattle.quadtree.proofs.leaves.count_part.Tie as tie
 
 abbrev Inv-loop : tie.InvT-loop
-Inv-loop leafs k from to n₀ i₀ n i = (i ≤ to) × (from + n ≤ i) × (n + countIn leafs k i (to - i) ≡ countIn leafs k from (to - from))
+Inv-loop numbers k from to n₀ i₀ n i = (i ≤ to) × (from + n ≤ i) × (n + countIn numbers k i (to - i) ≡ countIn numbers k from (to - from))
 
 abbrev μ-loop : tie.MeasureT-loop
-μ-loop leafs k from to n₀ i₀ n i = to - i
+μ-loop numbers k from to n₀ i₀ n i = to - i
 
 loop-holds : tie.Need-loop-holds Inv-loop μ-loop
 loop-holds c = (omega arith, omega arith, omega arith)
@@ -29,7 +29,7 @@ one-if-requires : tie.Need-one-if-requires Inv-loop μ-loop
 one-if-requires c κs = tt
 
 add-n : tie.Need-add-n Inv-loop μ-loop
-add-n c = omega (arith, c .one-if .ensures, keep-one (eqb (getD (now (c .before .before .before .before .before .args .leafs)) (c .before .before .before .loop .i) 0) (c .before .before .before .before .before .args .k)))
+add-n c = omega (arith, c .one-if .ensures, keep-one (eqb (getD (now (c .before .before .before .before .before .args .leaf-numbers)) (c .before .before .before .loop .i) 0) (c .before .before .before .before .before .args .k)))
 
 add-i : tie.Need-add-i Inv-loop μ-loop
 add-i c = omega arith
@@ -41,7 +41,7 @@ loop-again : tie.Need-loop-again Inv-loop μ-loop
 loop-again c =
     let t = c .before .before .before in
     let a = t .before .before .args in
-    let w = now (a .leafs) in
+    let w = now (a .leaf-numbers) in
     let e = count-turn w (a .k) (t .loop .i) (a .to) (omega arith) in
     let k = keep-one (eqb (getD w (t .loop .i) 0) (a .k)) in
     (omega arith, omega (arith, c .one-if .ensures), omega (arith, c .one-if .ensures))
@@ -50,7 +50,7 @@ returns : tie.Need-returns Inv-loop μ-loop
 returns c =
     let t = c .before in
     let a = t .before .before .args in
-    let e = count-end (now (a .leafs)) (a .k) (t .loop .i) (a .to) (omega arith) in
+    let e = count-end (now (a .leaf-numbers)) (a .k) (t .loop .i) (a .to) (omega arith) in
     omega arith
 
 pub count-part-spec : {M : Type 1} → statement M

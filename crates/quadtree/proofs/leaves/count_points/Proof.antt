@@ -10,14 +10,14 @@ use Rattle.quadtree.proofs.leaves.count_points.Statement.{statement}
 use Rattle.quadtree.proofs.leaves.count_points.Tie as tie
 
 abbrev Inv-loop : tie.InvT-loop
-Inv-loop leafs k n₀ i₀ n i = (i ≤ length leafs) × (n ≤ i) × (n + countIn leafs k i (length leafs - i) ≡ countIn leafs k 0 (length leafs))
+Inv-loop numbers k n₀ i₀ n i = (i ≤ length numbers) × (n ≤ i) × (n + countIn numbers k i (length numbers - i) ≡ countIn numbers k 0 (length numbers))
 
 abbrev μ-loop : tie.MeasureT-loop
-μ-loop leafs k n₀ i₀ n i = length leafs - i
+μ-loop numbers k n₀ i₀ n i = length numbers - i
 
 loop-holds : tie.Need-loop-holds Inv-loop μ-loop
 loop-holds c =
-    let n = length (now (c .before .args .leafs)) in
+    let n = length (now (c .before .args .leaf-numbers)) in
     let e : n - 0 ≡ n = omega arith in
     (omega arith, omega arith, rw e (omega arith))
 
@@ -34,7 +34,7 @@ add-n : tie.Need-add-n Inv-loop μ-loop
 add-n c =
     let t = c .before .before .before in
     let a = t .before .before .args in
-    omega (arith, c .count-part .ensures, count-few (now (a .leafs)) (a .k) (t .loop .i) (c .before .part-end .result - t .loop .i))
+    omega (arith, c .count-part .ensures, count-few (now (a .leaf-numbers)) (a .k) (t .loop .i) (c .before .part-end .result - t .loop .i))
 
 loop-less : tie.Need-loop-less Inv-loop μ-loop
 loop-less c = omega arith
@@ -43,7 +43,7 @@ loop-again : tie.Need-loop-again Inv-loop μ-loop
 loop-again c =
     let t = c .before .before .before in
     let a = t .before .before .args in
-    let w = now (a .leafs) in
+    let w = now (a .leaf-numbers) in
     let j = c .before .part-end .result in
     let e = count-next w (a .k) (t .loop .i) j (length w) (omega arith) (omega arith) in
     let m = count-few w (a .k) (t .loop .i) (j - t .loop .i) in
@@ -53,7 +53,7 @@ returns : tie.Need-returns Inv-loop μ-loop
 returns c =
     let t = c .before in
     let a = t .before .before .args in
-    let e = count-end (now (a .leafs)) (a .k) (t .loop .i) (length (now (a .leafs))) (omega arith) in
+    let e = count-end (now (a .leaf-numbers)) (a .k) (t .loop .i) (length (now (a .leaf-numbers))) (omega arith) in
     omega arith
 
 pub count-points-spec : {M : Type 1} → statement M

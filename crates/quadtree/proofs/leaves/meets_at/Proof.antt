@@ -1,7 +1,11 @@
 -- `quadtree::leaves::meets_at` meets its contract. Assumes nothing.
-use mathlib.Core.Path.{sym, _∙_}
+use Prim.Native.Nat.{_+_}
+use mathlib.Core.Path.{_≡_, sym, _∙_}
+use lib.ListN.{getD}
 use denote.Ref.{now}
-use Rattle.quadtree.proofs.Picks.{meets-yes, meets-no}
+use mir.Syntax.{w16}
+use mir.ValLaws.{toZ-ofZ}
+use Rattle.quadtree.proofs.Picks.{axisOf, meets-yes, meets-no}
 use borrow.Author.Needs.{needs}
 use Rattle.quadtree.proofs.leaves.meets_at.Statement.{statement}
 use Rattle.quadtree.proofs.leaves.meets_at.Tie as tie
@@ -27,15 +31,29 @@ shared-slice-read-axis-meets-2 c = search needs
 axis-meets-requires-2 : tie.Need-axis-meets-requires-2
 axis-meets-requires-2 c κs = search needs
 
+-- the leaf's sides as the machine reads them
+x-test : (c : tie.After-axis-meets) → let s = c .before .before .before .before .before in
+    c .axis-meets .result ≡ axisOf (s .args .q .«x_min») (s .args .q .«x_max») (getD (now (s .args .boxes)) (s .args .at) 0)
+x-test c =
+    let told = c .before .before .struct-told .given in
+    rw (toZ-ofZ w16 _ (record { sfits = told .0 .1 }), toZ-ofZ w16 _ (record { sfits = told .1 .0 .1 })) at (c .axis-meets .ensures)
+
+y-test : (c : tie.After-axis-meets2) → let s = c .before .before .before .before .before .before .before .before .before .before in
+    c .axis-meets2 .result ≡ axisOf (s .args .q .«y_min») (s .args .q .«y_max») (getD (now (s .args .boxes)) (s .args .at + 1) 0)
+y-test c =
+    let told = c .before .before .struct-told3 .given in
+    rw (toZ-ofZ w16 _ (record { sfits = told .1 .1 .0 .1 }), toZ-ofZ w16 _ (record { sfits = told .1 .1 .1 .0 .1 })) at (c .axis-meets2 .ensures)
+
 returns : tie.Need-returns
 returns c =
-    let s = c .before .before .before .before .before .before in
-    c .axis-meets2 .ensures ∙ sym (meets-yes (now (s .args .boxes)) (s .args .at) (s .args .qx) (s .args .qy) (sym (c .before .before .before .axis-meets .ensures) ∙ c .before .before .if1 .taken))
+    let yes = c .before .before .before .before in
+    let s = yes .before .before .before .before .before .before in
+    y-test c ∙ sym (meets-yes (now (s .args .boxes)) (s .args .at) (s .args .q) (sym (x-test (yes .before)) ∙ yes .if1 .taken))
 
 returns-2 : tie.Need-returns-2
 returns-2 c =
-    let s = c .before .before .before .before in
-    sym (meets-no (now (s .args .boxes)) (s .args .at) (s .args .qx) (s .args .qy) (sym (c .before .axis-meets .ensures) ∙ c .if1 .left))
+    let s = c .before .before .before .before .before .before in
+    sym (meets-no (now (s .args .boxes)) (s .args .at) (s .args .q) (sym (x-test (c .before)) ∙ c .if1 .left))
 
 pub meets-at-spec : {M : Type 1} → statement M
 meets-at-spec =

@@ -2,18 +2,15 @@
 use mathlib.Core.Path.{_≡_, refl, sym, _∙_, ap, subst}
 use Prim.Native.Nat.{ℕ, zero, suc, _^_, _≤_, _<_}
 use native.Mathlib.Omega.{arith}
-use lib.IntN.{ℤ, pos, negsuc, negℤ, _-ℤ_, +ℤ-idl}
+use lib.IntN.{ℤ, pos, negsuc, negℤ, _-ℤ_}
 use mir.Syntax.{w16}
 use mir.Val.{SFits, toZ}
-use mir.ValLaws.{toZ-pos, toZ-ofZ}
+use mir.ValLaws.{toZ-ofZ}
 use borrow.Author.Needs.{needs}
 use Rattle.quantise.specs.Quarter.{saturated}
+use Rattle.quantise.proofs.Quarters.{minus}
 use Rattle.quantise.proofs.quarter.negative.Statement.{statement}
 use Rattle.quantise.proofs.quarter.negative.Tie as tie
-
--- 0 - n at an `i16` is -n
-minus : (n : ℕ) → n < 2 ^ 15 → pos 0 -ℤ toZ w16 n ≡ negℤ (pos n)
-minus n h = ap (λ (z : ℤ). pos 0 -ℤ z) (toZ-pos w16 n h) ∙ +ℤ-idl (negℤ (pos n))
 
 in-range : (n : ℕ) → n < 2 ^ 15 → SFits w16 (negℤ (pos n)) × (negℤ (pos n) ≡ saturated (negℤ (pos n)))
 in-range zero h = (record { sfits = omega arith }, refl)
@@ -27,12 +24,12 @@ cast-result : tie.Need-cast-result
 cast-result c = search needs
 
 sub-result : tie.Need-sub-result
-sub-result c = subst (SFits w16) (sym (minus (c .before .args .n) (c .if1 .taken))) (in-range (c .before .args .n) (c .if1 .taken) .0)
+sub-result c = subst (SFits w16) (sym (minus w16 (c .before .args .n) (c .if1 .taken))) (in-range (c .before .args .n) (c .if1 .taken) .0)
 
 returns : tie.Need-returns
 returns c =
     let n = c .before .args .n in
-    toZ-ofZ w16 (pos 0 -ℤ toZ w16 n) (sub-result c) ∙ minus n (c .if1 .taken) ∙ in-range n (c .if1 .taken) .1
+    toZ-ofZ w16 (pos 0 -ℤ toZ w16 n) (sub-result c) ∙ minus w16 n (c .if1 .taken) ∙ in-range n (c .if1 .taken) .1
 
 returns-2 : tie.Need-returns-2
 returns-2 c = out-of-range (c .before .args .n) (c .if1 .left)

@@ -6,7 +6,13 @@ use Rattle.records.proofs.cell.put_cell.Statement.{statement}
 use Rattle.records.proofs.cell.put_cell.Tie as tie
 
 returns : tie.Need-returns
-returns c = c .before .before .put-vec3 .ensures ∙ rw (c .before .before .before .before .before .before .put-vec2 .ensures, c .before .before .before .before .before .before .before .before .before .before .put-vec .ensures, c .before .before .before .before .before .before .before .before .before .before .before .before .before .before .put-values .ensures) (cell-stored _ _ _)
+returns c =
+    let at-put-vec3 = c .before .before in
+    let at-put-vec2 = at-put-vec3 .before .before .before .before in
+    let at-put-vec = at-put-vec2 .before .before .before .before in
+    let at-put-values = at-put-vec .before .before .before .before in
+    let start = at-put-values .before .before .before .before .before .before in
+    at-put-vec3 .put-vec3 .ensures ∙ rw (at-put-vec2 .put-vec2 .ensures, at-put-vec .put-vec .ensures, at-put-values .put-values .ensures) (cell-stored (start .args .cell) (start .args .strip .now))
 
 pub put-cell-spec : {M : Type 1} → statement M
 put-cell-spec =

@@ -1,4 +1,4 @@
--- `put_values` meets its contract. Two words and three behind them are the record's first five.
+-- `put_values` meets its contract. The first word is the kind.
 use mathlib.Core.Path.{_∙_}
 use Rattle.fields.specs.Rows.{pack}
 use Rattle.records.specs.Words.{valueWords}
@@ -9,16 +9,15 @@ use Rattle.records.proofs.cell.put_values.Tie as tie
 
 returns : tie.Need-returns
 unfolding valueWords pack
-returns c = c .before .before .put3 .ensures ∙ rw (c .before .before .before .before .before .before .put2 .ensures, c .before .before .before .before .before .before .before .before .before .before .before .u32-le .ensures, c .before .before .before .before .before .before .before .before .before .before .u32-le2 .ensures, c .before .before .before .before .before .before .before .before .before .u32-le3 .ensures, c .before .before .before .before .before .before .before .before .u32-le4 .ensures) (values-stored _ _ _ _ _ _)
+returns c =
+    let at-put3 = c .before .before in
+    let at-put2 = at-put3 .before .before .before .before in
+    at-put3 .put3 .ensures ∙ rw (at-put2 .put2 .ensures) (values-stored _ _ _ _ _ _)
 
 pub put-values-spec : {M : Type 1} → statement M
 put-values-spec =
     tie.close
     (tie.spec
-    (λ c κs. search needs)
-    (λ c κs. search needs)
-    (λ c κs. search needs)
-    (λ c κs. search needs)
     (λ c κs. search needs)
     (λ c κs. search needs)
     (λ c. search needs)
