@@ -1,19 +1,25 @@
-/* The verified core of navmesh cells for C: the calls of libynv.a, which `rt staticlib ynv` makes (x86-64).
+/* The verified core of navmesh cells for C: the calls of libynv.a, which `rt staticlib ynv` makes (x86-64 Linux).
+ * C99, C11 and C++.
  *
  * One convention for every call:
- * - The result is 0, or the number of a refusal; README.md says in a sentence what each number means.
+ * - The result is 0, or the number of a refusal: a macro YNV_REFUSED_.. below, a sentence by ynv_sentence(), and what
+ *   to do about it in docs/REFUSALS.md.
  * - `answer` is eight lent words. An accepted call writes them all, 0 where nothing is named below. A refusal writes
  *   answer[0] alone: its place, 0 where none is named.
  * - A refusal changes nothing else that was lent, except work, which may hold anything afterwards. An accepted call
  *   leaves what lies behind its result as it was.
  * - Every content of the lent memory is allowed. A length counts elements: words of a strip, bytes of pages.
  *
- * What a caller owes, since no call can test it: pointers that are not NULL, even where a length is 0, aligned for
- * their type, with that many elements behind them; memory that a call may write overlaps nothing else that is lent to
- * it; and nobody else writes to lent memory until the call returns. A call allocates nothing, keeps nothing and uses
- * less than 1 MB of stack, so any number of threads may call at once.
+ * What a caller owes, since no call can test it: pointers aligned for their type, with that many elements behind them;
+ * memory that a call may write overlaps nothing else that is lent to it; and nobody else writes to lent memory until
+ * the call returns. A call allocates nothing, keeps nothing and uses less than 1 MB of stack, so any number of threads
+ * may call at once.
  *
- * Pages are the unpacked sections of a `.ynv`, system and graphics; what is written is a system section.
+ * NULL: `answer` is never NULL. Another pointer may be NULL where its length is 0, and is not followed then. This is
+ * tried with the library (examples/c/check.c) and not proved: the proofs speak of slices, which are never NULL.
+ *
+ * Pages are the unpacked sections of a `.ynv`, system and graphics; what is written is a system section. A `.ynv` as
+ * the game has it begins with RSC7 and is packed: unpack it first. docs/FORMAT.md has the layout of pages.
  *
  * A strip is a cell as 32-bit words. The top 4 bits of a record's first word are its kind; floats stand as their bits;
  * bits that nothing names are 0. In this order: one cell, polygons, portals, points, one end as the last word.
@@ -24,6 +30,15 @@
  *              area_from + 65,536 * area_to; area_unk (8 bits)
  *   4 point    bits 0-7 angle, 8-15 kind; its position follows
  *   5 end
+ *
+ * What the fields mean is ynv.rs's to say (NOTICE); calls carry them:
+ * - Polygons have their number by their order, from 0. Edge i leaves vertex i towards vertex i + 1, and the last one
+ *   towards vertex 0. Its two halves name who lies across: an area (a cell's id) and a polygon there, YNV_NONE in both
+ *   for nobody. The game's files have the same neighbour in both halves.
+ * - A portal is a climb, a drop or a jump from one polygon to another. A link is an entry of the cell's portal-link
+ *   table, which saving makes anew from the polygons' links in order: one for each portal that the polygon touches. No
+ *   call looks at what it names; the samples put the portal's number there, from 0.
+ * - An angle is a byte. ynv.rs names no unit for it, and none for the kinds of portals and points.
  */
 #ifndef YNV_H
 #define YNV_H
@@ -31,6 +46,81 @@
 #include <stddef.h>
 #include <stdint.h>
 #include <string.h>
+
+/* The version of this header, as in CHANGELOG.md. */
+#define YNV_VERSION_MAJOR 0
+#define YNV_VERSION_MINOR 1
+#define YNV_VERSION_PATCH 0
+#define YNV_VERSION "0.1.0"
+
+/* Refusals, by the names that they have in the Rust crate. A comment says what the place counts, where there is one. */
+#define YNV_REFUSED_TOO_LITTLE_WORK 1
+#define YNV_REFUSED_TOO_SHORT 2
+#define YNV_REFUSED_BAD_STRIP 3                  /* word of the strip */
+#define YNV_REFUSED_LONG_INPUT 4                 /* no call: the program `cellsum` alone */
+#define YNV_REFUSED_NO_SUCH_CELL 5
+#define YNV_REFUSED_BOX_NOT_FINITE 10
+#define YNV_REFUSED_MANY_POLYGONS 11
+#define YNV_REFUSED_VERTEX_COUNT 12              /* polygon */
+#define YNV_REFUSED_VERTEX_START 13              /* polygon */
+#define YNV_REFUSED_MANY_VERTICES 14             /* polygon */
+#define YNV_REFUSED_MANY_AREAS 15                /* polygon */
+#define YNV_REFUSED_MANY_LINKS_OF_POLYGON 16     /* polygon */
+#define YNV_REFUSED_MANY_POLYGONS_IN_LEAF 17     /* leaf */
+#define YNV_REFUSED_MANY_POINTS_IN_LEAF 18       /* leaf */
+#define YNV_REFUSED_MANY_PORTALS 19
+#define YNV_REFUSED_MANY_LINKS 20
+#define YNV_REFUSED_NO_HEADER 30
+#define YNV_REFUSED_NO_TREE 31
+#define YNV_REFUSED_BAD_SECTOR 32
+#define YNV_REFUSED_MANY_SECTORS 33
+#define YNV_REFUSED_BAD_SECTOR_DATA 34
+#define YNV_REFUSED_BAD_LIST 35                  /* list: 1 vertices, 2 indices, 3 edges, 4 polygons */
+#define YNV_REFUSED_LIST_COUNT 36                /* list, as 35 */
+#define YNV_REFUSED_BAD_RUN 37                   /* polygon */
+#define YNV_REFUSED_BAD_INDEX 38                 /* polygon */
+#define YNV_REFUSED_BAD_PORTALS 39
+#define YNV_REFUSED_PAGES_BOX_NOT_FINITE 40
+
+/* Kinds of records, and the first word of one. */
+#define YNV_KIND_CELL 1
+#define YNV_KIND_POLYGON 2
+#define YNV_KIND_PORTAL 3
+#define YNV_KIND_POINT 4
+#define YNV_KIND_END 5
+#define YNV_KIND_OF(word) ((uint32_t)(word) >> 28)
+#define YNV_CELL_WORD ((uint32_t)YNV_KIND_CELL << 28)
+#define YNV_END_WORD ((uint32_t)YNV_KIND_END << 28)
+
+/* Words of the records that have a fixed length, their first word among them. */
+#define YNV_CELL_WORDS 14
+#define YNV_PORTAL_WORDS 11
+#define YNV_POINT_WORDS 4
+
+/* Nobody: the area and the polygon of a half without a neighbour. */
+#define YNV_NONE 16383
+
+/* Content flags. A vehicle has one leaf; a cell without this flag has sixteen. */
+#define YNV_CONTENT_POLYGONS 1
+#define YNV_CONTENT_PORTALS 2
+#define YNV_CONTENT_VEHICLE 4
+
+/* What a maker of cells fills in. A cell of the map: its area id from its coordinates, which ynv_cell_for_position()
+ * gives, and its version. A vehicle: its own two. Both have the same vft. */
+#define YNV_AREA(cx, cy) ((uint32_t)(cy) * 100 + (uint32_t)(cx))
+#define YNV_MAP_VERSION UINT32_C(0x85CB3561)
+#define YNV_VEHICLE_AREA 10000
+#define YNV_VEHICLE_VERSION 0
+#define YNV_NAVMESH_VFT UINT32_C(0x4061E7E8)
+
+/* Bits of a polygon's flags that ynv.rs names. */
+#define YNV_FLAGS0_FOOTPATH 4
+#define YNV_FLAGS0_STEEP 64
+#define YNV_FLAGS0_WATER 128
+#define YNV_FLAGS1_INTERIOR 64
+#define YNV_FLAGS1_FLAT_GROUND 512
+#define YNV_FLAGS1_ROAD 1024
+#define YNV_FLAGS1_CELL_EDGE 2048
 
 #ifdef __cplusplus
 extern "C" {
@@ -133,6 +223,121 @@ static inline float ynv_float(uint64_t word)
     float value;
     memcpy(&value, &bits, sizeof value);
     return value;
+}
+
+/* The word that holds a float's bits. */
+static inline uint32_t ynv_bits(float value)
+{
+    uint32_t bits;
+    memcpy(&bits, &value, sizeof bits);
+    return bits;
+}
+
+/* The first word of a polygon's record; 0 where a count doesn't fit (4,095 vertices, 4,095 edges, 15 links). No record
+ * begins with 0, so a strip that holds it is refused with 3 at that word, and no count spills into the next one. */
+static inline uint32_t ynv_polygon_word(size_t vertices, size_t edges, size_t links)
+{
+    if (vertices > 4095 || edges > 4095 || links > 15)
+        return 0;
+    return (uint32_t)YNV_KIND_POLYGON << 28 | (uint32_t)links << 24 | (uint32_t)edges << 12 | (uint32_t)vertices;
+}
+
+/* The first word of a portal's record. */
+static inline uint32_t ynv_portal_word(uint8_t kind, uint8_t angle)
+{
+    return (uint32_t)YNV_KIND_PORTAL << 28 | (uint32_t)angle << 8 | kind;
+}
+
+/* The first word of a point's record: here the angle is the low byte. */
+static inline uint32_t ynv_point_word(uint8_t angle, uint8_t kind)
+{
+    return (uint32_t)YNV_KIND_POINT << 28 | (uint32_t)kind << 8 | angle;
+}
+
+/* What the place of a refusal counts: "word", "polygon", "leaf" or "list"; "" where there is no place. */
+static inline const char *ynv_place(uint32_t number)
+{
+    switch (number) {
+    case YNV_REFUSED_BAD_STRIP:
+        return "word";
+    case YNV_REFUSED_VERTEX_COUNT: case YNV_REFUSED_VERTEX_START: case YNV_REFUSED_MANY_VERTICES:
+    case YNV_REFUSED_MANY_AREAS: case YNV_REFUSED_MANY_LINKS_OF_POLYGON: case YNV_REFUSED_BAD_RUN:
+    case YNV_REFUSED_BAD_INDEX:
+        return "polygon";
+    case YNV_REFUSED_MANY_POLYGONS_IN_LEAF: case YNV_REFUSED_MANY_POINTS_IN_LEAF:
+        return "leaf";
+    case YNV_REFUSED_BAD_LIST: case YNV_REFUSED_LIST_COUNT:
+        return "list";
+    default:
+        return "";
+    }
+}
+
+/* The sentence of a refusal, that of docs/REFUSALS.md. */
+static inline const char *ynv_sentence(uint32_t number)
+{
+    switch (number) {
+    case 0:
+        return "Accepted.";
+    case YNV_REFUSED_TOO_LITTLE_WORK:
+        return "The work memory is too small: lend at least four words for each word of the strip.";
+    case YNV_REFUSED_TOO_SHORT:
+        return "The output is too short for the result.";
+    case YNV_REFUSED_BAD_STRIP:
+        return "The strip is badly formed at this record: the bad record's first word; the strip's length if it ends "
+               "early; the first word after its end if more follow.";
+    case YNV_REFUSED_LONG_INPUT:
+        return "The program's input is longer than 65,536 bytes.";
+    case YNV_REFUSED_NO_SUCH_CELL:
+        return "The cell coordinate is above 99.";
+    case YNV_REFUSED_BOX_NOT_FINITE:
+        return "The cell's box (min, max or size) has a number that is infinite or not a number.";
+    case YNV_REFUSED_MANY_POLYGONS:
+        return "The cell has more than 16,383 polygons.";
+    case YNV_REFUSED_VERTEX_COUNT:
+        return "The polygon has fewer than 3 or more than 2,047 vertices.";
+    case YNV_REFUSED_VERTEX_START:
+        return "The polygons before this one have more than 65,535 vertices together.";
+    case YNV_REFUSED_MANY_VERTICES:
+        return "The cell would need a 65,537th distinct vertex.";
+    case YNV_REFUSED_MANY_AREAS:
+        return "The cell's edges would name a 33rd area.";
+    case YNV_REFUSED_MANY_LINKS_OF_POLYGON:
+        return "The polygon has more than 7 portal links.";
+    case YNV_REFUSED_MANY_POLYGONS_IN_LEAF:
+        return "More than 8,192 polygons touch this leaf of the cell's quadtree (a sixteenth of a map cell, or all "
+               "of a vehicle).";
+    case YNV_REFUSED_MANY_POINTS_IN_LEAF:
+        return "More than 2,048 points lie in this leaf.";
+    case YNV_REFUSED_MANY_PORTALS:
+        return "The cell has more than 585 portals.";
+    case YNV_REFUSED_MANY_LINKS:
+        return "The cell has more than 8,192 portal links.";
+    case YNV_REFUSED_NO_HEADER:
+        return "The pages have no whole header.";
+    case YNV_REFUSED_NO_TREE:
+        return "The pages have no sector tree.";
+    case YNV_REFUSED_BAD_SECTOR:
+        return "A sector does not lie inside its section.";
+    case YNV_REFUSED_MANY_SECTORS:
+        return "The sector tree has more than 4,096 sectors, or goes in a circle.";
+    case YNV_REFUSED_BAD_SECTOR_DATA:
+        return "A sector's data or points do not lie inside their section.";
+    case YNV_REFUSED_BAD_LIST:
+        return "The list's header, part table or a part does not lie inside its section.";
+    case YNV_REFUSED_LIST_COUNT:
+        return "The list's parts do not add up to its count.";
+    case YNV_REFUSED_BAD_RUN:
+        return "The polygon's run does not lie inside the indices and the edges.";
+    case YNV_REFUSED_BAD_INDEX:
+        return "The polygon names a vertex that isn't there.";
+    case YNV_REFUSED_BAD_PORTALS:
+        return "The portals do not lie inside their section.";
+    case YNV_REFUSED_PAGES_BOX_NOT_FINITE:
+        return "The box in the pages has a number that is infinite or not a number.";
+    default:
+        return "The refusal table has no such number.";
+    }
 }
 
 #ifdef __cplusplus

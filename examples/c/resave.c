@@ -1,5 +1,6 @@
 /* Reads a cell's system pages from a file, prints what the cell holds, writes it again and compares the bytes.
- * Status: 0 the same bytes, 1 other bytes, 2 a refusal or trouble. */
+ * Status: 0 the same bytes, 1 other bytes, 2 a refusal or trouble. Other bytes are no fault: docs/SAVING.md says why
+ * the second saving of a cell can write some, and the third none. */
 #include <inttypes.h>
 #include <stdio.h>
 #include <stdlib.h>
@@ -23,7 +24,7 @@ static void trouble(const char *what)
     exit(2);
 }
 
-/* Room for `count` elements; never NULL, as the calls ask even of an empty one. */
+/* Room for `count` elements, for one at least, since calloc may answer NULL for none. */
 static void *room(size_t count, size_t size)
 {
     void *at = calloc(count ? count : 1, size);
@@ -32,12 +33,15 @@ static void *room(size_t count, size_t size)
     return at;
 }
 
-/* Ends the program where a call refused: its number, and its place if it names one (README.md has the table). */
+/* Ends the program where a call refused: its number, its place if it names one, and its sentence. */
 static void accepted(const char *call, uint32_t number, const uint64_t answer[8])
 {
     if (number == 0)
         return;
-    fprintf(stderr, "resave: %s refused %" PRIu32 " %" PRIu64 "\n", call, number, answer[0]);
+    fprintf(stderr, "resave: %s refused %" PRIu32, call, number);
+    if (ynv_place(number)[0] != '\0')
+        fprintf(stderr, " at %s %" PRIu64, ynv_place(number), answer[0]);
+    fprintf(stderr, ": %s\n", ynv_sentence(number));
     exit(2);
 }
 
@@ -59,10 +63,9 @@ static struct bytes read_file(const char *name)
 /* Reads a system section, with no graphics, into a new strip of so many words. */
 static uint32_t parse(struct bytes system, size_t words, struct words *strip, uint64_t answer[8])
 {
-    const uint8_t graphics[1] = { 0 };
     strip->length = words;
     strip->at = room(words, sizeof *strip->at);
-    return ynv_parse(system.at, system.length, graphics, 0, strip->at, strip->length, answer);
+    return ynv_parse(system.at, system.length, NULL, 0, strip->at, strip->length, answer);
 }
 
 static struct words read_cell(struct bytes system)
@@ -70,7 +73,7 @@ static struct words read_cell(struct bytes system)
     uint64_t answer[8];
     struct words strip;
     uint32_t number = parse(system, ynv_strip_words(system.length, 0), &strip, answer);
-    if (number == 2) {
+    if (number == YNV_REFUSED_TOO_SHORT) {
         /* Pages from elsewhere may hold a cell with more words than they have bytes. */
         free(strip.at);
         number = parse(system, YNV_MOST_WORDS, &strip, answer);

@@ -1,9 +1,32 @@
-//! The C entries of libynv.a (include/ynv.h) and a safe call of each: the only unsafe code of the crate.
+//! The C entries of libynv.a (include/ynv.h) and a safe call of each, and memory that may be lacking: the
+//! only unsafe code of the crate.
 //!
 //! A slice passes as a pointer and its length in elements, the answer as a pointer to its eight words. Each entry
 //! returns 0 or a refusal's number, and takes every content of what it is lent.
 
+use std::alloc::{alloc_zeroed, Layout};
+
 pub type Answer = [u64; 8];
+
+/// Numbers of which all bits zero is one.
+pub trait Zero: Copy {}
+impl Zero for u8 {}
+impl Zero for u32 {}
+
+/// So many zeros, or none where there is no memory for them. `vec![0; count]` would abort then; growing a vector by
+/// hand would touch all of it, where the system hands out zeroed memory only as it is used.
+pub fn zeros<T: Zero>(count: usize) -> Option<Vec<T>> {
+    let layout = Layout::array::<T>(count).ok()?;
+    if layout.size() == 0 {
+        return Some(Vec::new());
+    }
+    // SAFETY: the layout's size isn't 0. The block has the size and alignment of `count` numbers, all of them zero and
+    // so of T, and comes from the allocator that vectors use; the vector alone owns it.
+    unsafe {
+        let block = alloc_zeroed(layout).cast::<T>();
+        (!block.is_null()).then(|| Vec::from_raw_parts(block, count, count))
+    }
+}
 
 extern "C" {
     fn ynv_parse(

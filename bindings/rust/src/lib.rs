@@ -1,16 +1,34 @@
-//! Navmesh cells: unpacked pages of a `.ynv` to strips, and strips to pages.
+//! Navmesh cells: unpacked pages of a `.ynv` to polygons, and polygons to pages.
 //!
-//! Safe calls over libynv.a, each function of which is proved against the scope document: it takes every input, ends,
-//! and keeps its promise (docs/PROMISES.md of the repository). A call either accepts or answers a [`Refusal`].
+//! Safe calls over libynv.a, each function of which is proved: it takes every input, ends, and keeps its promise
+//! (docs/PROMISES.md of the repository). A call either accepts or answers a [`Refusal`].
 //!
-//! A strip is a cell as 32-bit words, one record after the other; include/ynv.h of the repository has its layout. This
-//! one is a vehicle's cell without a polygon, so it has the cell's record and the end only:
+//! [`Ynv`] is a cell with the names of rage-formats' `ynv.rs`; [`parse_ynv`] opens one and [`serialize_ynv`] saves one:
+//!
+//! ```
+//! use ynv::{NavEdge, NavPoly, Vec3, Ynv};
+//!
+//! let mut cell = Ynv::new_cell(4040, Vec3::ZERO, Vec3::new(150.0, 150.0, 50.0));
+//! let corners = [(0.0, 0.0), (150.0, 0.0), (150.0, 150.0)].map(|(x, y)| Vec3::new(x, y, 7.0));
+//! let mut floor = NavPoly::new(corners.to_vec());
+//! floor.edges[1] = NavEdge::neighbour(4041, 12); // across x = 150 lies polygon 12 of the next cell
+//! cell.polys.push(floor);
+//!
+//! let saved = ynv::serialize_ynv(&cell)?;
+//! let opened = ynv::parse_ynv(&saved.pages, &[])?;
+//! assert_eq!(opened.polys[0].edges[1].a.area_id, 4041);
+//! # Ok::<(), ynv::Refusal>(())
+//! ```
+//!
+//! Below it lie strips: a cell as 32-bit words, one record after the other (include/ynv.h of the repository has the
+//! layout). [`parse`] and [`serialize`] go between pages and strips and make the memory that they need;
+//! [`parse_into`] and [`serialize_into`] use the caller's and allocate nothing. A call uses less than 1 MB of stack.
 //!
 //! ```
 //! let mut strip = vec![0; 15];
 //! strip[0] = 1 << 28; // kind 1, the cell
-//! strip[1] = 4; // content flags: a vehicle
-//! strip[2] = 10_000; // area id
+//! strip[1] = ynv::CONTENT_VEHICLE;
+//! strip[2] = ynv::AREA_ALONE;
 //! strip[14] = 5 << 28; // kind 5, the end
 //!
 //! let pages = ynv::serialize(&strip)?;
@@ -21,20 +39,24 @@
 //! assert_eq!((counts.polys, counts.sectors), (0, 1));
 //! # Ok::<(), ynv::Refusal>(())
 //! ```
-//!
-//! [`parse`] and [`serialize`] make the memory that they need; [`parse_into`] and [`serialize_into`] use the caller's
-//! and allocate nothing. A call uses less than 1 MB of stack.
 
 #![deny(missing_docs, unsafe_code)]
 
+mod cell;
 #[allow(unsafe_code)]
 mod ffi;
 mod refusal;
+mod vec3;
+mod words;
 
+pub use cell::{
+    cell_file_name, NavEdge, NavEdgeEnd, NavPoint, NavPoly, NavPortal, Ynv, ADJACENT_NONE, AREA_ALONE, CELL_ORIGIN,
+    CELL_SIZE, CELL_VERSION, CONTENT_POLYGONS, CONTENT_PORTALS, CONTENT_VEHICLE, NAVMESH_VFT,
+};
 pub use refusal::Refusal;
+pub use vec3::Vec3;
 
 use ffi::Answer;
-use refusal::TOO_SHORT;
 
 /// Words that any strip takes which is read from pages that [`serialize`] wrote: 16,383 polygons, 67,582 vertices and
 /// edges, 8,192 links, 585 portals and 32,768 points make so many.
@@ -42,6 +64,9 @@ pub const MOST_WORDS: usize = 819_484;
 
 /// Bytes that any written cell takes: at most 200 blocks, and a block moves the end by at most 32,768.
 pub const MOST_BYTES: usize = 200 * 32_768;
+
+/// Words of the longest strip that [`parse`] makes: 64 MiB, twenty times [`MOST_WORDS`]. [`parse_within`] sets another.
+pub const PARSE_WORDS: usize = 1 << 24;
 
 /// How much a cell that was read has.
 #[derive(Debug, Clone, Copy, PartialEq, Eq)]
@@ -62,15 +87,87 @@ pub struct Counts {
 fn accepted(number: u32, answer: Answer) -> Result<Answer, Refusal> {
     match number {
         0 => Ok(answer),
-        number => Err(Refusal { number, place: answer[0] }),
+        number => Err(Refusal::new(number, answer[0])),
     }
 }
 
-/// Reads a cell's pages, system and graphics section, into a new strip.
+/// The memory that a call is lent, or the refusal where there is none.
+fn lent<T: ffi::Zero>(count: usize) -> Result<Vec<T>, Refusal> {
+    ffi::zeros(count).ok_or(Refusal::new(Refusal::NO_MEMORY, 0))
+}
+
+/// Opens a cell: its pages, system and graphics section, as a typed cell.
 ///
-/// It lends [`strip_words`], which is enough for pages that [`serialize`] wrote. Pages from elsewhere may hold a longer
-/// cell, since polygons may share what they name: then it asks again with [`MOST_WORDS`], and a strip that is longer
-/// still is refused with 2. [`parse_into`] has no such limit.
+/// # Errors
+/// As [`parse`].
+pub fn parse_ynv(system: &[u8], graphics: &[u8]) -> Result<Ynv, Refusal> {
+    let (strip, _) = parse(system, graphics)?;
+    Ynv::from_strip(&strip)
+}
+
+/// A cell that was saved: its pages, and what they could not keep. That positions move to the box's steps is not
+/// counted here.
+#[derive(Debug, Clone, PartialEq, Eq)]
+#[non_exhaustive]
+pub struct Saved {
+    /// The system section; there is no graphics section.
+    pub pages: Vec<u8>,
+    /// Points that lie in no leaf of the cell.
+    pub points_dropped: usize,
+    /// Edges beyond the number of their polygon's vertices.
+    pub edges_dropped: usize,
+    /// Numbers that have lost upper bits, being too large for their field in the pages: of an edge's half `poly` above
+    /// 16,383, `unk2` above 3 and `unk3` above 2,047; of a portal `area_from` and `area_to` above 16,383 and
+    /// `area_unk` above 15.
+    pub numbers_cut: usize,
+}
+
+/// Saves a typed cell.
+///
+/// # Errors
+/// What [`Ynv::to_strip`] refuses before any call, then as [`serialize`].
+///
+/// ```
+/// use ynv::{NavPoint, Vec3, Ynv};
+/// let mut cell = Ynv::new_cell(4040, Vec3::ZERO, Vec3::new(150.0, 150.0, 50.0));
+/// for x in [75.0, 151.0] {
+///     cell.points.push(NavPoint { position: Vec3::new(x, 75.0, 0.0), angle: 0, kind: 0 });
+/// }
+/// let saved = ynv::serialize_ynv(&cell)?;
+/// assert_eq!(saved.points_dropped, 1); // the one outside the box
+/// assert_eq!(ynv::parse_ynv(&saved.pages, &[])?.points.len(), 1);
+/// # Ok::<(), ynv::Refusal>(())
+/// ```
+pub fn serialize_ynv(cell: &Ynv) -> Result<Saved, Refusal> {
+    let pages = serialize(&cell.to_strip()?)?;
+    let points_dropped = cell.points.len() - points_stored(&pages);
+    Ok(Saved { points_dropped, edges_dropped: surplus_edges(cell), numbers_cut: large_numbers(cell), pages })
+}
+
+/// The number of points in written pages, which stands in their header.
+fn points_stored(pages: &[u8]) -> usize {
+    let count = pages[0x148..0x14C].try_into().expect("written pages have a header");
+    u32::from_le_bytes(count) as usize
+}
+
+fn surplus_edges(cell: &Ynv) -> usize {
+    cell.polys.iter().map(|poly| poly.edges.len().saturating_sub(poly.vertices.len())).sum()
+}
+
+/// Numbers of a cell that are larger than their field in the pages; surplus edges have no field.
+fn large_numbers(cell: &Ynv) -> usize {
+    let edges = cell.polys.iter().flat_map(|poly| poly.edges.iter().take(poly.vertices.len()));
+    let of_ends =
+        edges.flat_map(|edge| [edge.a, edge.b]).map(|end| [end.poly > 0x3FFF, end.unk2 > 3, end.unk3 > 0x7FF]);
+    let of_portals = cell.portals.iter().map(|p| [p.area_from > 0x3FFF, p.area_to > 0x3FFF, p.area_unk > 0xF]);
+    of_ends.chain(of_portals).flatten().filter(|&large| large).count()
+}
+
+/// Reads a cell's pages, system and graphics section, into a new strip of at most [`PARSE_WORDS`].
+///
+/// # Errors
+/// The refusals of pages, [`Refusal::NO_HEADER`] to [`Refusal::PAGES_BOX_NOT_FINITE`]; [`Refusal::OVER_CAP`] where the
+/// strip would be longer; [`Refusal::NO_MEMORY`].
 ///
 /// ```
 /// let refusal = ynv::parse(b"no pages", &[]).unwrap_err();
@@ -78,17 +175,42 @@ fn accepted(number: u32, answer: Answer) -> Result<Answer, Refusal> {
 /// assert_eq!(refusal.to_string(), "refused 30: The pages have no whole header.");
 /// ```
 pub fn parse(system: &[u8], graphics: &[u8]) -> Result<(Vec<u32>, Counts), Refusal> {
-    let words = strip_words(system, graphics);
-    match parse_lending(words, system, graphics) {
-        Err(refusal) if refusal.number == TOO_SHORT && words < MOST_WORDS => {
-            parse_lending(MOST_WORDS, system, graphics)
+    parse_within(system, graphics, PARSE_WORDS)
+}
+
+/// Reads a cell's pages into a new strip of at most `most_words`.
+///
+/// It lends [`strip_words`] first, which is enough for pages that [`serialize`] wrote. Pages from elsewhere may hold a
+/// longer cell, since polygons may share what they name: then it lends sixteen times as much and asks again, until the
+/// strip fits or `most_words` were lent. Memory that is lent and not used costs address space alone on most systems.
+///
+/// # Errors
+/// As [`parse`], with [`Refusal::OVER_CAP`] where the strip would be longer than `most_words`.
+///
+/// ```
+/// # let mut strip = vec![0; 15];
+/// # (strip[0], strip[1], strip[14]) = (1 << 28, 4, 5 << 28);
+/// # let pages = ynv::serialize(&strip)?;
+/// assert_eq!(ynv::parse_within(&pages, &[], 15)?.0.len(), 15);
+/// assert_eq!(ynv::parse_within(&pages, &[], 14).unwrap_err().number, ynv::Refusal::OVER_CAP);
+/// # Ok::<(), ynv::Refusal>(())
+/// ```
+pub fn parse_within(system: &[u8], graphics: &[u8], most_words: usize) -> Result<(Vec<u32>, Counts), Refusal> {
+    let mut words = strip_words(system, graphics).min(most_words);
+    loop {
+        match parse_lending(words, system, graphics) {
+            Err(refusal) if refusal.number == Refusal::TOO_SHORT => {}
+            answer => return answer,
         }
-        answer => answer,
+        if words == most_words {
+            return Err(Refusal::new(Refusal::OVER_CAP, 0));
+        }
+        words = words.saturating_mul(16).min(most_words);
     }
 }
 
 fn parse_lending(words: usize, system: &[u8], graphics: &[u8]) -> Result<(Vec<u32>, Counts), Refusal> {
-    let mut strip = vec![0; words];
+    let mut strip = lent(words)?;
     let counts = parse_into(system, graphics, &mut strip)?;
     strip.truncate(counts.words);
     strip.shrink_to_fit();
@@ -97,6 +219,10 @@ fn parse_lending(words: usize, system: &[u8], graphics: &[u8]) -> Result<(Vec<u3
 
 /// Reads a cell's pages into the lent strip, whose first `words` words are the cell then; the others stay as they were,
 /// and a refusal changes none.
+///
+/// # Errors
+/// The refusals of pages, [`Refusal::NO_HEADER`] to [`Refusal::PAGES_BOX_NOT_FINITE`], then [`Refusal::TOO_SHORT`] for
+/// the lent strip.
 ///
 /// ```
 /// # let mut strip = vec![0; 15];
@@ -122,13 +248,19 @@ pub fn parse_into(system: &[u8], graphics: &[u8], strip: &mut [u32]) -> Result<C
 ///
 /// It lends [`work_words`] and [`pages_bytes`], so it is refused neither with 1 nor with 2, which is proved.
 ///
+/// # Errors
+/// [`Refusal::BAD_STRIP`]; the reasons why a cell can't be saved, [`Refusal::BOX_NOT_FINITE`] to
+/// [`Refusal::MANY_LINKS`]; [`Refusal::NO_MEMORY`].
+///
 /// ```
 /// let refusal = ynv::serialize(&[1 << 28]).unwrap_err();
 /// assert_eq!((refusal.number, refusal.place), (3, 1)); // the cell's record ends early
 /// ```
 pub fn serialize(strip: &[u32]) -> Result<Vec<u8>, Refusal> {
-    let mut work = vec![0; work_words(strip)];
-    let mut pages = vec![0; pages_bytes(strip)];
+    // What is no strip is refused before memory is asked for on its behalf.
+    count_seams(strip)?;
+    let mut work = lent(work_words(strip))?;
+    let mut pages = lent(pages_bytes(strip))?;
     let length = serialize_into(strip, &mut work, &mut pages)?;
     pages.truncate(length);
     pages.shrink_to_fit();
@@ -137,6 +269,10 @@ pub fn serialize(strip: &[u32]) -> Result<Vec<u8>, Refusal> {
 
 /// Writes a strip's cell into the lent pages and returns how many bytes it takes; the others stay as they were, and a
 /// refusal changes none. Work may hold anything, before and after.
+///
+/// # Errors
+/// [`Refusal::BAD_STRIP`], [`Refusal::TOO_LITTLE_WORK`]; the reasons why a cell can't be saved,
+/// [`Refusal::BOX_NOT_FINITE`] to [`Refusal::MANY_LINKS`]; [`Refusal::TOO_SHORT`] for the lent pages.
 ///
 /// ```
 /// # let mut strip = vec![0; 15];
@@ -158,6 +294,9 @@ pub fn serialize_into(strip: &[u32], work: &mut [u32], pages: &mut [u8]) -> Resu
 
 /// Counts the seams of a strip: halves of its edges, surplus ones too, whose area differs from the cell's by 1 or 100.
 ///
+/// # Errors
+/// [`Refusal::BAD_STRIP`] alone: so this call is also the test whether words are a strip.
+///
 /// ```
 /// // Cell 4040 with a triangle that has one edge: half a names cell 4041, half b the cell itself.
 /// let triangle = [2 << 28 | 1 << 12 | 3, 0, 0, 0];
@@ -177,9 +316,13 @@ pub fn count_seams(strip: &[u32]) -> Result<u64, Refusal> {
     Ok(accepted(number, answer)?[0])
 }
 
-/// The spot (x, y) of a position, for [`pick_poly`]: the shorts that saving stores of a vertex there, from 0 at bb_min up to
-/// 65535 at the other end of a side of bb_size, and 0 everywhere on a side below 2^-23. What lies outside the box goes to
-/// its border, and a NaN to 0: so test first whether the cursor is in the box, or it may pick a polygon at the near border.
+/// The spot (x, y) of a position, for [`pick_poly`]: the shorts that saving stores of a vertex there, from 0 at
+/// `bb_min` up to 65535 at the other end of a side of `bb_size`, and 0 everywhere on a side below 2^-23. What lies
+/// outside the box goes to its border, and a NaN to 0: so test first whether the cursor is in the box, or it may pick a
+/// polygon at the near border.
+///
+/// # Errors
+/// [`Refusal::BAD_STRIP`] and [`Refusal::BOX_NOT_FINITE`].
 ///
 /// ```
 /// // A cell from 0 to 2 in x and y.
@@ -197,9 +340,12 @@ pub fn spot_for_position(strip: &[u32], x: f32, y: f32) -> Result<(u16, u16), Re
     Ok((x, y))
 }
 
-/// The lowest-numbered polygon that contains a spot, or none. [`spot_for_position`] makes the spot. A rectangle contains
-/// the spots from its least x and y on and below its greatest. At 65535, the far sides of the box and half a step before
-/// them, there is no polygon.
+/// The lowest-numbered polygon that contains a spot, or none. [`spot_for_position`] makes the spot. A rectangle
+/// contains the spots from its least x and y on and below its greatest. At 65535, the far sides of the box and half a
+/// step before them, there is no polygon.
+///
+/// # Errors
+/// [`Refusal::BAD_STRIP`] and [`Refusal::BOX_NOT_FINITE`].
 ///
 /// ```
 /// // A cell from 0 to 150 in x and y with one triangle, (0, 0), (150, 0), (0, 150).
@@ -230,6 +376,7 @@ pub fn pick_poly(strip: &[u32], x: u16, y: u16) -> Result<Option<usize>, Refusal
 /// assert_eq!(ynv::cell_for_position(-1500.0, 2000.0), (30, 53));
 /// assert_eq!(ynv::cell_for_position(f32::INFINITY, f32::NAN), (99, 0));
 /// ```
+#[must_use]
 pub fn cell_for_position(x: f32, y: f32) -> (u32, u32) {
     let mut answer = [0; 8];
     // This call refuses nothing.
@@ -237,7 +384,10 @@ pub fn cell_for_position(x: f32, y: f32) -> (u32, u32) {
     (answer[0] as u32, answer[1] as u32)
 }
 
-/// The bounds of a cell of the grid: min x, min y, max x, max y. 5 refuses a coordinate above 99.
+/// The bounds of a cell of the grid: min x, min y, max x, max y.
+///
+/// # Errors
+/// [`Refusal::NO_SUCH_CELL`] for a coordinate above 99.
 ///
 /// ```
 /// assert_eq!(ynv::cell_bounds(30, 53)?, (-1500.0, 1950.0, -1350.0, 2100.0));
@@ -257,6 +407,7 @@ pub fn cell_bounds(cx: u32, cy: u32) -> Result<(f32, f32, f32, f32), Refusal> {
 /// ```
 /// assert_eq!(ynv::strip_words(&[0; 688], &[]), 688);
 /// ```
+#[must_use]
 pub fn strip_words(system: &[u8], graphics: &[u8]) -> usize {
     system.len().saturating_add(graphics.len()).min(MOST_WORDS)
 }
@@ -266,19 +417,36 @@ pub fn strip_words(system: &[u8], graphics: &[u8]) -> usize {
 /// ```
 /// assert_eq!(ynv::work_words(&[0; 15]), 60);
 /// ```
+#[must_use]
 pub fn work_words(strip: &[u32]) -> usize {
-    4 * strip.len()
+    strip.len().saturating_mul(4)
 }
 
 /// Bytes of pages to lend for a strip, from its length alone: 20 for each word and 8,192, at most [`MOST_BYTES`].
 ///
 /// That it is enough is proved. A block and what is skipped before it take at most twice its bytes and 15. The dearest
-/// words are a triangle's, 128 bytes to 13 words; header, list headers and sectors, which every cell has, take less than
-/// 8,192 bytes with what is skipped.
+/// words are a triangle's, 128 bytes to 13 words; header, list headers and sectors, which every cell has, take less
+/// than 8,192 bytes with what is skipped.
 ///
 /// ```
 /// assert_eq!(ynv::pages_bytes(&[0; 15]), 8_492);
 /// ```
+#[must_use]
 pub fn pages_bytes(strip: &[u32]) -> usize {
     strip.len().saturating_mul(20).saturating_add(8_192).min(MOST_BYTES)
+}
+
+#[cfg(test)]
+mod tests {
+    use super::*;
+
+    #[test]
+    fn memory_that_is_not_there_is_refused() {
+        let none = Err(Refusal::new(Refusal::NO_MEMORY, 0));
+        assert_eq!(lent::<u32>(usize::MAX), none);
+        assert_eq!(lent::<u32>(usize::MAX / 8), none);
+        assert_eq!(lent::<u32>(0), Ok(vec![]));
+        assert_eq!(lent::<u32>(3), Ok(vec![0; 3]));
+        assert_eq!(lent::<u8>(3), Ok(vec![0; 3]));
+    }
 }

@@ -1,6 +1,8 @@
 //! The crate's calls on the sample cell, on large cells, and on input that they refuse.
 
-use ynv::{count_seams, parse, parse_into, pick_poly, serialize, serialize_into, spot_for_position, Refusal};
+use ynv::{
+    count_seams, parse, parse_into, parse_within, pick_poly, serialize, serialize_into, spot_for_position, Refusal,
+};
 
 /// P12's vehicle: 688 bytes of pages.
 const SAMPLE: &[u8] = include_bytes!("../../../crates/cellsum/stdin");
@@ -32,7 +34,7 @@ fn strip(polygons: usize, corners: usize) -> Vec<u32> {
 }
 
 fn refusal(number: u32, place: u64) -> Refusal {
-    Refusal { number, place }
+    Refusal::new(number, place)
 }
 
 #[test]
@@ -86,10 +88,18 @@ fn a_cell_with_more_words_than_bytes() {
     assert_eq!((strip.len(), counts.polys), (15 + 40 * polygon, 40));
     assert!(strip.len() > pages.len());
 
+    // Longer than any cell that can be written, and than some callers want.
     let pages = repeated(50);
-    assert_eq!(parse(&pages, &[]), Err(refusal(2, 0)));
-    let mut lent = vec![0; 15 + 50 * polygon];
+    let length = 15 + 50 * polygon;
+    assert!(length > ynv::MOST_WORDS);
+    assert_eq!(parse(&pages, &[]).unwrap().0.len(), length);
+    assert_eq!(parse_within(&pages, &[], length).unwrap().0.len(), length);
+    assert_eq!(parse_within(&pages, &[], length - 1), Err(refusal(Refusal::OVER_CAP, 0)));
+    assert_eq!(parse_within(&pages, &[], 0), Err(refusal(Refusal::OVER_CAP, 0)));
+    let mut lent = vec![0; length];
     assert_eq!(parse_into(&pages, &[], &mut lent).unwrap().words, lent.len());
+    // Longer than the limit of those who set none: nothing is answered that speaks of lent memory.
+    assert_eq!(parse(&repeated(1000), &[]), Err(refusal(Refusal::OVER_CAP, 0)));
 }
 
 #[test]
