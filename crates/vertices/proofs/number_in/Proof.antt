@@ -31,7 +31,7 @@ long c =
 within : (c : tie.At-loop Inv-loop μ-loop) → c .before .before .before .before .before .before .before .args .m ≤ length (c .loop .work)
 within c = omega (arith, long c, c .before .before .before .before .before .before .before .pre)
 
--- the words at the loop's start: the tail's heads are cleared
+-- the words at the loop's start: the tail's roots are cleared
 abbrev begun : (c : tie.At-loop Inv-loop μ-loop) → List ℕ
 begun c = let a = c .before .before .before .before .before .before .before .args in
     putMid (a .m) (length (a .work .now) - a .m) (a .work .now) (c .before .before .before .clear .last .0)
