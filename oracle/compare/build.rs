@@ -1,4 +1,4 @@
-//! With the feature `lib` links libleaves.a, with `ynv` libynv.a, from `YNV_LIB_DIR`
+//! With the feature `lib` links libunits.a, with `ynv` libynv.a, from `YNV_LIB_DIR`
 //! (default: `target/staticlib` of the repository; a relative folder is taken from the
 //! repository's root).
 
@@ -20,7 +20,7 @@ fn main() {
     println!("cargo:rerun-if-changed=build.rs");
     let root = PathBuf::from(env::var_os("CARGO_MANIFEST_DIR").unwrap()).join("../..");
     let folder = root.join(env::var_os("YNV_LIB_DIR").unwrap_or_else(|| "target/staticlib".into()));
-    for (feature, name) in [("CARGO_FEATURE_LIB", "leaves"), ("CARGO_FEATURE_YNV", "ynv")] {
+    for (feature, name) in [("CARGO_FEATURE_LIB", "units"), ("CARGO_FEATURE_YNV", "ynv")] {
         if env::var_os(feature).is_some() {
             link(&folder, name);
         }

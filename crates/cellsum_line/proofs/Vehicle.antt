@@ -6,8 +6,8 @@ use lib.Dec.{lit<, lit≤}
 use Rattle.fields.specs.Bytes.{cat}
 use Rattle.decimal.specs.Text.{ascii}
 use Rattle.decimal.proofs.Decimal.{p12-area, one-digit}
-use Rattle.grammar.specs.Vehicle.{vehiclePages}
-use Rattle.grammar.proofs.Examples.{p12-length}
+use Rattle.read_grammar.specs.Vehicle.{vehiclePages}
+use Rattle.read_grammar.proofs.Examples.{p12-length}
 use Rattle.ynv_read.proofs.Theorems.{p12-read}
 use Rattle.cellsum_line.specs.Line.{cellOutcome, countsText, acceptedText, cellText}
 use Rattle.cellsum_line.proofs.Outcomes.{short-input}

@@ -53,14 +53,14 @@ index-last (y ∷ l) x e = by (eqb y x) e (index-last l x)
     by false k rest = ap suc (rest (omega arith))
 
 -- x is in the table once it was met, at the index that it was given
-pub record Met (l : List ℕ) (x : ℕ) (l′ : List ℕ) : Type 0 where
+pub record Entered (l : List ℕ) (x : ℕ) (l′ : List ℕ) : Type 0 where
   pub within : In l′ x
   pub index : indexOf l′ x ≡ indexOf l x
 
-pub with-in : (l : List ℕ) (x : ℕ) → Met l x (withNew l x)
+pub with-in : (l : List ℕ) (x : ℕ) → Entered l x (withNew l x)
 with-in l x = by (isIn l x) refl
   where
-    by : (b : Bool) → isIn l x ≡ b → Met l x (withNew l x)
+    by : (b : Bool) → isIn l x ≡ b → Entered l x (withNew l x)
     by true e = rw (with-old l x e) (record { within = ltb-true (indexOf l x) (length l) e; index = refl })
     by false e =
         let f : indexOf l x ≡ length l = fresh-index l x e in

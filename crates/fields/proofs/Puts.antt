@@ -108,9 +108,9 @@ pub before : (at : ℕ) (bs xs : List ℕ) (i : ℕ) → i < at → getD (put at
 before at [] xs i h = rw put-nil
 before at (b ∷ bs) xs i h = rw (put-cons at b bs xs) (before (suc at) bs (set xs at b) i (omega arith) ∙ getD-set-other xs at i b 0 (λ e. omega arith))
 
-pub after : (at : ℕ) (bs xs : List ℕ) (i : ℕ) → at + length bs ≤ i → getD (put at bs xs) i 0 ≡ getD xs i 0
-after at [] xs i h = rw put-nil
-after at (b ∷ bs) xs i h = rw (put-cons at b bs xs) (after (suc at) bs (set xs at b) i (omega arith) ∙ getD-set-other xs at i b 0 (λ e. omega arith))
+pub getD-put-after : (at : ℕ) (bs xs : List ℕ) (i : ℕ) → at + length bs ≤ i → getD (put at bs xs) i 0 ≡ getD xs i 0
+getD-put-after at [] xs i h = rw put-nil
+getD-put-after at (b ∷ bs) xs i h = rw (put-cons at b bs xs) (getD-put-after (suc at) bs (set xs at b) i (omega arith) ∙ getD-set-other xs at i b 0 (λ e. omega arith))
 
 -- what it stores
 pub stored : (at : ℕ) (bs xs : List ℕ) (k : ℕ) → at + k < length xs → k < length bs → getD (put at bs xs) (at + k) 0 ≡ getD bs k 0
@@ -153,4 +153,4 @@ pub kept-before : (n at : ℕ) (bs xs : List ℕ) (i : ℕ) → i + n ≤ at →
 kept-before n at bs xs i h = same n (put at bs xs) i xs i (λ k l. before at bs xs (i + k) (omega arith))
 
 pub kept-after : (n at : ℕ) (bs xs : List ℕ) (i : ℕ) → at + length bs ≤ i → leAt n (put at bs xs) i ≡ leAt n xs i
-kept-after n at bs xs i h = same n (put at bs xs) i xs i (λ k l. after at bs xs (i + k) (omega arith))
+kept-after n at bs xs i h = same n (put at bs xs) i xs i (λ k l. getD-put-after at bs xs (i + k) (omega arith))

@@ -13,11 +13,11 @@ use Rattle.strip.specs.Box.{finiteBox}
 use Rattle.strip.specs.Scan.{Scanned, scan}
 use Rattle.strip.specs.Outcome.{shown, left}
 use Rattle.strip.proofs.Exact.{scan-fits}
-use Rattle.pages.specs.Items.{gather}
-use Rattle.pages.specs.Sectors.{leafCounts, treeOf, grown, leafIds, pointsOf}
-use Rattle.pages.specs.Pages.{links, sectors, pages}
-use Rattle.pages.specs.Checks.{fine, firstFault, at, polygonsVerdict, leavesVerdict, cellVerdict, cellOutcome}
-use Rattle.pages.proofs.Examples.{computed}
+use Rattle.write_pages.specs.Items.{gather}
+use Rattle.write_pages.specs.Sectors.{leafCounts, treeOf, grown, leafIds, pointsOf}
+use Rattle.write_pages.specs.Pages.{links, sectors, pages}
+use Rattle.write_pages.specs.Checks.{fine, firstFault, at, polygonsVerdict, leavesVerdict, cellVerdict, cellOutcome}
+use Rattle.write_pages.proofs.Examples.{computed}
 use Rattle.ynv_write.specs.Serialize.{writtenOf, serializeOutcome}
 use Rattle.proved.specs.Table.{empty, emptyStrip, lengthIn}
 use Rattle.proved.proofs.Table.{table}

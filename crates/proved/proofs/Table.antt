@@ -8,12 +8,12 @@ use Rattle.quantise.specs.Short.{short, fraction, clamped, nearestNumber, magni
 use Rattle.quantise.specs.Quarter.{side}
 use Rattle.distinct.specs.Distinct.{distinctFrom, withNew, indexOf}
 use Rattle.areas.specs.EdgeHalf.{halfWord}
-use Rattle.blocks.specs.Layout.{placeOf}
+use Rattle.write_blocks.specs.Layout.{placeOf}
 use lib.ListN.{length}
 use Rattle.strip.specs.Cell.{Vec3}
-use Rattle.pages.specs.Pages.{counts, pages}
-use Rattle.pages.proofs.Examples.{computed}
-use Rattle.pages.proofs.Sizes.{pages-length}
+use Rattle.write_pages.specs.Pages.{counts, pages}
+use Rattle.write_pages.proofs.Examples.{computed}
+use Rattle.write_pages.proofs.Sizes.{pages-length}
 use Rattle.proved.specs.Table.{empty, Table}
 
 same : (b : Bool) → _≡_ {A = ℕ} (cond b 0 0) 0

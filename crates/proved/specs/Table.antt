@@ -10,10 +10,10 @@ use Rattle.quantise.specs.Short.{short}
 use Rattle.quantise.specs.Quarter.{quarterFloor, quarterCeil}
 use Rattle.areas.specs.Areas.{seeded}
 use Rattle.areas.specs.EdgeHalf.{halfWord, noneWord}
-use Rattle.blocks.specs.Layout.{placeOf}
+use Rattle.write_blocks.specs.Layout.{placeOf}
 use Rattle.strip.specs.Cell.{Vec3, Cell}
 use Rattle.strip.specs.Outcome.{Paper, values, refusal}
-use Rattle.pages.specs.Pages.{counts, pages}
+use Rattle.write_pages.specs.Pages.{counts, pages}
 use Rattle.ynv_write.specs.declared.Written.{Written}
 
 -- 0, 2 ^ k, 2 ^ -(k + 1), -(2 ^ k) and -0.375

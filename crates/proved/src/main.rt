@@ -103,14 +103,14 @@ fn p10() -> u32
 fn p11_fits() -> u64
     ensures { λ r. ⌜ r ≡ 16288 ⌝ }
 {
-    blocks::place(16288, 96)
+    write_blocks::place(16288, 96)
 }
 
 // 112 go to the next page
 fn p11_next() -> u64
     ensures { λ r. ⌜ r ≡ 16384 ⌝ }
 {
-    blocks::place(16288, 112)
+    write_blocks::place(16288, 112)
 }
 
 // The length that the writer answers, 0 where it refuses.

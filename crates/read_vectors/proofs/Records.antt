@@ -9,7 +9,7 @@ use Rattle.fields.specs.Bytes.{leAt}
 use Rattle.strip.specs.Outcome.{Paper, refusal, values, shown, left}
 use Rattle.ynv_read.specs.Parse.{parseOutcome}
 use Rattle.ynv_read.specs.declared.Parsed.{Parsed}
-use Rattle.read_vectors.specs.Agreement.{Begins, Asked, PassedAt, recordOf, told, toldCounts, toldWord, toldWords, lent, between, untouchedWords, outcomeOf, stripOf, Agrees}
+use Rattle.read_vectors.specs.Agreement.{Begins, Asked, PassedAt, recordOf, expected, expectedCounts, toldWord, toldWords, lent, between, untouchedWords, outcomeOf, stripOf, Agrees}
 use Rattle.read_vectors.specs.declared.Record.{Record}
 use Rattle.replay.specs.Tallies.{Step, more}
 use Rattle.replay.specs.declared.Tally.{Tally}
@@ -18,12 +18,12 @@ pub same-counts : (p : Parsed) (v w x y z : ℕ) → p .words ≡ v → p .polys
 same-counts p v w x y z e f g h i = rw (← e, ← f, ← g, ← h, ← i)
 
 module _ (b : List ℕ) (at : ℕ) where
-  pub told-cell : (p : Parsed) → leAt 4 b (at + 16) ≡ 0 → p ≡ toldCounts b at → values p ≡ told b at
-  unfolding told
+  pub told-cell : (p : Parsed) → leAt 4 b (at + 16) ≡ 0 → p ≡ expectedCounts b at → values p ≡ expected b at
+  unfolding expected
   told-cell p e q = rw (eq-eqb (leAt 4 b (at + 16)) 0 e) (ap values q)
 
-  pub told-refusal : (n place : ℕ) → (leAt 4 b (at + 16) ≡ 0 → ⊥) → n ≡ leAt 4 b (at + 16) → place ≡ leAt 4 b (at + 20) → refusal n place ≡ told b at
-  unfolding told
+  pub told-refusal : (n place : ℕ) → (leAt 4 b (at + 16) ≡ 0 → ⊥) → n ≡ leAt 4 b (at + 16) → place ≡ leAt 4 b (at + 20) → refusal n place ≡ expected b at
+  unfolding expected
   told-refusal n place h e f = rw (ne-eqb (leAt 4 b (at + 16)) 0 h) (cc)
 
   pub told-words : (w : ℕ) → leAt 4 b (at + 16) ≡ 0 → w ≡ leAt 4 b (at + 20) → w ≡ toldWords b at
@@ -56,7 +56,7 @@ module _ (ws : List ℕ) (k : ℕ) where
   word-behind h = rw (le-ltb (4 * k) (length ws) h)
 
 -- a strip u that nothing was read into yet, and x when the record was read
-pub agreed : (b : List ℕ) (at : ℕ) (r : Record) (u x : List ℕ) (p : Paper Parsed) → u ≡ untouchedWords → 512 ≡ length u → p ≡ shown (outcomeOf b at r (length u)) → p ≡ told b at → x ≡ stripOf b at r u → ((k : ℕ) → k < 512 → getD x k 0 ≡ toldWord (between b (r .strip) (r .next)) k) → Agrees b at r
+pub agreed : (b : List ℕ) (at : ℕ) (r : Record) (u x : List ℕ) (p : Paper Parsed) → u ≡ untouchedWords → 512 ≡ length u → p ≡ shown (outcomeOf b at r (length u)) → p ≡ expected b at → x ≡ stripOf b at r u → ((k : ℕ) → k < 512 → getD x k 0 ≡ toldWord (between b (r .strip) (r .next)) k) → Agrees b at r
 agreed b at r u x p all len says tells leaves words =
     record {
       answer = ap (λ (n : ℕ). shown (outcomeOf b at r n)) len ∙ sym says ∙ tells;

@@ -15,12 +15,12 @@ use Rattle.replay.specs.declared.Tally.{Tally}
 use Rattle.read_vectors.specs.declared.Record.{Record}
 
 -- how much the cell of the record at a place has
-abbrev pub toldCounts : List ℕ → ℕ → Parsed
-toldCounts b at = record { words = leAt 4 b (at + 20); polys = leAt 4 b (at + 24); portals = leAt 4 b (at + 28); points = leAt 4 b (at + 32); sectors = leAt 4 b (at + 36) }
+abbrev pub expectedCounts : List ℕ → ℕ → Parsed
+expectedCounts b at = record { words = leAt 4 b (at + 20); polys = leAt 4 b (at + 24); portals = leAt 4 b (at + 28); points = leAt 4 b (at + 32); sectors = leAt 4 b (at + 36) }
 
 -- the answer that the record tells: the number 0 is an accepted cell
-unfoldable pub told : List ℕ → ℕ → Paper Parsed
-told b at = cond (eqb (leAt 4 b (at + 16)) 0) (values (toldCounts b at)) (refusal (leAt 4 b (at + 16)) (leAt 4 b (at + 20)))
+unfoldable pub expected : List ℕ → ℕ → Paper Parsed
+expected b at = cond (eqb (leAt 4 b (at + 16)) 0) (values (expectedCounts b at)) (refusal (leAt 4 b (at + 16)) (leAt 4 b (at + 20)))
 
 -- word k of a strip that has the words of these bytes in front and is untouched behind them
 unfoldable pub toldWord : List ℕ → ℕ → ℕ
@@ -50,7 +50,7 @@ stripOf b at r old = left (outcomeOf b at r (length old)) (take (lent b at (leng
 
 -- the reader agrees with the record: in its answer, in each word, and in what it leaves
 pub record Agrees (b : List ℕ) (at : ℕ) (r : Record) : Type 0 where
-  pub answer : shown (outcomeOf b at r 512) ≡ told b at
+  pub answer : shown (outcomeOf b at r 512) ≡ expected b at
   pub strip : (k : ℕ) → k < 512 → getD (stripOf b at r untouchedWords) k 0 ≡ toldWord (between b (r .strip) (r .next)) k
 
 -- where the parts of the record at a place stand

@@ -9,16 +9,16 @@ ghost use lib.ListN.{length, getD};
 ghost use Rattle.strip.specs.Outcome.{refusalOf, shown};
 ghost use Rattle.ynv_read.specs.Parse.{paper};
 ghost use Rattle.replay.specs.Tallies.{Tallied, Step};
-ghost use Rattle.read_vectors.specs.Agreement.{told, toldCounts, toldWord, untouchedWords, toldWords, outcomeOf, stripOf, Agrees, recordOf, Asked, TallyOf, Stands};
+ghost use Rattle.read_vectors.specs.Agreement.{expected, expectedCounts, toldWord, untouchedWords, toldWords, outcomeOf, stripOf, Agrees, recordOf, Asked, TallyOf, Stands};
 use fields::u32_le;
 use replay::Tally;
-use replay::counted;
 use replay::end_of;
 use replay::padded;
 use replay::print;
 use replay::print_first;
 use replay::print_number;
 use replay::print_tally;
+use replay::tallied;
 use strip::Refusal;
 use ynv_read::ParseAnswer;
 use ynv_read::Parsed;
@@ -84,7 +84,7 @@ fn read_record(bytes: &[u8], at: usize, r: Record, strip: &mut [u32]) -> ParseAn
 
 fn counts_agree(bytes: &[u8], at: usize, p: Parsed) -> bool
     requires { ⌜ at + 40 ≤ length (now bytes) ⌝ }
-    ensures { λ r. ⌜ (r ≡ true → p ≡ toldCounts (now (bytes .entry)) at) ⌝ }
+    ensures { λ r. ⌜ (r ≡ true → p ≡ expectedCounts (now (bytes .entry)) at) ⌝ }
 {
     if p.words != u32_le(bytes, at + 20) as usize {
         return false;
@@ -103,7 +103,7 @@ fn counts_agree(bytes: &[u8], at: usize, p: Parsed) -> bool
 
 fn refusal_agrees(bytes: &[u8], at: usize, r: Refusal) -> bool
     requires { ⌜ at + 40 ≤ length (now bytes) ⌝ }
-    ensures { λ s. ⌜ (s ≡ true → refusalOf r ≡ told (now (bytes .entry)) at) ⌝ }
+    ensures { λ s. ⌜ (s ≡ true → refusalOf r ≡ expected (now (bytes .entry)) at) ⌝ }
 {
     let number = u32_le(bytes, at + 16);
     if number == 0 {
@@ -118,7 +118,7 @@ fn refusal_agrees(bytes: &[u8], at: usize, r: Refusal) -> bool
 // Whether an answer is what the record says.
 fn answer_agrees(bytes: &[u8], at: usize, a: ParseAnswer) -> bool
     requires { ⌜ at + 40 ≤ length (now bytes) ⌝ }
-    ensures { λ r. ⌜ (r ≡ true → paper a ≡ told (now (bytes .entry)) at) ⌝ }
+    ensures { λ r. ⌜ (r ≡ true → paper a ≡ expected (now (bytes .entry)) at) ⌝ }
 {
     match a {
         ParseAnswer::Parsed(p) => {
@@ -191,7 +191,7 @@ fn with_record(bytes: &[u8], at: usize, r: Record, t: Tally, low: u32, high: u32
     if high < number {
         return t;
     }
-    counted(t, bytes.len(), at, agrees(bytes, at, r))
+    tallied(t, bytes.len(), at, agrees(bytes, at, r))
 }
 
 // Of the records whose number is from low to high.

@@ -12,9 +12,9 @@ use Rattle.fields.proofs.Bytes.{length-bytes, length-les}
 use Rattle.fields.proofs.Holds.{Holds, all-held, held-first, held-second, held-value}
 use Rattle.fields.proofs.Rows.{length-rows, field-in}
 use Rattle.strip.specs.Cell.{Head, All}
-use Rattle.grammar.specs.Derives.{areaOf}
-use Rattle.pages.specs.Pages.{padded, Places, Counts, headerFirst, headerLast, headerBytes}
-use Rattle.pages.proofs.Sizes.{length-padded}
+use Rattle.read_grammar.specs.Derives.{areaOf}
+use Rattle.write_pages.specs.Pages.{padded, Places, Counts, headerFirst, headerLast, headerBytes}
+use Rattle.write_pages.proofs.Sizes.{length-padded}
 
 -- number i of a row of numbers
 pub number-in : (s : List ℕ) (at w : ℕ) (xs : List ℕ) (i : ℕ) → i < length xs → Holds s at (les w xs) → leAt w s (at + w * i) ≡ getD xs i 0 % 256 ^ w

@@ -12,15 +12,15 @@ use Rattle.fields.specs.Rows.{rowBytes}
 use Rattle.fields.proofs.Bytes.{cat-append}
 use Rattle.fields.proofs.Holds.{Holds, all-held, held-more, held-first, held-second, held-end}
 use Rattle.fields.proofs.Rows.{length-rows, field-in, field-back}
-use Rattle.blocks.specs.Layout.{placeOf, behind, address}
-use Rattle.blocks.specs.Lists.{perPart, partCount, partCounts, chunks, Wide, offsetsAddress, tableAt, partsFrom, itemsEnd, listRow, partRow, tableBytes, frontBlocks, offsetBlocks, listBlocks}
-use Rattle.blocks.proofs.Lists.{cut-back, length-cat, wide-take, wide-drop, table-length}
-use Rattle.blocks.proofs.Standing.{Stand, stand-first}
-use Rattle.grammar.specs.Parts.{Good, Array}
-use Rattle.grammar.specs.Lists.{Table, no-table, table, Parts, no-part, skipped, part, ListAt, Items, some}
-use Rattle.grammar.proofs.Parts.{held-good}
-use Rattle.pages.specs.Optional.{blockOf, addressOf}
-use Rattle.pages.proofs.Optional.{address-some}
+use Rattle.write_blocks.specs.Layout.{placeOf, behind, address}
+use Rattle.write_blocks.specs.Lists.{perPart, partCount, partCounts, chunks, Wide, offsetsAddress, tableAt, partsFrom, itemsEnd, listRow, partRow, tableBytes, frontBlocks, offsetBlocks, listBlocks}
+use Rattle.write_blocks.proofs.Lists.{cut-back, length-cat, wide-take, wide-drop, table-length}
+use Rattle.write_blocks.proofs.Standing.{Stand, stand-first}
+use Rattle.read_grammar.specs.Parts.{Good, Array}
+use Rattle.read_grammar.specs.Lists.{Table, no-table, table, Parts, no-part, skipped, part, ListAt, Items, some}
+use Rattle.read_grammar.proofs.Parts.{held-good}
+use Rattle.write_pages.specs.Optional.{blockOf, addressOf}
+use Rattle.write_pages.proofs.Optional.{address-some}
 
 -- ---- a block where there is something
 

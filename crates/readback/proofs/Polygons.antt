@@ -18,16 +18,16 @@ use Rattle.distinct.specs.Distinct.{indexOf}
 use Rattle.distinct.proofs.Final.{In, found}
 use Rattle.areas.specs.declared.edge.RawEnd.{RawEnd}
 use Rattle.areas.proofs.EdgeHalf.{half-lt, end-back}
-use Rattle.grammar.specs.Polygons as read
-use Rattle.grammar.specs.Polygons.{edgeOf, vertexOf, linkRun, PolygonOf, Each, none, more}
-use Rattle.grammar.specs.Derives.{axis, backOf}
-use Rattle.pages.specs.Items.{floats, Corner, gather, tripleIn, cornersOf, cornersIn, corners, triples, named, linksOf, vertexRow, indexRow, halfOf, edgeRow, vertexItems, indexItems, edgeItems, polygonRow, polygonItems}
-use Rattle.pages.specs.Reread.{halfAgain, edgeAgain, positionAgain, polygonAgain}
-use Rattle.pages.specs.Accepted.{Checked, AllChecked}
+use Rattle.read_grammar.specs.Polygons as read
+use Rattle.read_grammar.specs.Polygons.{edgeOf, vertexOf, linkRun, PolygonOf, Each, none, more}
+use Rattle.read_grammar.specs.Derives.{axis, backOf}
+use Rattle.write_pages.specs.Items.{floats, Corner, gather, tripleIn, cornersOf, cornersIn, corners, triples, named, linksOf, vertexRow, indexRow, halfOf, edgeRow, vertexItems, indexItems, edgeItems, polygonRow, polygonItems}
+use Rattle.write_pages.specs.Reread.{halfAgain, edgeAgain, positionAgain, polygonAgain}
+use Rattle.write_pages.specs.Accepted.{Checked, AllChecked}
 use Rattle.strip.proofs.Alls.{all-apart}
-use Rattle.pages.proofs.Lists.{map-at}
-use Rattle.pages.proofs.Sizes.{length-vertices, length-indices, length-edges}
-use Rattle.pages.proofs.Placed.{length-corners}
+use Rattle.write_pages.proofs.Lists.{map-at}
+use Rattle.write_pages.proofs.Sizes.{length-vertices, length-indices, length-edges}
+use Rattle.write_pages.proofs.Placed.{length-corners}
 use Rattle.readback.proofs.Formed.{WordPolygon}
 
 -- a corner whose vertex and areas stand in the tables

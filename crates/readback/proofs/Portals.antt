@@ -15,17 +15,17 @@ use Rattle.quantise.specs.Short.{shorts}
 use Rattle.quantise.proofs.Capped.{short-lt}
 use Rattle.resource.proofs.Parts.{null-empty}
 use Rattle.strip.specs.Cell.{Vec3, NavPortal, NavPoint, Head, All, PointFits}
-use Rattle.blocks.specs.Layout.{placeOf}
-use Rattle.blocks.proofs.Standing.{Stand}
-use Rattle.grammar.specs.Polygons.{linksAt}
-use Rattle.grammar.specs.Derives.{backOf, portalOf, pointOf}
-use Rattle.pages.specs.Items.{floats}
-use Rattle.pages.specs.Optional.{blockOf, addressOf}
-use Rattle.pages.specs.Sectors.{pointRow, pointItems}
-use Rattle.pages.specs.Pages.{portalRow, portalItems}
-use Rattle.pages.specs.Reread.{positionAgain, portalAgain, pointAgain}
+use Rattle.write_blocks.specs.Layout.{placeOf}
+use Rattle.write_blocks.proofs.Standing.{Stand}
+use Rattle.read_grammar.specs.Polygons.{linksAt}
+use Rattle.read_grammar.specs.Derives.{backOf, portalOf, pointOf}
+use Rattle.write_pages.specs.Items.{floats}
+use Rattle.write_pages.specs.Optional.{blockOf, addressOf}
+use Rattle.write_pages.specs.Sectors.{pointRow, pointItems}
+use Rattle.write_pages.specs.Pages.{portalRow, portalItems}
+use Rattle.write_pages.specs.Reread.{positionAgain, portalAgain, pointAgain}
 use Rattle.readback.proofs.Formed.{FinePortal}
-use Rattle.pages.proofs.Optional.{address-some}
+use Rattle.write_pages.proofs.Optional.{address-some}
 use Rattle.readback.proofs.Lists.{good, block-held}
 use Rattle.readback.proofs.Polygons.{lo, extent, position-back}
 

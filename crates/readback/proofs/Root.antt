@@ -20,14 +20,14 @@ use Rattle.quantise.specs.declared.bounds.Aabb.{Aabb}
 use Rattle.strip.specs.Cell.{Vec3, NavPoint, Head, Cell, All}
 use Rattle.strip.specs.Box as Box
 use Rattle.strip.proofs.Box.{FiniteVec, FiniteBox}
-use Rattle.blocks.specs.Layout.{placeOf, address}
-use Rattle.blocks.proofs.Standing.{Stand}
-use Rattle.grammar.specs.Derives.{vecOf}
+use Rattle.write_blocks.specs.Layout.{placeOf, address}
+use Rattle.write_blocks.proofs.Standing.{Stand}
+use Rattle.read_grammar.specs.Derives.{vecOf}
 use Rattle.strip.proofs.Alls.{all-append}
-use Rattle.pages.specs.Items.{floats}
-use Rattle.pages.specs.Sectors.{Sector, sectorCount, sub0, sub1, sub2, sub3, depthBy, depthOf, rootBox, leaves, leafOf, pointsOf, grown, treeOf, preorder, sectorRow, dataFrom, from0, from1, from2, from3, sectorAddress, leafBlocks, treeBlocks}
-use Rattle.pages.specs.Sectors.Sector.{leaf, node}
-use Rattle.pages.specs.Pages.{sectors}
+use Rattle.write_pages.specs.Items.{floats}
+use Rattle.write_pages.specs.Sectors.{Sector, sectorCount, sub0, sub1, sub2, sub3, depthBy, depthOf, rootBox, leaves, leafOf, pointsOf, grown, treeOf, preorder, sectorRow, dataFrom, from0, from1, from2, from3, sectorAddress, leafBlocks, treeBlocks}
+use Rattle.write_pages.specs.Sectors.Sector.{leaf, node}
+use Rattle.write_pages.specs.Pages.{sectors}
 use Rattle.readback.proofs.Formed.{WordVec}
 use Rattle.readback.proofs.Trees.{first-held}
 
@@ -85,10 +85,10 @@ sector-root P end b d s0 s1 s2 s3 h =
       );
     }
 
-pub tree-root : (P : List ℕ) (lo size : Floats) (end first : ℕ) (t : Sector) → Stand P end (treeBlocks lo size end first t) → Root P end (boxAt t)
+pub tree-root : (P : List ℕ) (bb-min bb-size : Floats) (end first : ℕ) (t : Sector) → Stand P end (treeBlocks bb-min bb-size end first t) → Root P end (boxAt t)
 unfolding treeBlocks leafBlocks
-tree-root P lo size end first (leaf b is ts) h = sector-root P end b (address (placeOf (dataFrom end (length is) (length ts)) 32)) 0 0 0 0 (h .0)
-tree-root P lo size end first (node b t0 t1 t2 t3) h =
+tree-root P bb-min bb-size end first (leaf b is ts) h = sector-root P end b (address (placeOf (dataFrom end (length is) (length ts)) 32)) 0 0 0 0 (h .0)
+tree-root P bb-min bb-size end first (node b t0 t1 t2 t3) h =
     sector-root P end b 0 (sectorAddress (from0 end)) (sectorAddress (from1 end t0)) (sectorAddress (from2 end t0 t1)) (sectorAddress (from3 end t0 t1 t2)) (h .0)
 
 vec-back : (v : Vec3) → WordVec v → FiniteVec v → words (floats v) ≡ v

@@ -11,7 +11,7 @@ use Rattle.distinct.proofs.Final.{In, with-in, still-in}
 use Rattle.areas.specs.Areas.{seeds, seeded}
 use Rattle.math.specs.declared.vec3.Vec3.{Vec3 as Floats}
 use Rattle.strip.specs.Cell.{Vec3}
-use Rattle.pages.specs.Items.{Corner, gather, cornersOf, cornersIn, corners, named, areaTable, linksOf}
+use Rattle.write_pages.specs.Items.{Corner, gather, cornersOf, cornersIn, corners, named, areaTable, linksOf}
 use Rattle.strip.proofs.Alls.{all-append}
 use Rattle.readback.proofs.Formed.{WordEdge, WordPolygon}
 
@@ -45,20 +45,20 @@ unfolding named
 named-append P [] ls h k = k
 named-append P (c ∷ ks) ls h k = (h .0, (h .1 .0, named-append P ks ls (h .1 .1) k))
 
-module _ (lo size : Floats) where
-  corner-words : (vs : List Vec3) (es : List NavEdge) → All WordEdge es → All Word (named (cornersOf lo size vs es))
+module _ (bb-min bb-size : Floats) where
+  corner-words : (vs : List Vec3) (es : List NavEdge) → All WordEdge es → All Word (named (cornersOf bb-min bb-size vs es))
   unfolding cornersOf named
   corner-words [] es h = tt
   corner-words (v ∷ vs) [] h = (omega arith, (omega arith, corner-words vs [] tt))
   corner-words (v ∷ vs) (e ∷ es) h = (h .0 .a, (h .0 .b, corner-words vs es (h .1)))
 
-  named-words : (ps : List NavPoly) → All WordPolygon ps → All Word (named (corners lo size ps))
+  named-words : (ps : List NavPoly) → All WordPolygon ps → All Word (named (corners bb-min bb-size ps))
   unfolding gather named
   named-words [] h = tt
-  named-words (p ∷ ps) h = named-append Word (cornersIn lo size p) (corners lo size ps) (corner-words (p .vertices) (p .edges) (h .0 .edges)) (named-words ps (h .1))
+  named-words (p ∷ ps) h = named-append Word (cornersIn bb-min bb-size p) (corners bb-min bb-size ps) (corner-words (p .vertices) (p .edges) (h .0 .edges)) (named-words ps (h .1))
 
-  pub area-words : (own : ℕ) (ps : List NavPoly) → Word own → All WordPolygon ps → All Word (areaTable own (corners lo size ps))
-  area-words own ps h k = all-distinct Word (seeded own) (named (corners lo size ps)) (seeds-words own h) (named-words ps k)
+  pub area-words : (own : ℕ) (ps : List NavPoly) → Word own → All WordPolygon ps → All Word (areaTable own (corners bb-min bb-size ps))
+  area-words own ps h k = all-distinct Word (seeded own) (named (corners bb-min bb-size ps)) (seeds-words own h) (named-words ps k)
 
 pub link-shorts : (ps : List NavPoly) → All WordPolygon ps → All (λ x. x < 2 ^ 16) (linksOf ps)
 unfolding gather

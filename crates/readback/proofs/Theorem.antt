@@ -7,15 +7,15 @@ use lib.ListN.{length}
 use Rattle.strip.specs.Cell.{Cell, Words, InRange, encode}
 use Rattle.strip.specs.Scan.{Scanned, scan}
 use Rattle.strip.proofs.Exact.{scan-exact}
-use Rattle.grammar.specs.Polygons.{Each}
-use Rattle.grammar.specs.Derives.{Derives}
-use Rattle.grammar.proofs.Unique.{makes-one, derives-one}
-use Rattle.pages.specs.Sectors.{sectorCount}
-use Rattle.pages.specs.Pages.{sectors, pages}
-use Rattle.pages.specs.Checks.{fine, cellVerdict}
-use Rattle.pages.specs.Reread.{reread}
-use Rattle.pages.specs.Accepted.{Accepted}
-use Rattle.pages.proofs.Accepted.{accepted}
+use Rattle.read_grammar.specs.Polygons.{Each}
+use Rattle.read_grammar.specs.Derives.{Derives}
+use Rattle.read_grammar.proofs.Unique.{makes-one, derives-one}
+use Rattle.write_pages.specs.Sectors.{sectorCount}
+use Rattle.write_pages.specs.Pages.{sectors, pages}
+use Rattle.write_pages.specs.Checks.{fine, cellVerdict}
+use Rattle.write_pages.specs.Reread.{reread}
+use Rattle.write_pages.specs.Accepted.{Accepted}
+use Rattle.write_pages.proofs.Accepted.{accepted}
 use Rattle.readback.specs.Kept.{PolygonKept}
 use Rattle.readback.proofs.Kept.{reread-kept}
 use Rattle.readback.proofs.Whole.{makes, derives}

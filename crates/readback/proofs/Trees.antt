@@ -13,16 +13,16 @@ use Rattle.fields.proofs.Rows.{length-rows, field-back}
 use Rattle.math.specs.declared.vec3.Vec3.{Vec3 as Floats}
 use Rattle.quantise.specs.declared.bounds.Aabb.{Aabb}
 use Rattle.strip.specs.Cell.{NavPoint, All}
-use Rattle.blocks.specs.Layout.{placeOf, behind, endOf, address, lengths}
-use Rattle.blocks.proofs.Standing.{Stand, stand-first, stand-second}
-use Rattle.grammar.specs.Parts.{Good, Array}
-use Rattle.grammar.specs.Trees.{Data, no-data, data-at, keep, subsTo, Trees, Tree}
-use Rattle.pages.specs.Optional.{blockOf, sizeOf, addressOf}
-use Rattle.pages.specs.Sectors.{Sector, sectorCount, pointCount, leafCounts, preorder, sectorRow, dataRow, sizes, idsFrom, pointsFrom, dataFrom, from0, from1, from2, from3, sectorAddress, pointRow, pointItems, leafBlocks, treeBlocks}
-use Rattle.pages.specs.Sectors.Sector.{leaf, node}
-use Rattle.pages.specs.Accepted.{FewIn}
+use Rattle.write_blocks.specs.Layout.{placeOf, behind, endOf, address, lengths}
+use Rattle.write_blocks.proofs.Standing.{Stand, stand-first, stand-second}
+use Rattle.read_grammar.specs.Parts.{Good, Array}
+use Rattle.read_grammar.specs.Trees.{Data, no-data, data-at, keep, subsTo, Trees, Tree}
+use Rattle.write_pages.specs.Optional.{blockOf, sizeOf, addressOf}
+use Rattle.write_pages.specs.Sectors.{Sector, sectorCount, pointCount, leafCounts, preorder, sectorRow, dataRow, sizes, idsFrom, pointsFrom, dataFrom, from0, from1, from2, from3, sectorAddress, pointRow, pointItems, leafBlocks, treeBlocks}
+use Rattle.write_pages.specs.Sectors.Sector.{leaf, node}
+use Rattle.write_pages.specs.Accepted.{FewIn}
 use Rattle.strip.proofs.Alls.{all-apart}
-use Rattle.pages.proofs.Sizes.{point-count, block-size, length-points, wide-points, tree-lengths}
+use Rattle.write_pages.proofs.Sizes.{point-count, block-size, length-points, wide-points, tree-lengths}
 use Rattle.readback.proofs.Lists.{good, array-back, address-small}
 
 -- behind blocks of these sizes
@@ -76,15 +76,15 @@ module _ (P tail graphics : List ℕ) (few : length P < 2 ^ 28) where
       let z = Trees.tree g d r Trees.none in
       rw (add-zero n, append-nil qs) at z
 
-  module _ (lo size : Floats) where
+  module _ (bb-min bb-size : Floats) where
     -- what is read of a tree
     abbrev pub items : Sector → List (List ℕ)
-    items t = pointItems lo size (preorder t)
+    items t = pointItems bb-min bb-size (preorder t)
 
     -- ---- a leaf
 
     module _ (end first : ℕ) (b : Aabb) (is : List ℕ) (ts : List NavPoint) (fine : FewIn (length is, length ts))
-        (blocks : Stand P end (leafBlocks lo size end first (length is) (length ts) b is ts)) where
+        (blocks : Stand P end (leafBlocks bb-min bb-size end first (length is) (length ts) b is ts)) where
       abbrev m : ℕ
       m = length is
 
@@ -102,51 +102,51 @@ module _ (P tail graphics : List ℕ) (few : length P < 2 ^ 28) where
       leaf-held = first-held P end 96 (rowBytes leafRow) (length-rows leafRow) (blocks .0)
 
       -- points and data
-      rest : Stand P (pointsFrom end m) (blockOf (cat (pointItems lo size ts)) ++ (rowBytes leafData ∷ []))
+      rest : Stand P (pointsFrom end m) (blockOf (cat (pointItems bb-min bb-size ts)) ++ (rowBytes leafData ∷ []))
       unfolding leafBlocks
       rest =
-          stand-behind P (behind end 96) (blockOf (les 2 is)) (blockOf (cat (pointItems lo size ts)) ++ (rowBytes leafData ∷ [])) (sizeOf (2 * m))
+          stand-behind P (behind end 96) (blockOf (les 2 is)) (blockOf (cat (pointItems bb-min bb-size ts)) ++ (rowBytes leafData ∷ [])) (sizeOf (2 * m))
           (block-size (2 * m) (les 2 is) (length-les 2 is))
-          (first-behind P end 96 (rowBytes leafRow) (blockOf (les 2 is) ++ (blockOf (cat (pointItems lo size ts)) ++ (rowBytes leafData ∷ []))) (length-rows leafRow) (blocks .1))
+          (first-behind P end 96 (rowBytes leafRow) (blockOf (les 2 is) ++ (blockOf (cat (pointItems bb-min bb-size ts)) ++ (rowBytes leafData ∷ []))) (length-rows leafRow) (blocks .1))
 
-      points-block : Stand P (pointsFrom end m) (blockOf (cat (pointItems lo size ts)))
-      points-block = stand-first P (pointsFrom end m) (blockOf (cat (pointItems lo size ts))) (rowBytes leafData ∷ []) rest
+      points-block : Stand P (pointsFrom end m) (blockOf (cat (pointItems bb-min bb-size ts)))
+      points-block = stand-first P (pointsFrom end m) (blockOf (cat (pointItems bb-min bb-size ts))) (rowBytes leafData ∷ []) rest
 
       data-held : Holds P (placeOf (dataFrom end m n) 32) (rowBytes leafData)
       data-held =
           first-held P (dataFrom end m n) 32 (rowBytes leafData) (length-rows leafData)
-          (stand-behind P (pointsFrom end m) (blockOf (cat (pointItems lo size ts))) (rowBytes leafData ∷ []) (sizeOf (8 * n))
-          (block-size (8 * n) (cat (pointItems lo size ts)) (length-points lo size ts)) rest .0)
+          (stand-behind P (pointsFrom end m) (blockOf (cat (pointItems bb-min bb-size ts))) (rowBytes leafData ∷ []) (sizeOf (8 * n))
+          (block-size (8 * n) (cat (pointItems bb-min bb-size ts)) (length-points bb-min bb-size ts)) rest .0)
 
       data-place : placeOf (dataFrom end m n) 32 + 32 ≤ length P
       data-place = omega (arith, held-end data-held, length-rows leafData)
 
-      leaf-points : Array S graphics 8 (leAt 8 (rowBytes leafData) 0x10) (leAt 2 (rowBytes leafData) 0x1A) (pointItems lo size ts)
+      leaf-points : Array S graphics 8 (leAt 8 (rowBytes leafData) 0x10) (leAt 2 (rowBytes leafData) 0x1A) (pointItems bb-min bb-size ts)
       leaf-points =
           let va : leAt 8 (rowBytes leafData) 0x10 ≡ addressOf (pointsFrom end m) (8 * n) =
           field-back leafData 0x10 8 (addressOf (pointsFrom end m) (8 * n)) (omega arith) refl
-          ∙ mod-eq-of-lt (address-small P (pointsFrom end m) (8 * n) (cat (pointItems lo size ts)) few (length-points lo size ts) points-block) in
+          ∙ mod-eq-of-lt (address-small P (pointsFrom end m) (8 * n) (cat (pointItems bb-min bb-size ts)) few (length-points bb-min bb-size ts) points-block) in
           let count : leAt 2 (rowBytes leafData) 0x1A ≡ n = field-back leafData 0x1A 2 n (omega arith) refl ∙ omega (arith, fine .points) in
           rw (va, count)
-          (subst (λ (j : ℕ). Array S graphics 8 (addressOf (pointsFrom end m) (8 * j)) j (pointItems lo size ts)) (point-count lo size ts)
-          (array-back P tail graphics few 8 (pointsFrom end m) (pointItems lo size ts) (omega arith) (wide-points lo size ts) points-block))
+          (subst (λ (j : ℕ). Array S graphics 8 (addressOf (pointsFrom end m) (8 * j)) j (pointItems bb-min bb-size ts)) (point-count bb-min bb-size ts)
+          (array-back P tail graphics few 8 (pointsFrom end m) (pointItems bb-min bb-size ts) (omega arith) (wide-points bb-min bb-size ts) points-block))
 
-      leaf-tree : Tree S graphics (sectorAddress end) 1 (pointItems lo size ts)
+      leaf-tree : Tree S graphics (sectorAddress end) 1 (pointItems bb-min bb-size ts)
       leaf-tree =
           let va : leAt 8 (rowBytes leafRow) 0x2C ≡ address (placeOf (dataFrom end m n) 32) =
           sector-data b (address (placeOf (dataFrom end m n) 32)) 0 0 0 0 (omega (arith, data-place)) in
-          let d : Data S graphics (rowBytes leafRow) (pointItems lo size ts) =
+          let d : Data S graphics (rowBytes leafRow) (pointItems bb-min bb-size ts) =
           data-at {d = rowBytes leafData} (rw va (omega arith)) (rw va (good P tail graphics few 32 (length-rows leafData) (omega arith) data-held)) leaf-points in
           let subs : subsTo (rowBytes leafRow) 4 ≡ [] =
           sector-subs b (address (placeOf (dataFrom end m n) 32)) 0 0 0 0 (omega arith) (omega arith) (omega arith) (omega arith) in
           let none : Trees S graphics (subsTo (rowBytes leafRow) 4) 0 [] = rw subs Trees.none in
           let z = tree-at (good P tail graphics few 96 (length-rows leafRow) (omega arith) leaf-held) d none in
-          rw (append-nil (pointItems lo size ts)) at z
+          rw (append-nil (pointItems bb-min bb-size ts)) at z
 
     -- ---- a sector with subs
 
     -- the place of a tree's first block
-    tree-place : (end first : ℕ) (t : Sector) → Stand P end (treeBlocks lo size end first t) → placeOf end 96 + 96 ≤ length P
+    tree-place : (end first : ℕ) (t : Sector) → Stand P end (treeBlocks bb-min bb-size end first t) → placeOf end 96 + 96 ≤ length P
     unfolding treeBlocks leafBlocks
     tree-place end first (leaf b is ts) h =
         let r = sectorRow b (address (placeOf (dataFrom end (length is) (length ts)) 32)) 0 0 0 0 in
@@ -155,21 +155,21 @@ module _ (P tail graphics : List ℕ) (few : length P < 2 ^ 28) where
         let r = sectorRow b 0 (sectorAddress (from0 end)) (sectorAddress (from1 end t0)) (sectorAddress (from2 end t0 t1)) (sectorAddress (from3 end t0 t1 t2)) in
         subst (λ (j : ℕ). placeOf end j + j ≤ length P) (length-rows r) (held-end (h .0))
 
-    module _ (end first : ℕ) (b : Aabb) (t0 t1 t2 t3 : Sector) (blocks : Stand P end (treeBlocks lo size end first (node b t0 t1 t2 t3))) where
+    module _ (end first : ℕ) (b : Aabb) (t0 t1 t2 t3 : Sector) (blocks : Stand P end (treeBlocks bb-min bb-size end first (node b t0 t1 t2 t3))) where
       abbrev nodeRow : List (ℕ × ℕ)
       nodeRow = sectorRow b 0 (sectorAddress (from0 end)) (sectorAddress (from1 end t0)) (sectorAddress (from2 end t0 t1)) (sectorAddress (from3 end t0 t1 t2))
 
       abbrev b0 : List (List ℕ)
-      b0 = treeBlocks lo size (from0 end) first t0
+      b0 = treeBlocks bb-min bb-size (from0 end) first t0
 
       abbrev b1 : List (List ℕ)
-      b1 = treeBlocks lo size (from1 end t0) (first + pointCount t0) t1
+      b1 = treeBlocks bb-min bb-size (from1 end t0) (first + pointCount t0) t1
 
       abbrev b2 : List (List ℕ)
-      b2 = treeBlocks lo size (from2 end t0 t1) (first + (pointCount t0 + pointCount t1)) t2
+      b2 = treeBlocks bb-min bb-size (from2 end t0 t1) (first + (pointCount t0 + pointCount t1)) t2
 
       abbrev b3 : List (List ℕ)
-      b3 = treeBlocks lo size (from3 end t0 t1 t2) (first + (pointCount t0 + (pointCount t1 + pointCount t2))) t3
+      b3 = treeBlocks bb-min bb-size (from3 end t0 t1 t2) (first + (pointCount t0 + (pointCount t1 + pointCount t2))) t3
 
       record Subs : Type 0 where
         sub0 : Stand P (from0 end) b0
@@ -185,9 +185,9 @@ module _ (P tail graphics : List ℕ) (few : length P < 2 ^ 28) where
       unfolding treeBlocks
       subs-stand =
           let r0 = first-behind P end 96 (rowBytes nodeRow) (b0 ++ (b1 ++ (b2 ++ b3))) (length-rows nodeRow) (blocks .1) in
-          let r1 = stand-behind P (from0 end) b0 (b1 ++ (b2 ++ b3)) (sizes t0) (tree-lengths lo size (from0 end) first t0) r0 in
-          let r2 = stand-behind P (from1 end t0) b1 (b2 ++ b3) (sizes t1) (tree-lengths lo size (from1 end t0) (first + pointCount t0) t1) r1 in
-          let r3 = stand-behind P (from2 end t0 t1) b2 b3 (sizes t2) (tree-lengths lo size (from2 end t0 t1) (first + (pointCount t0 + pointCount t1)) t2) r2 in
+          let r1 = stand-behind P (from0 end) b0 (b1 ++ (b2 ++ b3)) (sizes t0) (tree-lengths bb-min bb-size (from0 end) first t0) r0 in
+          let r2 = stand-behind P (from1 end t0) b1 (b2 ++ b3) (sizes t1) (tree-lengths bb-min bb-size (from1 end t0) (first + pointCount t0) t1) r1 in
+          let r3 = stand-behind P (from2 end t0 t1) b2 b3 (sizes t2) (tree-lengths bb-min bb-size (from2 end t0 t1) (first + (pointCount t0 + pointCount t1)) t2) r2 in
           record {
             sub0 = stand-first P (from0 end) b0 (b1 ++ (b2 ++ b3)) r0;
             sub1 = stand-first P (from1 end t0) b1 (b2 ++ b3) r1;
@@ -227,13 +227,13 @@ module _ (P tail graphics : List ℕ) (few : length P < 2 ^ 28) where
     -- ---- the theorem
 
     node-items : (p0 p1 p2 p3 : List NavPoint)
-        → pointItems lo size p3 ++ (pointItems lo size p2 ++ (pointItems lo size p1 ++ pointItems lo size p0)) ≡ pointItems lo size (p3 ++ (p2 ++ (p1 ++ p0)))
+        → pointItems bb-min bb-size p3 ++ (pointItems bb-min bb-size p2 ++ (pointItems bb-min bb-size p1 ++ pointItems bb-min bb-size p0)) ≡ pointItems bb-min bb-size (p3 ++ (p2 ++ (p1 ++ p0)))
     unfolding pointItems
     node-items p0 p1 p2 p3 =
-        let f : NavPoint → List ℕ = λ t. rowBytes (pointRow lo size t) in
+        let f : NavPoint → List ℕ = λ t. rowBytes (pointRow bb-min bb-size t) in
         sym (rw (map-append f p3 (p2 ++ (p1 ++ p0)), map-append f p2 (p1 ++ p0), map-append f p1 p0))
 
-    pub tree-back : (end first : ℕ) (t : Sector) → All FewIn (leafCounts t) → Stand P end (treeBlocks lo size end first t)
+    pub tree-back : (end first : ℕ) (t : Sector) → All FewIn (leafCounts t) → Stand P end (treeBlocks bb-min bb-size end first t)
         → Tree S graphics (sectorAddress end) (sectorCount t) (items t)
     unfolding preorder sectorCount leafCounts treeBlocks
     tree-back end first (leaf b is ts) fine h = leaf-tree end first b is ts (fine .0) h
@@ -249,5 +249,5 @@ module _ (P tail graphics : List ℕ) (few : length P < 2 ^ 28) where
         (tree-back (from2 end t0 t1) (first + (pointCount t0 + pointCount t1)) t2 (f2 .0) (s .sub2))
         (tree-back (from3 end t0 t1 t2) (first + (pointCount t0 + (pointCount t1 + pointCount t2))) t3 (f2 .1) (s .sub3)) in
         let count : suc (sectorCount t3 + (sectorCount t2 + (sectorCount t1 + sectorCount t0))) ≡ 1 + (sectorCount t0 + (sectorCount t1 + (sectorCount t2 + sectorCount t3))) = omega arith in
-        subst (λ (k : ℕ). Tree S graphics (sectorAddress end) k (pointItems lo size (preorder t3 ++ (preorder t2 ++ (preorder t1 ++ preorder t0))))) count
+        subst (λ (k : ℕ). Tree S graphics (sectorAddress end) k (pointItems bb-min bb-size (preorder t3 ++ (preorder t2 ++ (preorder t1 ++ preorder t0))))) count
         (subst (λ (l : List (List ℕ)). Tree S graphics (sectorAddress end) (suc (sectorCount t3 + (sectorCount t2 + (sectorCount t1 + sectorCount t0)))) l) (node-items (preorder t0) (preorder t1) (preorder t2) (preorder t3)) z)

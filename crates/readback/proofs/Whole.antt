@@ -10,22 +10,22 @@ use Rattle.fields.proofs.Holds.{Holds, all-held, held-end}
 use Rattle.strip.specs.Cell.{Cell, All, PointFits, encode, InRange}
 use Rattle.strip.proofs.Box.{FiniteBox, box-finite}
 use Rattle.areas.specs.Areas.{seeded}
-use Rattle.blocks.specs.Layout.{placeOf, address}
-use Rattle.blocks.specs.Lists.{listSizes, listBlocks}
-use Rattle.blocks.proofs.Standing.{Stand, stand, stand-first}
-use Rattle.grammar.specs.Parts.{Array}
-use Rattle.grammar.specs.Polygons.{linksAt}
-use Rattle.grammar.specs.Derives.{areaOf, vecOf, headOf, Makes, Derives}
-use Rattle.pages.specs.Items.{triples, named, vertexItems, indexItems, edgeItems, polygonItems, linksOf}
-use Rattle.pages.specs.Optional.{blockOf, sizeOf, addressOf}
-use Rattle.pages.specs.Sectors as Sectors
-use Rattle.pages.specs.Sectors.{sectorCount, preorder, treeBlocks, pointItems}
-use Rattle.pages.specs.Pages.{Places, Counts, portalItems, allCorners, loOf, extentOf, vertices, areas, links, sectors, counts, endHeader, endVertices, endIndices, endEdges, endPolygons, endSectors, endPortals, placesOf, headerBytes, header, blocks, pages}
-use Rattle.pages.specs.Reread.{reread}
-use Rattle.pages.specs.Accepted.{Accepted}
-use Rattle.pages.proofs.Sizes as Sizes
-use Rattle.pages.proofs.Sizes.{length-vertices, length-indices, length-edges, list-size, wide-vertices, wide-indices, wide-edges, wide-polygons, wide-portals, length-polygons, length-portals, header-length, block-size, tree-lengths}
-use Rattle.pages.proofs.Placed.{pages-short, few-corners}
+use Rattle.write_blocks.specs.Layout.{placeOf, address}
+use Rattle.write_blocks.specs.Lists.{listSizes, listBlocks}
+use Rattle.write_blocks.proofs.Standing.{Stand, stand, stand-first}
+use Rattle.read_grammar.specs.Parts.{Array}
+use Rattle.read_grammar.specs.Polygons.{linksAt}
+use Rattle.read_grammar.specs.Derives.{areaOf, vecOf, headOf, Makes, Derives}
+use Rattle.write_pages.specs.Items.{triples, named, vertexItems, indexItems, edgeItems, polygonItems, linksOf}
+use Rattle.write_pages.specs.Optional.{blockOf, sizeOf, addressOf}
+use Rattle.write_pages.specs.Sectors as Sectors
+use Rattle.write_pages.specs.Sectors.{sectorCount, preorder, treeBlocks, pointItems}
+use Rattle.write_pages.specs.Pages.{Places, Counts, portalItems, allCorners, loOf, extentOf, vertices, areas, links, sectors, counts, endHeader, endVertices, endIndices, endEdges, endPolygons, endSectors, endPortals, placesOf, headerBytes, header, blocks, pages}
+use Rattle.write_pages.specs.Reread.{reread}
+use Rattle.write_pages.specs.Accepted.{Accepted}
+use Rattle.write_pages.proofs.Sizes as Sizes
+use Rattle.write_pages.proofs.Sizes.{length-vertices, length-indices, length-edges, list-size, wide-vertices, wide-indices, wide-edges, wide-polygons, wide-portals, length-polygons, length-portals, header-length, block-size, tree-lengths}
+use Rattle.write_pages.proofs.Placed.{pages-short, few-corners}
 use Rattle.readback.proofs.Formed.{Formed, formed}
 use Rattle.readback.proofs.Lists.{good, items-back, list-place, array-back, address-small}
 use Rattle.readback.proofs.Header as back

@@ -3,7 +3,7 @@ use Prim.Native.Nat.{ℕ, _%_, _^_, _≤_, _<_}
 use mathlib.Core.Path.{_≡_}
 use lib.ListN.{length, getD}
 use Rattle.strip.specs.Cell.{NavEdgeEnd, NavEdge, NavPoly}
-use Rattle.pages.specs.Items.{noEdge}
+use Rattle.write_pages.specs.Items.{noEdge}
 
 -- the area in full, the others cut to their bits
 pub record KeptHalf (h k : NavEdgeEnd) : Type 0 where

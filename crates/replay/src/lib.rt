@@ -28,7 +28,7 @@ pub struct Tally {
 }
 
 // With the record at a place of n.
-pub fn counted(t: Tally, n: usize, at: usize, agreed: bool) -> Tally
+pub fn tallied(t: Tally, n: usize, at: usize, agreed: bool) -> Tally
     requires { ⌜ Tallied n at t × (at < n) ⌝ }
     ensures { λ r. ⌜ (r ≡ counting t at agreed) × Tallied n (at + 1) r ⌝ }
 {

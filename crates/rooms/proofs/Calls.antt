@@ -14,12 +14,12 @@ use Rattle.strip.specs.Check.{onCell}
 use Rattle.strip.proofs.Exact.{scan-exact, scan-fits}
 use Rattle.strip.proofs.Faults.{scan-fault}
 use Rattle.ynv_read.specs.Parse.{countsOf, parseOutcome}
-use Rattle.pages.specs.Sectors.{sectorCount}
-use Rattle.pages.specs.Pages.{sectors, pages}
-use Rattle.pages.specs.Checks.{Verdict, fine, refused, onVerdict, cellVerdict, cellOutcome}
-use Rattle.pages.specs.Reread.{reread}
-use Rattle.pages.specs.Accepted.{Accepted}
-use Rattle.pages.proofs.Accepted.{accepted}
+use Rattle.write_pages.specs.Sectors.{sectorCount}
+use Rattle.write_pages.specs.Pages.{sectors, pages}
+use Rattle.write_pages.specs.Checks.{Verdict, fine, refused, onVerdict, cellVerdict, cellOutcome}
+use Rattle.write_pages.specs.Reread.{reread}
+use Rattle.write_pages.specs.Accepted.{Accepted}
+use Rattle.write_pages.proofs.Accepted.{accepted}
 use Rattle.ynv_write.specs.declared.Written.{Written}
 use Rattle.ynv_write.specs.Serialize.{writtenOf, serializeOutcome}
 use Rattle.roundtrip.proofs.RoundTrip.{enough, saved, behind-stays, length-is}

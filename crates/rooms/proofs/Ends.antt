@@ -12,14 +12,14 @@ use lib.ListN.{length}
 use Rattle.quantise.specs.declared.quarter.QuarterBox.{QuarterBox}
 use Rattle.quantise.specs.declared.bounds.Aabb.{Aabb}
 use Rattle.strip.specs.Cell.{NavPoint}
-use Rattle.blocks.specs.Layout.{aligned, placeOf, behind, endOf}
-use Rattle.blocks.specs.Lists.{perPart, partCount, partCounts, sizes, partSizes, offsetSizes, listSizes}
-use Rattle.pages.specs.Optional.{sizeOf}
-use Rattle.pages.specs.Sectors as Sectors
-use Rattle.pages.specs.Sectors.{Sector, quarters, grown, pointCount, byteCount, sub0, sub1, sub2, sub3}
-use Rattle.pages.specs.Sectors.Sector.{leaf, node}
-use Rattle.front.specs.Ends.{sumOf}
-use Rattle.front.proofs.Behind.{sum-append}
+use Rattle.write_blocks.specs.Layout.{aligned, placeOf, behind, endOf}
+use Rattle.write_blocks.specs.Lists.{perPart, partCount, partCounts, sizes, partSizes, offsetSizes, listSizes}
+use Rattle.write_pages.specs.Optional.{sizeOf}
+use Rattle.write_pages.specs.Sectors as Sectors
+use Rattle.write_pages.specs.Sectors.{Sector, quarters, grown, pointCount, byteCount, sub0, sub1, sub2, sub3}
+use Rattle.write_pages.specs.Sectors.Sector.{leaf, node}
+use Rattle.write_header.specs.Ends.{sumOf}
+use Rattle.write_header.proofs.Behind.{sum-append}
 
 -- ---- one block
 

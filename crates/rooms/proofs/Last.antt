@@ -12,12 +12,12 @@ use Rattle.strip.specs.Cell.{NavPoly, Cell, All}
 use Rattle.strip.specs.Box.{finiteBox}
 use Rattle.distinct.specs.Distinct.{withNew, distinctFrom}
 use Rattle.areas.specs.Areas.{seeded}
-use Rattle.pages.specs.Items.{Corner, cornersIn, triples, named}
-use Rattle.pages.specs.Sectors.{leafCounts}
-use Rattle.pages.specs.Pages.{loOf, extentOf, links, sectors, pages}
-use Rattle.pages.specs.Checks.{Verdict, fine, refused, faultIf, firstFault, at, cornerFault, cornersFault, polygonFault, polygonsVerdict, leafFault, leavesVerdict, cellVerdict}
-use Rattle.pages.specs.Accepted.{Accepted}
-use Rattle.pages.proofs.Accepted.{accepted}
+use Rattle.write_pages.specs.Items.{Corner, cornersIn, triples, named}
+use Rattle.write_pages.specs.Sectors.{leafCounts}
+use Rattle.write_pages.specs.Pages.{loOf, extentOf, links, sectors, pages}
+use Rattle.write_pages.specs.Checks.{Verdict, fine, refused, faultIf, firstFault, at, cornerFault, cornersFault, polygonFault, polygonsVerdict, leafFault, leavesVerdict, cellVerdict}
+use Rattle.write_pages.specs.Accepted.{Accepted}
+use Rattle.write_pages.proofs.Accepted.{accepted}
 
 -- ---- faults: none, or one from 10 on
 
@@ -49,12 +49,12 @@ corners-late ts us [] = λ some. absurd (omega arith)
 corners-late ts us (k ∷ ks) =
     first-late _ (corner-late ts us k, (corners-late (withNew ts (k .vertex)) (withNew (withNew us (k .edge .a .area)) (k .edge .b .area)) ks, tt))
 
-polygon-late : (lo size : Floats) (ts us : List ℕ) (start : ℕ) (p : NavPoly) → Late (polygonFault lo size ts us start p)
+polygon-late : (bb-min bb-size : Floats) (ts us : List ℕ) (start : ℕ) (p : NavPoly) → Late (polygonFault bb-min bb-size ts us start p)
 unfolding polygonFault
-polygon-late lo size ts us start p =
+polygon-late bb-min bb-size ts us start p =
     first-late _ (
       when-late (ltb (length (p .vertices)) 3 || ltb 2047 (length (p .vertices))) 12 (omega arith),
-      (when-late (ltb 65535 start) 13 (omega arith), (corners-late ts us (cornersIn lo size p), (when-late (ltb 7 (length (p .links))) 16 (omega arith), tt))),
+      (when-late (ltb 65535 start) 13 (omega arith), (corners-late ts us (cornersIn bb-min bb-size p), (when-late (ltb 7 (length (p .links))) 16 (omega arith), tt))),
     )
 
 leaf-late : (n : ℕ × ℕ) → Late (leafFault n)
@@ -73,14 +73,14 @@ unfolding at
 twin-at place zero v w h t = t
 twin-at place (suc n) v w h t = late-twin (suc n) place (refused (suc n) place) (h (omega arith))
 
-polygons-twin : (lo size : Floats) (ts us : List ℕ) (start k : ℕ) (ps : List NavPoly) (v w : Verdict) → Twin v w
-    → Twin (polygonsVerdict lo size ts us start k ps v) (polygonsVerdict lo size ts us start k ps w)
+polygons-twin : (bb-min bb-size : Floats) (ts us : List ℕ) (start k : ℕ) (ps : List NavPoly) (v w : Verdict) → Twin v w
+    → Twin (polygonsVerdict bb-min bb-size ts us start k ps v) (polygonsVerdict bb-min bb-size ts us start k ps w)
 unfolding polygonsVerdict
-polygons-twin lo size ts us start k [] v w t = t
-polygons-twin lo size ts us start k (p ∷ ps) v w t =
-    let ks = cornersIn lo size p in
-    twin-at k _ _ _ (polygon-late lo size ts us start p)
-    (polygons-twin lo size (distinctFrom ts (triples ks)) (distinctFrom us (named ks)) (start + length (p .vertices)) (k + 1) ps v w t)
+polygons-twin bb-min bb-size ts us start k [] v w t = t
+polygons-twin bb-min bb-size ts us start k (p ∷ ps) v w t =
+    let ks = cornersIn bb-min bb-size p in
+    twin-at k _ _ _ (polygon-late bb-min bb-size ts us start p)
+    (polygons-twin bb-min bb-size (distinctFrom ts (triples ks)) (distinctFrom us (named ks)) (start + length (p .vertices)) (k + 1) ps v w t)
 
 leaves-twin : (k : ℕ) (ns : List (ℕ × ℕ)) (v w : Verdict) → Twin v w → Twin (leavesVerdict k ns v) (leavesVerdict k ns w)
 unfolding leavesVerdict

@@ -7,25 +7,25 @@ use lib.ListN.{length, length-map}
 use Rattle.quantise.specs.declared.quarter.QuarterBox.{QuarterBox}
 use Rattle.strip.specs.Cell.{Cell, encode}
 use Rattle.distinct.proofs.Final.{length-distinct}
-use Rattle.blocks.specs.Lists.{partCount, listSizes}
-use Rattle.pages.specs.Items.{Corner, boxOf, triples}
-use Rattle.pages.specs.Optional.{sizeOf}
-use Rattle.pages.specs.Sectors as Sectors
-use Rattle.pages.specs.Sectors.{leafIds, treeOf, pointCount, depthBy, depthOf, rootBox}
-use Rattle.pages.specs.Pages as Pages
-use Rattle.pages.specs.Pages.{allCorners, loOf, extentOf, vertices, links, sectors, sizesOf, sizes, pages}
-use Rattle.pages.specs.Reread.{reread}
-use Rattle.pages.specs.Accepted.{Accepted}
-use Rattle.pages.proofs.Placed.{few-corners, at-most-200, pages-placed}
-use Rattle.pages.proofs.Sizes.{pages-length}
-use Rattle.quadtree.proofs.Picks.{ids-few}
-use Rattle.sectors.proofs.Cell.{few-points, cell-leaves}
-use Rattle.front.specs.Ends.{sumOf}
-use Rattle.front.proofs.Behind.{end-sum, sum-append}
-use Rattle.front.proofs.Cells.{sum-some, sum-tree}
+use Rattle.write_blocks.specs.Lists.{partCount, listSizes}
+use Rattle.write_pages.specs.Items.{Corner, boxOf, triples}
+use Rattle.write_pages.specs.Optional.{sizeOf}
+use Rattle.write_pages.specs.Sectors as Sectors
+use Rattle.write_pages.specs.Sectors.{leafIds, treeOf, pointCount, depthBy, depthOf, rootBox}
+use Rattle.write_pages.specs.Pages as Pages
+use Rattle.write_pages.specs.Pages.{allCorners, loOf, extentOf, vertices, links, sectors, sizesOf, sizes, pages}
+use Rattle.write_pages.specs.Reread.{reread}
+use Rattle.write_pages.specs.Accepted.{Accepted}
+use Rattle.write_pages.proofs.Placed.{few-corners, at-most-200, pages-placed}
+use Rattle.write_pages.proofs.Sizes.{pages-length}
+use Rattle.write_quadtree.proofs.Picks.{ids-few}
+use Rattle.write_sectors.proofs.Cell.{few-points, cell-leaves}
+use Rattle.write_header.specs.Ends.{sumOf}
+use Rattle.write_header.proofs.Behind.{end-sum, sum-append}
+use Rattle.write_header.proofs.Cells.{sum-some, sum-tree}
 use Rattle.rooms.specs.Rooms.{pagesRoom, stripRoom}
 use Rattle.rooms.proofs.Ends.{most, end-most, most-append, most-some, list-most, list-sum, treeMost, tree-most, points-bytes}
-use Rattle.pages.proofs.Stored.{stored-at-most}
+use Rattle.write_pages.proofs.Stored.{stored-at-most}
 use Rattle.rooms.proofs.Words.{three-corners, words-least, words-again}
 
 -- ---- the tree

@@ -6,18 +6,18 @@ use native.Mathlib.Omega.{arith}
 use lib.ListN.{length, length-append, length-map}
 use Rattle.math.specs.declared.vec3.Vec3.{Vec3 as Floats}
 use Rattle.strip.specs.Cell.{NavPoly, Cell, vecWords, edgeWords, each, headWords, polygonHeadAs, polygonWordsAs, polygonWords, portalWords, pointWords, endWords, encodeAs, encode}
-use Rattle.records.proofs.Items.{length-each}
-use Rattle.records.proofs.Stores.{portal-length}
-use Rattle.sector_tree.proofs.Stores.{point-length}
-use Rattle.polygon_words.proofs.Words.{vec-three, edge-six}
+use Rattle.read_records.proofs.Items.{length-each}
+use Rattle.read_records.proofs.Stores.{portal-length}
+use Rattle.read_sectors.proofs.Stores.{point-length}
+use Rattle.read_polygon_words.proofs.Words.{vec-three, edge-six}
 use Rattle.ynv_read.proofs.Lengths.{head-length}
-use Rattle.pages.specs.Items.{gather, cornersIn, corners, linksOf}
-use Rattle.pages.specs.Sectors.{preorder, pointCount}
-use Rattle.pages.specs.Pages.{allCorners, loOf, extentOf, links, sectors}
-use Rattle.pages.specs.Reread.{edgeAgain, positionAgain, polygonAgain, portalAgain, pointAgain, reread}
-use Rattle.pages.specs.Accepted.{AllChecked}
-use Rattle.pages.proofs.Placed.{length-corners}
-use Rattle.pages.proofs.Stored.{length-preorder}
+use Rattle.write_pages.specs.Items.{gather, cornersIn, corners, linksOf}
+use Rattle.write_pages.specs.Sectors.{preorder, pointCount}
+use Rattle.write_pages.specs.Pages.{allCorners, loOf, extentOf, links, sectors}
+use Rattle.write_pages.specs.Reread.{edgeAgain, positionAgain, polygonAgain, portalAgain, pointAgain, reread}
+use Rattle.write_pages.specs.Accepted.{AllChecked}
+use Rattle.write_pages.proofs.Placed.{length-corners}
+use Rattle.write_pages.proofs.Stored.{length-preorder}
 
 -- ---- polygons
 
@@ -28,12 +28,12 @@ polygon-words p =
     let vs = each vecWords (p .vertices) in
     omega (arith, length-append (front ++ vs) (each edgeWords (p .edges)), length-append front vs, length-each vecWords 3 vec-three (p .vertices), length-each edgeWords 6 edge-six (p .edges))
 
-module _ (lo size : Floats) where
-  corner-count : (p : NavPoly) → length (cornersIn lo size p) ≡ length (p .vertices)
-  corner-count p = length-corners lo size (p .vertices) (p .edges)
+module _ (bb-min bb-size : Floats) where
+  corner-count : (p : NavPoly) → length (cornersIn bb-min bb-size p) ≡ length (p .vertices)
+  corner-count p = length-corners bb-min bb-size (p .vertices) (p .edges)
 
   polygons-words : (ps : List NavPoly)
-      → length (each polygonWords ps) ≡ 4 * length ps + length (linksOf ps) + 3 * length (corners lo size ps) + 6 * length (gather (λ p. p .edges) ps)
+      → length (each polygonWords ps) ≡ 4 * length ps + length (linksOf ps) + 3 * length (corners bb-min bb-size ps) + 6 * length (gather (λ p. p .edges) ps)
   unfolding each gather
   polygons-words [] = omega arith
   polygons-words (p ∷ ps) =
@@ -41,7 +41,7 @@ module _ (lo size : Floats) where
         arith,
         length-append (polygonWords p) (each polygonWords ps),
         length-append (p .links) (linksOf ps),
-        length-append (cornersIn lo size p) (corners lo size ps),
+        length-append (cornersIn bb-min bb-size p) (corners bb-min bb-size ps),
         length-append (p .edges) (gather (λ (q : NavPoly). q .edges) ps),
         polygon-words p,
         corner-count p,
@@ -49,11 +49,11 @@ module _ (lo size : Floats) where
       )
 
   -- each of the polygons that are checked has three vertices
-  pub three-corners : (start : ℕ) (ps : List NavPoly) → AllChecked start ps → 3 * length ps ≤ length (corners lo size ps)
+  pub three-corners : (start : ℕ) (ps : List NavPoly) → AllChecked start ps → 3 * length ps ≤ length (corners bb-min bb-size ps)
   unfolding gather
   three-corners start [] h = omega arith
   three-corners start (p ∷ ps) h =
-      omega (arith, length-append (cornersIn lo size p) (corners lo size ps), corner-count p, h .0 .least-vertices, three-corners (start + length (p .vertices)) ps (h .1))
+      omega (arith, length-append (cornersIn bb-min bb-size p) (corners bb-min bb-size ps), corner-count p, h .0 .least-vertices, three-corners (start + length (p .vertices)) ps (h .1))
 
 -- what is gathered of the polygons that are made of others
 gather-made : {A B : Type 0} (f : NavPoly → List A) (g : NavPoly → List B) (make : NavPoly → NavPoly) → ((p : NavPoly) → length (f (make p)) ≡ length (g p))
@@ -85,21 +85,21 @@ module _ (c : Cell) where
       ≡ 15 + 4 * length (c .polys) + length (links c) + 9 * length (allCorners c) + 11 * length (c .portals) + 4 * pointCount (sectors c)
   unfolding reread links polygonAgain
   words-again =
-      let lo = loOf c in
-      let size = extentOf c in
-      let again = polygonAgain lo size in
+      let bb-min = loOf c in
+      let bb-size = extentOf c in
+      let again = polygonAgain bb-min bb-size in
       let ls : length (linksOf (map again (c .polys))) ≡ length (linksOf (c .polys)) = gather-made (λ p. p .links) (λ p. p .links) again (λ p. refl) (c .polys) in
-      let ks : length (corners lo size (map again (c .polys))) ≡ length (corners lo size (c .polys)) =
-      gather-made (cornersIn lo size) (cornersIn lo size) again
-      (λ p. corner-count lo size (again p) ∙ length-map (p .vertices) (positionAgain lo size) ∙ sym (corner-count lo size p)) (c .polys) in
-      let es : length (gather (λ (p : NavPoly). p .edges) (map again (c .polys))) ≡ length (corners lo size (c .polys)) =
-      gather-made (λ p. p .edges) (cornersIn lo size) again (λ p. length-map (cornersIn lo size p) (λ k. edgeAgain (k .edge))) (c .polys) in
+      let ks : length (corners bb-min bb-size (map again (c .polys))) ≡ length (corners bb-min bb-size (c .polys)) =
+      gather-made (cornersIn bb-min bb-size) (cornersIn bb-min bb-size) again
+      (λ p. corner-count bb-min bb-size (again p) ∙ length-map (p .vertices) (positionAgain bb-min bb-size) ∙ sym (corner-count bb-min bb-size p)) (c .polys) in
+      let es : length (gather (λ (p : NavPoly). p .edges) (map again (c .polys))) ≡ length (corners bb-min bb-size (c .polys)) =
+      gather-made (λ p. p .edges) (cornersIn bb-min bb-size) again (λ p. length-map (cornersIn bb-min bb-size p) (λ k. edgeAgain (k .edge))) (c .polys) in
       omega (
         arith,
         encode-words (reread c),
-        polygons-words lo size (map again (c .polys)),
+        polygons-words bb-min bb-size (map again (c .polys)),
         length-map (c .polys) again,
-        length-map (c .portals) (portalAgain lo size),
-        length-map (preorder (sectors c)) (pointAgain lo size),
+        length-map (c .portals) (portalAgain bb-min bb-size),
+        length-map (preorder (sectors c)) (pointAgain bb-min bb-size),
         length-preorder (sectors c),
       )

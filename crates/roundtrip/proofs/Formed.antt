@@ -7,11 +7,11 @@ use Rattle.strip.specs.Cell.{NavEdgeEnd, NavEdge, NavPoly, NavPortal, NavPoint,
 use Rattle.strip.specs.Scan.{Scanned, scan}
 use Rattle.strip.proofs.Exact.{scan-fits}
 use Rattle.strip.proofs.Alls.{all-map, all-images}
-use Rattle.pages.specs.Items.{cornersIn}
-use Rattle.pages.specs.Sectors.{preorder}
-use Rattle.pages.specs.Pages.{loOf, extentOf, sectors}
-use Rattle.pages.specs.Reread.{halfAgain, edgeAgain, positionAgain, polygonAgain, portalAgain, pointAgain, reread}
-use Rattle.pages.proofs.Placed.{length-corners}
+use Rattle.write_pages.specs.Items.{cornersIn}
+use Rattle.write_pages.specs.Sectors.{preorder}
+use Rattle.write_pages.specs.Pages.{loOf, extentOf, sectors}
+use Rattle.write_pages.specs.Reread.{halfAgain, edgeAgain, positionAgain, polygonAgain, portalAgain, pointAgain, reread}
+use Rattle.write_pages.proofs.Placed.{length-corners}
 use Rattle.readback.proofs.Root.{sectors-points}
 
 half-fits : (h : NavEdgeEnd) → HalfFits (halfAgain h)
@@ -22,23 +22,23 @@ edge-fits : (e : NavEdge) → EdgeFits (edgeAgain e)
 unfolding edgeAgain
 edge-fits e = record { a = half-fits (e .a); b = half-fits (e .b) }
 
-module _ (lo size : Floats) where
+module _ (bb-min bb-size : Floats) where
   -- as many edges as vertices
-  polygon-fits : (p : NavPoly) → PolygonFits p → PolygonFits (polygonAgain lo size p)
+  polygon-fits : (p : NavPoly) → PolygonFits p → PolygonFits (polygonAgain bb-min bb-size p)
   unfolding polygonAgain
   polygon-fits p f =
-      let vertices = length-map (p .vertices) (positionAgain lo size) in
-      let edges = length-map (cornersIn lo size p) (λ k. edgeAgain (k .edge)) ∙ length-corners lo size (p .vertices) (p .edges) in
+      let vertices = length-map (p .vertices) (positionAgain bb-min bb-size) in
+      let edges = length-map (cornersIn bb-min bb-size p) (λ k. edgeAgain (k .edge)) ∙ length-corners bb-min bb-size (p .vertices) (p .edges) in
       record {
         vertex-count = rw vertices (f .vertex-count);
         edge-count = rw edges (f .vertex-count);
         link-count = f .link-count;
         flags0 = f .flags0;
         links = f .links;
-        edges = all-images EdgeFits (λ k. edgeAgain (k .edge)) (λ k. edge-fits (k .edge)) (cornersIn lo size p);
+        edges = all-images EdgeFits (λ k. edgeAgain (k .edge)) (λ k. edge-fits (k .edge)) (cornersIn bb-min bb-size p);
       }
 
-  portal-fits : (p : NavPortal) → PortalFits p → PortalFits (portalAgain lo size p)
+  portal-fits : (p : NavPortal) → PortalFits p → PortalFits (portalAgain bb-min bb-size p)
   unfolding portalAgain
   portal-fits p f = record {
     kind = f .kind;
@@ -49,7 +49,7 @@ module _ (lo size : Floats) where
     area-unk = omega arith;
   }
 
-  point-fits : (t : NavPoint) → PointFits t → PointFits (pointAgain lo size t)
+  point-fits : (t : NavPoint) → PointFits t → PointFits (pointAgain bb-min bb-size t)
   unfolding pointAgain
   point-fits t f = record { angle = f .angle; kind = f .kind }
 

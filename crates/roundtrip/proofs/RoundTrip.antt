@@ -16,17 +16,17 @@ use Rattle.strip.specs.Cell.{NavPortal, Cell, Words, InRange, encode}
 use Rattle.strip.specs.Outcome.{Outcome, values, refusal, shown, left}
 use Rattle.strip.specs.Outcome as Outcome
 use Rattle.strip.proofs.Exact.{scan-exact}
-use Rattle.grammar.specs.Polygons.{Each, none, more}
-use Rattle.grammar.specs.Derives.{Derives}
+use Rattle.read_grammar.specs.Polygons.{Each, none, more}
+use Rattle.read_grammar.specs.Derives.{Derives}
 use Rattle.ynv_read.specs.declared.Parsed.{Parsed}
 use Rattle.ynv_read.specs.Parse.{countsOf}
 use Rattle.ynv_read.proofs.Theorems.{accepted-exactly as read-exactly, too-short-exactly}
-use Rattle.pages.specs.Sectors.{sectorCount, preorder}
-use Rattle.pages.specs.Pages.{loOf, extentOf, sectors, pages}
-use Rattle.pages.specs.Checks.{refused}
-use Rattle.pages.specs.Reread.{portalAgain, pointAgain, reread}
-use Rattle.pages.specs.Accepted.{Accepted}
-use Rattle.pages.proofs.Accepted.{accepted}
+use Rattle.write_pages.specs.Sectors.{sectorCount, preorder}
+use Rattle.write_pages.specs.Pages.{loOf, extentOf, sectors, pages}
+use Rattle.write_pages.specs.Checks.{refused}
+use Rattle.write_pages.specs.Reread.{portalAgain, pointAgain, reread}
+use Rattle.write_pages.specs.Accepted.{Accepted}
+use Rattle.write_pages.proofs.Accepted.{accepted}
 use Rattle.ynv_write.specs.declared.Written.{Written}
 use Rattle.ynv_write.specs.Theorems.{Accepts}
 use Rattle.ynv_write.proofs.Theorems.{accepted-exactly}

@@ -7,12 +7,12 @@ use lib.ListN.{length, take, drop}
 use Rattle.strip.specs.Cell.{NavPortal, NavPoint, Cell, encode}
 use Rattle.strip.specs.Scan.{Scanned, scan}
 use Rattle.strip.specs.Outcome.{Outcome, values, refusal, shown, left}
-use Rattle.grammar.specs.Polygons.{Each}
+use Rattle.read_grammar.specs.Polygons.{Each}
 use Rattle.ynv_read.specs.declared.Parsed.{Parsed}
 use Rattle.ynv_read.specs.Parse.{countsOf, parseOutcome}
-use Rattle.pages.specs.Sectors.{sectorCount, preorder}
-use Rattle.pages.specs.Pages.{sectors, pages}
-use Rattle.pages.specs.Reread.{reread}
+use Rattle.write_pages.specs.Sectors.{sectorCount, preorder}
+use Rattle.write_pages.specs.Pages.{sectors, pages}
+use Rattle.write_pages.specs.Reread.{reread}
 use Rattle.readback.specs.Kept.{PolygonKept}
 use Rattle.ynv_write.specs.declared.Written.{Written}
 use Rattle.ynv_write.specs.Serialize.{serializeOutcome}

@@ -12,10 +12,10 @@ use Rattle.areas.specs.Areas.{seeded, stored, ensured}
 use Rattle.areas.specs.declared.Areas.{Areas}
 use Rattle.areas.specs.declared.AreaAnswer.{AreaAnswer}
 use Rattle.areas.specs.declared.AreaAnswer.the-variants.{At, Full}
-use Rattle.blocks.specs.Layout.{placeOf}
+use Rattle.write_blocks.specs.Layout.{placeOf}
 use Rattle.strip.specs.Outcome.{shown}
 use Rattle.strip.specs.Check.{stripOutcome}
-use Rattle.leaves.specs.Entries.{numberOf, answerOf}
+use Rattle.units.specs.Entries.{numberOf, answerOf}
 use Rattle.answers.specs.Words as Words
 use Rattle.picking.specs.declared.Spot.{Spot}
 use Rattle.picking.specs.Picking.{pickOutcome}

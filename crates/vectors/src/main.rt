@@ -13,10 +13,10 @@ ghost use Rattle.vectors.specs.Agreement.{shortOf, backOf, floorOf, ceil
 use areas::AreaAnswer;
 use areas::Areas;
 use replay::Tally;
-use replay::counted;
 use replay::print;
 use replay::print_first;
 use replay::print_tally;
+use replay::tallied;
 
 // Word i, and 0 past the end.
 fn word(words: &[u32], i: usize) -> u32
@@ -32,23 +32,23 @@ fn word(words: &[u32], i: usize) -> u32
 fn short_agrees(input: &[u32], output: &[u32]) -> bool
     ensures { λ r. ⌜ (r ≡ true → shortOf (now (input .entry)) ≡ getD (now (output .entry)) 0 0) ⌝ }
 {
-    leaves::leaf_short(word(input, 0), word(input, 1), word(input, 2)) == word(output, 0)
+    units::leaf_short(word(input, 0), word(input, 1), word(input, 2)) == word(output, 0)
 }
 
 fn back_agrees(input: &[u32], output: &[u32]) -> bool
     ensures { λ r. ⌜ (r ≡ true → backOf (now (input .entry)) ≡ getD (now (output .entry)) 0 0) ⌝ }
 {
-    leaves::leaf_back(word(input, 0), word(input, 1), word(input, 2)) == word(output, 0)
+    units::leaf_back(word(input, 0), word(input, 1), word(input, 2)) == word(output, 0)
 }
 
 fn quarter_agrees(input: &[u32], output: &[u32]) -> bool
     ensures { λ r. ⌜ (r ≡ true → (floorOf (now (input .entry)) ≡ getD (now (output .entry)) 0 0) × (ceilOf (now (input .entry)) ≡ getD (now (output .entry)) 1 0)) ⌝ }
 {
     let x = word(input, 0);
-    let floor = leaves::leaf_quarter(x, 0);
+    let floor = units::leaf_quarter(x, 0);
     let low = word(output, 0);
     if floor == low {
-        return leaves::leaf_quarter(x, 1) == word(output, 1);
+        return units::leaf_quarter(x, 1) == word(output, 1);
     }
     false
 }
@@ -56,7 +56,7 @@ fn quarter_agrees(input: &[u32], output: &[u32]) -> bool
 fn place_agrees(input: &[u32], output: &[u32]) -> bool
     ensures { λ r. ⌜ (r ≡ true → placeIn (now (input .entry)) ≡ getD (now (output .entry)) 0 0 + 0x1_0000_0000 * getD (now (output .entry)) 1 0) ⌝ }
 {
-    let place = leaves::leaf_place(word(input, 0), word(input, 1));
+    let place = units::leaf_place(word(input, 0), word(input, 1));
     place == (word(output, 0) as u64) + 0x1_0000_0000 * (word(output, 1) as u64)
 }
 
@@ -64,7 +64,7 @@ fn strip_agrees(input: &[u32], output: &[u32]) -> bool
     ensures { λ r. ⌜ (r ≡ true → (stripNumber (now (input .entry)) ≡ getD (now (output .entry)) 0 0) × FirstThree (stripWords (now (input .entry))) (now (output .entry))) ⌝ }
 {
     let mut answer = [0u64; 8];
-    let number = leaves::leaf_check_strip(input, &mut answer);
+    let number = units::leaf_check_strip(input, &mut answer);
     answer_agrees(number, &answer, output)
 }
 
@@ -229,7 +229,7 @@ fn with_record(words: &[u32], at: usize, r: Record, t: Tally, low: u32, high: u3
         return t;
     }
     let agreed = agrees(tag, &words[input..output], &words[output..next]);
-    counted(t, words.len(), at, agreed)
+    tallied(t, words.len(), at, agreed)
 }
 
 // Of the records whose tag is from low to high.

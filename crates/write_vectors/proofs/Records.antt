@@ -11,26 +11,26 @@ use Rattle.strip.specs.Outcome.{Paper, refusal, values, shown, left}
 use Rattle.ynv_write.specs.Serialize.{serializeOutcome}
 use Rattle.ynv_write.specs.declared.Written.{Written}
 use Rattle.write_vectors.specs.Runs.{Unrolled}
-use Rattle.write_vectors.specs.Agreement.{Begins, Asked, PassedAt, recordOf, told, toldLength, sumUpTo, checksum, lent, lentWork, between, outcomeOf, pagesOf, SameBytes, Untouched, PagesAgree, Agrees, untouchedBytes}
+use Rattle.write_vectors.specs.Agreement.{Begins, Asked, PassedAt, recordOf, expected, expectedLength, sumUpTo, checksum, lent, lentWork, between, outcomeOf, pagesOf, SameBytes, Untouched, PagesAgree, Agrees, untouchedBytes}
 use Rattle.write_vectors.specs.declared.Record.{Record}
 use Rattle.replay.specs.Tallies.{Step, more}
 use Rattle.replay.specs.declared.Tally.{Tally}
 
 module _ (b : List ℕ) (at : ℕ) where
-  pub told-written : (w : Written) → leAt 4 b (at + 12) ≡ 0 → w .length ≡ leAt 4 b (at + 16) → values w ≡ told b at
-  unfolding told
+  pub told-written : (w : Written) → leAt 4 b (at + 12) ≡ 0 → w .length ≡ leAt 4 b (at + 16) → values w ≡ expected b at
+  unfolding expected
   told-written w e q = rw (eq-eqb (leAt 4 b (at + 12)) 0 e, ← q)
 
-  pub told-refusal : (n place : ℕ) → (leAt 4 b (at + 12) ≡ 0 → ⊥) → n ≡ leAt 4 b (at + 12) → place ≡ leAt 4 b (at + 16) → refusal n place ≡ told b at
-  unfolding told
+  pub told-refusal : (n place : ℕ) → (leAt 4 b (at + 12) ≡ 0 → ⊥) → n ≡ leAt 4 b (at + 12) → place ≡ leAt 4 b (at + 16) → refusal n place ≡ expected b at
+  unfolding expected
   told-refusal n place h e f = rw (ne-eqb (leAt 4 b (at + 12)) 0 h) (cc)
 
-  pub told-some : (n : ℕ) → leAt 4 b (at + 12) ≡ 0 → n ≡ leAt 4 b (at + 16) → n ≡ toldLength b at
-  unfolding toldLength
+  pub told-some : (n : ℕ) → leAt 4 b (at + 12) ≡ 0 → n ≡ leAt 4 b (at + 16) → n ≡ expectedLength b at
+  unfolding expectedLength
   told-some n e q = rw (eq-eqb (leAt 4 b (at + 12)) 0 e) q
 
-  pub told-none : (leAt 4 b (at + 12) ≡ 0 → ⊥) → 0 ≡ toldLength b at
-  unfolding toldLength
+  pub told-none : (leAt 4 b (at + 12) ≡ 0 → ⊥) → 0 ≡ expectedLength b at
+  unfolding expectedLength
   told-none h = rw (ne-eqb (leAt 4 b (at + 12)) 0 h)
 
 -- the checksum of one byte more, and of all of them
@@ -59,13 +59,13 @@ module _ (b : List ℕ) (at : ℕ) (strip work old : List ℕ) (g : ℕ) (d : g 
   pages-left new q = rw (q, work-length, part-length, d, e)
 
 -- the pages' three tests
-pub pages-agreed : (b : List ℕ) (at : ℕ) (r : Record) (pages : List ℕ) (f : ℕ) → f ≡ min (toldLength b at) (length pages) → checksum (take f pages) ≡ leAt 4 b (at + 20)
+pub pages-agreed : (b : List ℕ) (at : ℕ) (r : Record) (pages : List ℕ) (f : ℕ) → f ≡ min (expectedLength b at) (length pages) → checksum (take f pages) ≡ leAt 4 b (at + 20)
     → SameBytes (between b (r .bytes) (r .«bytes_end»)) pages → Untouched f pages → PagesAgree b at r pages
 pages-agreed b at r pages f e s t u = record { sum = rw (← e) s; bytes = t; rest = rw (← e) u }
 
 -- a strip that was made in s, pages u that nothing was written into yet, and x when the strip was written
 pub agreed : (b : List ℕ) (at : ℕ) (r : Record) (s strip u x : List ℕ) (p : Paper Written) → 214000 ≡ length s → Unrolled (between b (r .runs) (r .bytes)) (length s) strip → u ≡ untouchedBytes → 1400000 ≡ length u
-    → p ≡ shown (outcomeOf b at strip (length u)) → p ≡ told b at → x ≡ pagesOf b at strip u → PagesAgree b at r x → Agrees b at r
+    → p ≡ shown (outcomeOf b at strip (length u)) → p ≡ expected b at → x ≡ pagesOf b at strip u → PagesAgree b at r x → Agrees b at r
 agreed b at r s strip u x p room made all len says tells leaves same =
     record {
       strip = strip;

@@ -16,12 +16,12 @@ use Rattle.write_vectors.specs.Runs.{Unrolled}
 use Rattle.write_vectors.specs.declared.Record.{Record}
 
 -- the answer that the record at a place tells: the number 0 is an accepted strip
-unfoldable pub told : List ℕ → ℕ → Paper Written
-told b at = cond (eqb (leAt 4 b (at + 12)) 0) (values (record { length = leAt 4 b (at + 16) })) (refusal (leAt 4 b (at + 12)) (leAt 4 b (at + 16)))
+unfoldable pub expected : List ℕ → ℕ → Paper Written
+expected b at = cond (eqb (leAt 4 b (at + 12)) 0) (values (record { length = leAt 4 b (at + 16) })) (refusal (leAt 4 b (at + 12)) (leAt 4 b (at + 16)))
 
 -- the length of its pages
-unfoldable pub toldLength : List ℕ → ℕ → ℕ
-toldLength b at = cond (eqb (leAt 4 b (at + 12)) 0) (leAt 4 b (at + 16)) 0
+unfoldable pub expectedLength : List ℕ → ℕ → ℕ
+expectedLength b at = cond (eqb (leAt 4 b (at + 12)) 0) (leAt 4 b (at + 16)) 0
 
 -- the checksum of the first k bytes
 unfoldable pub sumUpTo : List ℕ → ℕ → ℕ
@@ -62,15 +62,15 @@ Untouched from pages = (k : ℕ) → from ≤ k → k < length pages → getD pa
 
 -- the pages have the record's checksum, begin with the bytes that it tells, and are behind its length as they were
 pub record PagesAgree (b : List ℕ) (at : ℕ) (r : Record) (pages : List ℕ) : Type 0 where
-  pub sum : checksum (take (min (toldLength b at) (length pages)) pages) ≡ leAt 4 b (at + 20)
+  pub sum : checksum (take (min (expectedLength b at) (length pages)) pages) ≡ leAt 4 b (at + 20)
   pub bytes : SameBytes (between b (r .bytes) (r .«bytes_end»)) pages
-  pub rest : Untouched (min (toldLength b at) (length pages)) pages
+  pub rest : Untouched (min (expectedLength b at) (length pages)) pages
 
 -- the writer agrees with the record: in its answer to the strip that the runs stand for, in the pages, and in what it leaves
 pub record Agrees (b : List ℕ) (at : ℕ) (r : Record) : Type 0 where
   pub strip : List ℕ
   pub runs : Unrolled (between b (r .runs) (r .bytes)) 214000 strip
-  pub answer : shown (outcomeOf b at strip 1400000) ≡ told b at
+  pub answer : shown (outcomeOf b at strip 1400000) ≡ expected b at
   pub pages : PagesAgree b at r (pagesOf b at strip untouchedBytes)
 
 -- where the parts of the record at a place stand
@@ -107,7 +107,7 @@ TallyOf b low high = Counted (λ (at : ℕ). Begins b at) (λ (at : ℕ). Asked 
 pub record Stands (at : ℕ) (r : Record) (n : ℕ) : Type 0 where
   pub starts : at < r .runs
   pub whole : r .runs ≤ r .bytes
-  pub told : r .bytes ≤ r .«bytes_end»
+  pub expected : r .bytes ≤ r .«bytes_end»
   pub inside : r .«bytes_end» ≤ n
   pub behind : r .bytes ≤ r .next
   pub within : r .next ≤ n

@@ -1,7 +1,7 @@
 // Replays the oracle's list of strips, which stands on standard input, against the writer, and prints how many records of each number agree.
 // The list is made of 32-bit little-endian words. A record is the word 8; the words of work and the bytes of pages lent; the number, 0 for
-// an accepted strip; the length of its pages, or the place; their checksum, or 0; how many of their bytes are told; how many words the runs
-// take; the runs; and the bytes told, padded to whole words. The first word that isn't 8 ends the list.
+// an accepted strip; the length of its pages, or the place; their checksum, or 0; how many of their bytes are expected; how many words the runs
+// take; the runs; and the bytes expected, padded to whole words. The first word that isn't 8 ends the list.
 // A run is a part of the strip: how many words it makes, how many words are given, which of these grows, and the given words. They come
 // again and again, and the one that grows is greater by 256 each time.
 ghost use mathlib.Core.Path.{_≡_};
@@ -13,21 +13,21 @@ ghost use Rattle.strip.specs.Outcome.{values, refusalOf, shown};
 ghost use Rattle.ynv_write.specs.Serialize.{paper};
 ghost use Rattle.replay.specs.Tallies.{Tallied, Step};
 ghost use Rattle.write_vectors.specs.Runs.{runWord, runWords, runOf, RunAt, Unrolled};
-ghost use Rattle.write_vectors.specs.Agreement.{told, toldLength, checksum, untouchedBytes, outcomeOf, pagesOf, SameBytes, Untouched, PagesAgree, Agrees, recordOf, Asked, TallyOf, Stands};
+ghost use Rattle.write_vectors.specs.Agreement.{expected, expectedLength, checksum, untouchedBytes, outcomeOf, pagesOf, SameBytes, Untouched, PagesAgree, Agrees, recordOf, Asked, TallyOf, Stands};
 use fields::u32_le;
 use replay::Tally;
-use replay::counted;
 use replay::end_of;
 use replay::padded;
 use replay::print;
 use replay::print_first;
 use replay::print_number;
 use replay::print_tally;
+use replay::tallied;
 use strip::Refusal;
 use ynv_write::SerializeAnswer;
 use ynv_write::Written;
 
-// Where the runs of a record begin, the bytes told begin and end, and the next record begins.
+// Where the runs of a record begin, the bytes expected begin and end, and the next record begins.
 struct Record {
     runs: usize,
     bytes: usize,
@@ -41,13 +41,13 @@ fn record_at(list: &[u8], at: usize) -> Record
 {
     let n = list.len();
     let runs = at + 32;
-    let told = u32_le(list, at + 24);
+    let expected = u32_le(list, at + 24);
     let bytes = end_of(n, runs, 4 * (u32_le(list, at + 28) as usize));
     Record {
         runs,
         bytes,
-        bytes_end: end_of(n, bytes, told as usize),
-        next: end_of(n, bytes, padded(told)),
+        bytes_end: end_of(n, bytes, expected as usize),
+        next: end_of(n, bytes, padded(expected)),
     }
 }
 
@@ -172,7 +172,7 @@ fn write_record(list: &[u8], at: usize, strip: &[u32], pages: &mut [u8]) -> Seri
 
 fn length_agrees(list: &[u8], at: usize, w: Written) -> bool
     requires { ⌜ at + 32 ≤ length (now list) ⌝ }
-    ensures { λ s. ⌜ (s ≡ true → values w ≡ told (now (list .entry)) at) ⌝ }
+    ensures { λ s. ⌜ (s ≡ true → values w ≡ expected (now (list .entry)) at) ⌝ }
 {
     if u32_le(list, at + 12) == 0 {
         return w.length == u32_le(list, at + 16) as usize;
@@ -182,7 +182,7 @@ fn length_agrees(list: &[u8], at: usize, w: Written) -> bool
 
 fn refusal_agrees(list: &[u8], at: usize, r: Refusal) -> bool
     requires { ⌜ at + 32 ≤ length (now list) ⌝ }
-    ensures { λ s. ⌜ (s ≡ true → refusalOf r ≡ told (now (list .entry)) at) ⌝ }
+    ensures { λ s. ⌜ (s ≡ true → refusalOf r ≡ expected (now (list .entry)) at) ⌝ }
 {
     let number = u32_le(list, at + 12);
     if number == 0 {
@@ -197,7 +197,7 @@ fn refusal_agrees(list: &[u8], at: usize, r: Refusal) -> bool
 // Whether an answer is what the record says.
 fn answer_agrees(list: &[u8], at: usize, a: SerializeAnswer) -> bool
     requires { ⌜ at + 32 ≤ length (now list) ⌝ }
-    ensures { λ r. ⌜ (r ≡ true → paper a ≡ told (now (list .entry)) at) ⌝ }
+    ensures { λ r. ⌜ (r ≡ true → paper a ≡ expected (now (list .entry)) at) ⌝ }
 {
     match a {
         SerializeAnswer::Written(w) => length_agrees(list, at, w),
@@ -208,7 +208,7 @@ fn answer_agrees(list: &[u8], at: usize, a: SerializeAnswer) -> bool
 // The length of the pages that the record tells: 0 where it is refused.
 fn told_length(list: &[u8], at: usize) -> usize
     requires { ⌜ at + 32 ≤ length (now list) ⌝ }
-    ensures { λ r. ⌜ r ≡ toldLength (now (list .entry)) at ⌝ }
+    ensures { λ r. ⌜ r ≡ expectedLength (now (list .entry)) at ⌝ }
 {
     if u32_le(list, at + 12) == 0 {
         return u32_le(list, at + 16) as usize;
@@ -229,16 +229,16 @@ fn checksum(bytes: &[u8]) -> u64
     sum
 }
 
-// Whether the pages begin with the bytes told.
-fn bytes_agree(told: &[u8], pages: &[u8]) -> bool
-    ensures { λ r. ⌜ (r ≡ true → SameBytes (now (told .entry)) (now (pages .entry))) ⌝ }
+// Whether the pages begin with the bytes expected.
+fn bytes_agree(expected: &[u8], pages: &[u8]) -> bool
+    ensures { λ r. ⌜ (r ≡ true → SameBytes (now (expected .entry)) (now (pages .entry))) ⌝ }
 {
-    if pages.len() < told.len() {
+    if pages.len() < expected.len() {
         return false;
     }
     let mut k = 0;
-    while k < told.len() {
-        if pages[k] != told[k] {
+    while k < expected.len() {
+        if pages[k] != expected[k] {
             return false;
         }
         k += 1;
@@ -307,7 +307,7 @@ fn with_record(list: &[u8], at: usize, r: Record, t: Tally, low: u32, high: u32)
     if high < number {
         return t;
     }
-    counted(t, list.len(), at, agrees(list, at, r))
+    tallied(t, list.len(), at, agrees(list, at, r))
 }
 
 // Of the records whose number is from low to high.

@@ -8,10 +8,10 @@ use Rattle.fields.specs.Bytes.{leAt}
 use Rattle.strip.specs.Outcome.{Paper, values, refusal}
 use Rattle.strip.specs.Cell.{Cell}
 use Rattle.strip.specs.Box.{finiteBox}
-use Rattle.lists.specs.Lists.{whole, listed}
-use Rattle.sector_tree.specs.Walk.{walk}
-use Rattle.sector_tree.specs.Walk as Walk
-use Rattle.polygons.specs.Polygons.{limitsOf, tallyFrom}
+use Rattle.read_lists.specs.Lists.{readableAt, listed}
+use Rattle.read_sectors.specs.Walk.{walk}
+use Rattle.read_sectors.specs.Walk as Walk
+use Rattle.read_polygons.specs.Polygons.{limitsOf, tallyFrom}
 use Rattle.ynv_read.specs.Reading.{made, check, onPaper, onWalk, header, rootAt, head, source, polygons, portalCount, cellOf, onHead, onLists, afterWalk, readCell}
 use Rattle.ynv_read.proofs.Checks.{check-in, paper-in, walk-in}
 
@@ -20,8 +20,8 @@ abbrev pub Listed : (S G : List ℕ) (w off place : ℕ) → Type 0
 Listed S G w off place = (n : ℕ) × (listed S G w (leAt 8 (header S G) off) place ≡ values n)
 
 pub record Accepted (S G : List ℕ) (c : Cell) (k : ℕ) : Type 0 where
-  pub header-whole : whole S G 0x5000_0000 368 ≡ true
-  pub root-whole : whole S G (rootAt S G) 96 ≡ true
+  pub header-whole : readableAt S G 0x5000_0000 368 ≡ true
+  pub root-whole : readableAt S G (rootAt S G) 96 ≡ true
   pub box : finiteBox (head S G) ≡ true
   pub left : ℕ
   pub points : List (List ℕ)
@@ -32,7 +32,7 @@ pub record Accepted (S G : List ℕ) (c : Cell) (k : ℕ) : Type 0 where
   pub polygon-list : Listed S G 48 0x118 4
   pub words : ℕ
   pub tally : tallyFrom (limitsOf (source S G)) (source S G .indices) 0 (polygons S G) ≡ values words
-  pub portals-whole : whole S G (leAt 8 (header S G) 0x128) (28 * portalCount S G) ≡ true
+  pub portals-whole : readableAt S G (leAt 8 (header S G) 0x128) (28 * portalCount S G) ≡ true
   pub is : c ≡ cellOf S G points
   pub sectors : k ≡ 4096 - left
 
@@ -44,15 +44,15 @@ accepted S G e =
     let w = walk S G 4096 (rootAt S G ∷ []) in
     let o₄ = onWalk w (afterWalk S G) in
     let o₃ = check (finiteBox (head S G)) 40 o₄ in
-    let o₂ = check (whole S G (rootAt S G) 96) 32 o₃ in
+    let o₂ = check (readableAt S G (rootAt S G) 96) 32 o₃ in
     let o₁ = check (ltb 0 (rootAt S G)) 31 o₂ in
-    let (h, e₁) = check-in (whole S G 0x5000_0000 368) 30 o₁ e in
+    let (h, e₁) = check-in (readableAt S G 0x5000_0000 368) 30 o₁ e in
     let e₂ = check-in (ltb 0 (rootAt S G)) 31 o₂ e₁ .1 in
-    let (r, e₃) = check-in (whole S G (rootAt S G) 96) 32 o₃ e₂ in
+    let (r, e₃) = check-in (readableAt S G (rootAt S G) 96) 32 o₃ e₂ in
     let (b, e₄) = check-in (finiteBox (head S G)) 40 o₄ e₃ in
     let (l, points, walked, e₅) = walk-in w (afterWalk S G) e₄ in
     let cell = made (cellOf S G points) (4096 - l) in
-    let p₅ = check (whole S G (leAt 8 hh 0x128) (28 * portalCount S G)) 39 cell in
+    let p₅ = check (readableAt S G (leAt 8 hh 0x128) (28 * portalCount S G)) 39 cell in
     let p₄ = onPaper (tallyFrom (limitsOf s) (s .indices) 0 (polygons S G)) p₅ in
     let p₃ = onPaper (listed S G 48 (leAt 8 hh 0x118) 4) p₄ in
     let p₂ = onPaper (listed S G 8 (leAt 8 hh 0x88) 3) p₃ in
@@ -62,7 +62,7 @@ accepted S G e =
     let (n₃, l₃, f₃) = paper-in (listed S G 8 (leAt 8 hh 0x88) 3) p₃ f₂ in
     let (n₄, l₄, f₄) = paper-in (listed S G 48 (leAt 8 hh 0x118) 4) p₄ f₃ in
     let (n, t, f₅) = paper-in (tallyFrom (limitsOf s) (s .indices) 0 (polygons S G)) p₅ f₄ in
-    let (g, f₆) = check-in (whole S G (leAt 8 hh 0x128) (28 * portalCount S G)) 39 cell f₅ in
+    let (g, f₆) = check-in (readableAt S G (leAt 8 hh 0x128) (28 * portalCount S G)) 39 cell f₅ in
     record {
       header-whole = h;
       root-whole = r;

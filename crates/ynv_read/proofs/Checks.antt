@@ -10,11 +10,11 @@ use Rattle.fields.specs.Bytes.{cut}
 use Rattle.resource.specs.Section.{resolved}
 use Rattle.strip.specs.Outcome.{Paper, values, refusal}
 use Rattle.strip.specs.Cell.{Cell}
-use Rattle.grammar.specs.Parts.{Good, Array, none, some}
-use Rattle.lists.specs.Lists.{whole}
-use Rattle.lists.proofs.Lists.{whole-of, length-whole}
-use Rattle.sector_tree.specs.Walk.{Walked}
-use Rattle.sector_tree.specs.Walk as Walk
+use Rattle.read_grammar.specs.Parts.{Good, Array, none, some}
+use Rattle.read_lists.specs.Lists.{readableAt}
+use Rattle.read_lists.proofs.Lists.{whole-of, length-whole}
+use Rattle.read_sectors.specs.Walk.{Walked}
+use Rattle.read_sectors.specs.Walk as Walk
 use Rattle.ynv_read.specs.Reading.{Reading, made, refused, check, onPaper, onWalk}
 
 refused-made : {number place k : ℕ} {c : Cell} → refused number place ≡ made c k → ⊥
@@ -36,17 +36,17 @@ walk-in (Walk.refused number) rest e = absurd (refused-made e)
 -- ---- good parts
 
 module _ (S G : List ℕ) where
-  pub good-in : (va n : ℕ) → 0 < n → whole S G va n ≡ true → Good S G va n (resolved S G va n)
+  pub good-in : (va n : ℕ) → 0 < n → readableAt S G va n ≡ true → Good S G va n (resolved S G va n)
   good-in va n h e = record { some = h; there = refl; whole = length-whole S G va n e }
 
-  pub good-out : (va n : ℕ) {b : List ℕ} → Good S G va n b → whole S G va n ≡ true
+  pub good-out : (va n : ℕ) {b : List ℕ} → Good S G va n b → readableAt S G va n ≡ true
   good-out va n g = whole-of S G va n (omega (arith, ap length (g .there), g .whole))
 
-  pub array-in : (w va n : ℕ) → whole S G va (w * n) ≡ true → 0 < w → Array S G w va n (cut w n (resolved S G va (w * n)))
+  pub array-in : (w va n : ℕ) → readableAt S G va (w * n) ≡ true → 0 < w → Array S G w va n (cut w n (resolved S G va (w * n)))
   unfolding cut
   array-in w va zero e h = none
   array-in w va (suc n) e h = some (good-in va (w * suc n) (omega (arith, mul-suc w n)) e)
 
-  pub array-out : {w va n : ℕ} {xs : List (List ℕ)} → Array S G w va n xs → whole S G va (w * n) ≡ true
+  pub array-out : {w va n : ℕ} {xs : List (List ℕ)} → Array S G w va n xs → readableAt S G va (w * n) ≡ true
   array-out {w} {va} none = whole-of S G va (w * 0) (omega (arith, mul-zero w))
   array-out {w} {va} (some {n = n} g) = good-out va (w * suc n) g

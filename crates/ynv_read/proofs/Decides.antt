@@ -1,4 +1,4 @@
--- Pass one: what the checks after the walk come to, by what was called. Assumes nothing.
+-- Pass one: what the checks passedThen the walk come to, by what was called. Assumes nothing.
 use Prim.Native.Nat.{ℕ, _+_, _*_, _/_, _^_, _≤_, _<_}
 use native.Mathlib.Omega.{arith}
 use mathlib.Core.Path.{_≡_, refl, sym, ap, subst, _∙_}
@@ -8,23 +8,23 @@ use lib.ListN.{length}
 use Rattle.fields.specs.Bytes.{leAt}
 use Rattle.resource.specs.Section.{resolved}
 use Rattle.strip.specs.declared.Refusal.{Refusal}
-use Rattle.lists.specs.Lists.{total, tableOf, listed, Readable}
-use Rattle.polygon_words.proofs.Words.{links-are, length-links}
-use Rattle.polygons.specs.declared.Limits.{Limits}
-use Rattle.polygons.specs.declared.ListsAnswer.{ListsAnswer}
-use Rattle.polygons.specs.declared.ListsAnswer.the-variants.{Lists}
-use Rattle.polygons.specs.declared.ListsAnswer.the-variants.{Refused as Turned}
-use Rattle.polygons.specs.declared.PolysAnswer.{PolysAnswer}
-use Rattle.polygons.specs.declared.PolysAnswer.the-variants.{Words}
-use Rattle.polygons.specs.declared.PolysAnswer.the-variants.{Refused as Stopped}
-use Rattle.polygons.specs.Polygons.{limitsOf, tallyFrom, paper}
+use Rattle.read_lists.specs.Lists.{total, tableOf, listed, Readable}
+use Rattle.read_polygon_words.proofs.Words.{links-are, length-links}
+use Rattle.read_polygons.specs.declared.Limits.{Limits}
+use Rattle.read_polygons.specs.declared.ListsAnswer.{ListsAnswer}
+use Rattle.read_polygons.specs.declared.ListsAnswer.the-variants.{Lists}
+use Rattle.read_polygons.specs.declared.ListsAnswer.the-variants.{Refused as Turned}
+use Rattle.read_polygons.specs.declared.PolysAnswer.{PolysAnswer}
+use Rattle.read_polygons.specs.declared.PolysAnswer.the-variants.{Words}
+use Rattle.read_polygons.specs.declared.PolysAnswer.the-variants.{Refused as Stopped}
+use Rattle.read_polygons.specs.Polygons.{limitsOf, tallyFrom, paper}
 use Rattle.strip.specs.Outcome.{Paper, values, refusal, refusalOf}
-use Rattle.polygons.specs.Passes.{itemsIn, Small}
-use Rattle.polygons.specs.Listed.{listsOf, ListsRead, Counts}
-use Rattle.polygons.specs.Listed as Listed
-use Rattle.polygons.proofs.Exact.{tally-made}
-use Rattle.polygons.proofs.Runs.{length-items}
-use Rattle.lists.proofs.Lists.{whole-of, not-whole}
+use Rattle.read_polygons.specs.Passes.{itemsIn, Small}
+use Rattle.read_polygons.specs.Listed.{listsOf, ListsRead, Counts}
+use Rattle.read_polygons.specs.Listed as Listed
+use Rattle.read_polygons.proofs.Exact.{tally-made}
+use Rattle.read_polygons.proofs.Runs.{length-items}
+use Rattle.read_lists.proofs.Lists.{whole-of, not-whole}
 use Rattle.strip.specs.Cell.{encode}
 use Rattle.ynv_read.specs.declared.ListAddresses.{ListAddresses}
 use Rattle.ynv_read.specs.declared.Parsed.{Parsed}
@@ -33,20 +33,20 @@ use Rattle.ynv_read.specs.declared.ListsCheck.{ListsCheck}
 use Rattle.ynv_read.specs.declared.ListsCheck.the-variants as ListsCheck
 use Rattle.ynv_read.specs.Reading.{Reading, made, refused, onPaper, header, source, polygons, portalCount, portals, rootAt, cellOf, onWalk, onHead, onLists, afterWalk, readCell}
 use Rattle.strip.specs.Outcome.{shown}
-use Rattle.lists.specs.Lists.{whole}
-use Rattle.sector_tree.specs.declared.Tree.{Tree}
-use Rattle.sector_tree.specs.declared.TreeAnswer.{TreeAnswer}
-use Rattle.sector_tree.specs.declared.TreeAnswer.the-variants as TreeAnswer
-use Rattle.sector_tree.specs.Walk.{Walked, walk}
-use Rattle.sector_tree.specs.Walk as Walk
-use Rattle.sector_tree.specs.Answer as Tree
-use Rattle.sector_tree.specs.Answer.{outcomeOf, treeOutcome}
-use Rattle.sector_tree.proofs.Answers.{by-walk, accepted}
+use Rattle.read_lists.specs.Lists.{readableAt}
+use Rattle.read_sectors.specs.declared.Tree.{Tree}
+use Rattle.read_sectors.specs.declared.TreeAnswer.{TreeAnswer}
+use Rattle.read_sectors.specs.declared.TreeAnswer.the-variants as TreeAnswer
+use Rattle.read_sectors.specs.Walk.{Walked, walk}
+use Rattle.read_sectors.specs.Walk as Walk
+use Rattle.read_sectors.specs.Answer as Tree
+use Rattle.read_sectors.specs.Answer.{outcomeOf, treeOutcome}
+use Rattle.read_sectors.proofs.Answers.{by-walk, accepted}
 use Rattle.ynv_read.specs.declared.ParseAnswer.{ParseAnswer}
 use Rattle.ynv_read.specs.declared.Check.{Check}
 use Rattle.ynv_read.specs.declared.Check.the-variants as Check
 use Rattle.ynv_read.specs.Parse.{countsOf}
-use Rattle.ynv_read.specs.Passes.{answerOf, after, addresses, linkBytes, polysWords, ListsReady, Tallied, ListsChecked}
+use Rattle.ynv_read.specs.Passes.{answerOf, passedThen, addresses, linkBytes, polysWords, ListsReady, Tallied, ListsChecked}
 use Rattle.ynv_read.proofs.Lengths.{polys-count, portals-count, points-count, encode-length}
 
 -- ---- the four lists
@@ -127,8 +127,8 @@ module _ (S G : List ℕ) {a : ListAddresses} (ea : a ≡ addresses (header S G)
         let i : l .indices ≡ length (s .indices) = counts .indices .count ∙ sym (length-items S G 2 (tableOf S G (leAt 8 (header S G) 0x80))) in
         let e : l .edges ≡ length (s .edges) = counts .edges .count ∙ sym (length-items S G 8 (tableOf S G (leAt 8 (header S G) 0x88))) in
         let k : l .links ≡ length (s .links) = counts .link-count ∙ links-count S G in
-        let whole : make (l .vertices) (l .indices) (l .edges) (l .links) ≡ make (length (s .vertices)) (length (s .indices)) (length (s .edges)) (length (s .links)) = rw (v, i, e, k) in
-        whole
+        let readableAt : make (l .vertices) (l .indices) (l .edges) (l .links) ≡ make (length (s .vertices)) (length (s .indices)) (length (s .edges)) (length (s .links)) = rw (v, i, e, k) in
+        readableAt
 
     module _ {it pt : List ℕ} (ei : it ≡ tableOf S G (a .indices)) (ep : pt ≡ tableOf S G (a .polygons)) where
       index-table : it ≡ tableOf S G (leAt 8 (header S G) 0x80)
@@ -164,7 +164,7 @@ module _ (S G : List ℕ) {a : ListAddresses} (ea : a ≡ addresses (header S G)
               small = rw e at (et .1);
             }
 
--- ---- after the walk
+-- ---- passedThen the walk
 
 module _ (S G : List ℕ) {r : ListsCheck} (er : ListsChecked S G r) where
   pub rest-stopped : {q : Refusal} → r ≡ ListsCheck.Refused q → (points : List (List ℕ)) (k : ℕ) → ParseAnswer.Refused q ≡ answerOf (afterWalk S G points k)
@@ -207,13 +207,13 @@ module _ (S G : List ℕ) {r : ListsCheck} (er : ListsChecked S G r) where
 -- a root that passed isn't 0
 pub passed-far : (S G : List ℕ) → ((rest : Reading) → onHead S G rest ≡ rest) → rootAt S G ≡ 0 → ⊥
 unfolding onHead
-passed-far S G passes z = by (whole S G 0x5000_0000 368) (rw z at (passes (refused 0 0)))
+passed-far S G passes z = by (readableAt S G 0x5000_0000 368) (rw z at (passes (refused 0 0)))
   where
     by : (b : Bool) → cond b (refused 31 0) (refused 30 0) ≡ refused 0 0 → ⊥
     by true e = let n : _≡_ {A = ℕ} 31 0 = cc in omega arith
     by false e = let n : _≡_ {A = ℕ} 30 0 = cc in omega arith
 
-module _ (S G : List ℕ) {x : Check} (ex : (rest : Reading) → onHead S G rest ≡ after x rest) where
+module _ (S G : List ℕ) {x : Check} (ex : (rest : Reading) → onHead S G rest ≡ passedThen x rest) where
   pub head-stopped : {q : Refusal} → x ≡ Check.Refused q → ParseAnswer.Refused q ≡ answerOf (readCell S G)
   unfolding readCell
   head-stopped {q} e =

@@ -10,24 +10,24 @@ use Rattle.fields.specs.Bytes.{leAt, cut}
 use Rattle.strip.specs.Outcome.{Paper, values, refusal}
 use Rattle.strip.specs.Cell.{Cell}
 use Rattle.strip.specs.Box.{finiteBox}
-use Rattle.grammar.specs.Parts.{Good, Array}
-use Rattle.grammar.specs.Trees.{Tree}
-use Rattle.grammar.specs.Lists as grammar
-use Rattle.grammar.specs.Polygons.{Each}
-use Rattle.grammar.specs.Derives.{headOf, Makes}
-use Rattle.grammar.proofs.Parts.{null-never}
-use Rattle.grammar.proofs.Unique.{makes-one}
-use Rattle.lists.specs.Lists.{whole, before, total, tableOf, listBytes, listed}
-use Rattle.lists.specs.Lists.{header as lists-header}
+use Rattle.read_grammar.specs.Parts.{Good, Array}
+use Rattle.read_grammar.specs.Trees.{Tree}
+use Rattle.read_grammar.specs.Lists as grammar
+use Rattle.read_grammar.specs.Polygons.{Each}
+use Rattle.read_grammar.specs.Derives.{headOf, Makes}
+use Rattle.read_grammar.proofs.Parts.{null-never}
+use Rattle.read_grammar.proofs.Unique.{makes-one}
+use Rattle.read_lists.specs.Lists.{readableAt, before, total, tableOf, listBytes, listed}
+use Rattle.read_lists.specs.Lists.{header as lists-header}
 use Rattle.resource.proofs.Parts.{null-empty}
-use Rattle.lists.proofs.Accepted.{Found, at-null, there, listed-found}
-use Rattle.lists.proofs.Exact as lists
-use Rattle.sector_tree.specs.Walk.{walk}
-use Rattle.sector_tree.specs.Walk as Walk
-use Rattle.sector_tree.proofs.Exact.{walk-sound, walk-complete}
-use Rattle.polygons.specs.Polygons as Polygons
-use Rattle.polygons.specs.Passes.{itemsIn}
-use Rattle.polygons.proofs.Exact.{tally-made, made-tally}
+use Rattle.read_lists.proofs.Accepted.{Found, at-null, there, listed-found}
+use Rattle.read_lists.proofs.Exact as lists
+use Rattle.read_sectors.specs.Walk.{walk}
+use Rattle.read_sectors.specs.Walk as Walk
+use Rattle.read_sectors.proofs.Exact.{walk-sound, walk-complete}
+use Rattle.read_polygons.specs.Polygons as Polygons
+use Rattle.read_polygons.specs.Passes.{itemsIn}
+use Rattle.read_polygons.proofs.Exact.{tally-made, made-tally}
 use Rattle.ynv_read.specs.Reading.{made, header, rootAt, root, head, itemsAt, source, polygons, portalCount, portals, cellOf, onHead, onLists, afterWalk, readCell}
 use Rattle.ynv_read.proofs.Accepted.{accepted}
 use Rattle.ynv_read.proofs.Checks.{good-in, good-out, array-in, array-out}
@@ -35,11 +35,11 @@ use Rattle.ynv_read.proofs.Checks.{good-in, good-out, array-in, array-o
 module _ (S G : List ℕ) where
   -- ---- parts by the header
 
-  header-in : whole S G 0x5000_0000 368 ≡ true → Good S G 0x5000_0000 368 (header S G)
+  header-in : readableAt S G 0x5000_0000 368 ≡ true → Good S G 0x5000_0000 368 (header S G)
   unfolding header
   header-in e = good-in S G 0x5000_0000 368 (omega arith) e
 
-  root-in : whole S G (rootAt S G) 96 ≡ true → Good S G (rootAt S G) 96 (root S G)
+  root-in : readableAt S G (rootAt S G) 96 ≡ true → Good S G (rootAt S G) 96 (root S G)
   unfolding root
   root-in e = good-in S G (rootAt S G) 96 (omega arith) e
 
@@ -47,7 +47,7 @@ module _ (S G : List ℕ) where
   unfolding head
   head-is = refl
 
-  portals-in : whole S G (leAt 8 (header S G) 0x128) (28 * portalCount S G) ≡ true
+  portals-in : readableAt S G (leAt 8 (header S G) 0x128) (28 * portalCount S G) ≡ true
       → Array S G 28 (leAt 8 (header S G) 0x128) (portalCount S G) (cut 28 (portalCount S G) (portals S G))
   unfolding portals
   portals-in e = array-in S G 28 (leAt 8 (header S G) 0x128) (portalCount S G) e (omega arith)

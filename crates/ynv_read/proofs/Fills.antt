@@ -15,17 +15,17 @@ use Rattle.strip.specs.Box.{finiteBox}
 use Rattle.strip.specs.Outcome.{shown, left}
 use Rattle.strip.specs.Outcome as Outcome
 use Rattle.strip.specs.declared.Refusal.{Refusal}
-use Rattle.grammar.specs.Derives.{areaOf, backOf}
-use Rattle.lists.specs.Lists.{whole, total, tableOf, Readable}
-use Rattle.lists.proofs.Lists.{length-whole}
-use Rattle.sector_tree.specs.Walk.{walk}
-use Rattle.sector_tree.specs.Walk as Walk
-use Rattle.sector_tree.specs.Write.{pointsIn, pointsWords, Fits}
-use Rattle.polygon_words.specs.Words.{linksOf}
-use Rattle.polygon_words.proofs.Words.{links-are}
-use Rattle.polygons.specs.Polygons.{Source, limitsOf, polygonMade}
-use Rattle.polygons.specs.Passes.{itemsIn, sourceOf, Passed}
-use Rattle.polygons.proofs.Exact.{tally-made}
+use Rattle.read_grammar.specs.Derives.{areaOf, backOf}
+use Rattle.read_lists.specs.Lists.{readableAt, total, tableOf, Readable}
+use Rattle.read_lists.proofs.Lists.{length-whole}
+use Rattle.read_sectors.specs.Walk.{walk}
+use Rattle.read_sectors.specs.Walk as Walk
+use Rattle.read_sectors.specs.Write.{pointsIn, pointsWords, HasRoom}
+use Rattle.read_polygon_words.specs.Words.{linksOf}
+use Rattle.read_polygon_words.proofs.Words.{links-are}
+use Rattle.read_polygons.specs.Polygons.{Source, limitsOf, polygonMade}
+use Rattle.read_polygons.specs.Passes.{itemsIn, sourceOf, Passed}
+use Rattle.read_polygons.proofs.Exact.{tally-made}
 use Rattle.ynv_read.specs.declared.ListAddresses.{ListAddresses}
 use Rattle.cell_record.specs.declared.CellRecord.{CellRecord}
 use Rattle.ynv_read.specs.declared.Parsed.{Parsed}
@@ -35,7 +35,7 @@ use Rattle.ynv_read.specs.Reading.{Reading, made, refused, header, rootA
 use Rattle.ynv_read.specs.Parse.{paper, countsOf, parseOutcome}
 use Rattle.ynv_read.specs.Passes.{answerOf, addresses, linkBytes, polysWords, portalsWords, Given, ListsReady, ReadyFor, PolysFit, Fillable}
 use Rattle.ynv_read.proofs.Accepted.{accepted}
-use Rattle.polygons.proofs.Runs.{length-items}
+use Rattle.read_polygons.proofs.Runs.{length-items}
 use Rattle.ynv_read.proofs.Heads.{back-is}
 use Rattle.ynv_read.proofs.Lengths.{head-length, polys-count, portals-length, points-length, encode-is, encode-length}
 
@@ -61,9 +61,9 @@ module _ (S G : List ℕ) {hd : List ℕ} {c : CellRecord} (known : Given S G hd
       let e : itemsIn S G 8 et ≡ s .edges = ap (itemsIn S G 8) (rw ea at ee) in
       let l : linksOf lk ≡ s .links = ap linksOf el ∙ sym (links-are S G (leAt 8 (header S G) 0x130) (leAt 4 (header S G) 0x150)) in
       let area : areaOf hd ≡ areaOf (header S G) = ap areaOf (known .header-is) in
-      let whole : make (itemsIn S G 6 vt) (itemsIn S G 2 it) (itemsIn S G 8 et) (linksOf lk) (areaOf hd) (given .back) ≡ make (s .vertices) (s .indices) (s .edges) (s .links) (s .area) (s .back) =
+      let readableAt : make (itemsIn S G 6 vt) (itemsIn S G 2 it) (itemsIn S G 8 et) (linksOf lk) (areaOf hd) (given .back) ≡ make (s .vertices) (s .indices) (s .edges) (s .links) (s .area) (s .back) =
       rw (v, i, e, l, area, back-is S G (known .cell-is)) in
-      whole
+      readableAt
 
   polys-are : itemsIn S G 48 pt ≡ polygons S G
   unfolding addresses
@@ -105,7 +105,7 @@ pub record Room (S G : List ℕ) (polys n : ℕ) : Type 0 where
   pub polys-fit : (end : ℕ) → 14 + length (polysWords S G) ≤ end → PolysFit S G end
   pub portals-there : 28 * portalCount S G ≤ length (portals S G)
   pub points-are : pointsIn (walk S G 4096 (rootAt S G ∷ [])) ≡ points
-  pub points-fit : (at end : ℕ) → at + 4 * length points ≤ end → Fits (walk S G 4096 (rootAt S G ∷ [])) at end
+  pub points-fit : (at end : ℕ) → at + 4 * length points ≤ end → HasRoom (walk S G 4096 (rootAt S G ∷ [])) at end
   pub all : 14 + length (polysWords S G) + 11 * portalCount S G + 4 * length points + 1 ≤ n
 
 pub room : (S G : List ℕ) {polys n : ℕ} → Fillable S G polys n → Room S G polys n

@@ -8,17 +8,17 @@ use lib.Dec.{ltb}
 use lib.ListN.{length}
 use borrow.Author.Tests.{lt-ltb}
 use Rattle.strip.specs.Box.{finiteBox}
-use Rattle.grammar.specs.Derives.{vecOf, headOf, axis, backOf}
-use Rattle.lists.proofs.Lists.{whole-of, not-whole}
+use Rattle.read_grammar.specs.Derives.{vecOf, headOf, axis, backOf}
+use Rattle.read_lists.proofs.Lists.{whole-of, not-whole}
 use Rattle.fields.proofs.Bytes.{le-lt}
 use Rattle.strip.proofs.Box.{box-finite}
 use Rattle.cell_record.specs.Record.{recordOf, headBy}
 use Rattle.cell_record.specs.declared.CellRecord.{CellRecord}
 use Rattle.cell_record.proofs.Back.{WordVec, WordBox, head-back}
-use Rattle.grammar.specs.Formed.{Bytes}
-use Rattle.grammar.proofs.Bytes.{bytes-resolved}
-use Rattle.records.specs.Back.{backBy, backIn}
-use Rattle.ynv_read.specs.Passes.{Looked, Given}
+use Rattle.read_grammar.specs.Formed.{Bytes}
+use Rattle.read_grammar.proofs.Bytes.{bytes-resolved}
+use Rattle.read_records.specs.Back.{backBy, backIn}
+use Rattle.ynv_read.specs.Passes.{HeaderRoot, Given}
 use Rattle.ynv_read.specs.Reading.{Reading, refused, header, rootAt, root, head, onHead}
 
 module _ (S G : List ℕ) (rest : Reading) where
@@ -70,6 +70,6 @@ module _ (S G : List ℕ) {c : CellRecord} (e : c ≡ recordOf (head S G)) where
   head-is s g f = ap headBy e ∙ head-back (head S G) (word-box S G s g) (box-finite (head S G) f)
 
 -- what filling is given, by what was looked up
-pub cell-of : (S G : List ℕ) {h r : List ℕ} {c : CellRecord} → Looked S G h r → c ≡ recordOf (headOf h r) → Given S G h c
+pub cell-of : (S G : List ℕ) {h r : List ℕ} {c : CellRecord} → HeaderRoot S G h r → c ≡ recordOf (headOf h r) → Given S G h c
 unfolding head
 cell-of S G k e = record { header-is = k .header-is; cell-is = e ∙ rw (k .header-is, k .root-is) }

@@ -6,13 +6,13 @@ use mathlib.Core.List.{List, _++_, map}
 use lib.ListN.{length, length-append, length-map}
 use Rattle.fields.specs.Bytes.{cut}
 use Rattle.strip.specs.Cell.{Head, vecWords, headWords, portalWords, pointWords, endWords, encode, encodeAs}
-use Rattle.grammar.specs.Derives.{backOf, portalOf, pointOf}
+use Rattle.read_grammar.specs.Derives.{backOf, portalOf, pointOf}
 use Rattle.fields.proofs.Cuts.{cut-length}
-use Rattle.records.proofs.Items.{length-each}
-use Rattle.records.proofs.Stores.{portal-length}
-use Rattle.polygons.specs.Polygons.{polygonMade}
-use Rattle.sector_tree.specs.Write.{pointsWords}
-use Rattle.sector_tree.proofs.Stores.{point-length}
+use Rattle.read_records.proofs.Items.{length-each}
+use Rattle.read_records.proofs.Stores.{portal-length}
+use Rattle.read_polygons.specs.Polygons.{polygonMade}
+use Rattle.read_sectors.specs.Write.{pointsWords}
+use Rattle.read_sectors.proofs.Stores.{point-length}
 use Rattle.ynv_read.specs.Reading.{head, source, polygons, portalCount, portals, cellOf}
 use Rattle.ynv_read.specs.Passes.{polysWords, portalsWords}
 

@@ -11,15 +11,15 @@ use Rattle.fields.specs.Bytes.{leAt}
 use Rattle.resource.specs.Section.{good}
 use Rattle.strip.specs.Outcome.{Paper, values, refusal}
 use Rattle.strip.specs.Box.{finiteBox}
-use Rattle.grammar.specs.Trees.{subsTo}
-use Rattle.lists.specs.Lists.{whole, listed}
-use Rattle.lists.proofs.Accepted.{listed-refused}
-use Rattle.sector_tree.specs.Sector.{goodData, pointsOf}
-use Rattle.sector_tree.specs.Walk.{Walked, walk, also, checked, sectorAt}
-use Rattle.sector_tree.specs.Walk as Walk
-use Rattle.polygons.specs.declared.Limits.{Limits}
-use Rattle.polygons.specs.Polygons.{limitsOf, tallyFrom}
-use Rattle.polygons.proofs.Exact.{tally-refused}
+use Rattle.read_grammar.specs.Trees.{subsTo}
+use Rattle.read_lists.specs.Lists.{readableAt, listed}
+use Rattle.read_lists.proofs.Accepted.{listed-refused}
+use Rattle.read_sectors.specs.Sector.{goodData, pointsOf}
+use Rattle.read_sectors.specs.Walk.{Walked, walk, also, checked, sectorAt}
+use Rattle.read_sectors.specs.Walk as Walk
+use Rattle.read_polygons.specs.declared.Limits.{Limits}
+use Rattle.read_polygons.specs.Polygons.{limitsOf, tallyFrom}
+use Rattle.read_polygons.proofs.Exact.{tally-refused}
 use Rattle.ynv_read.specs.Reading.{Reading, made, refused, check, onPaper, onWalk, header, rootAt, head, source, polygons, portalCount, cellOf, onHead, onLists, afterWalk, readCell}
 use Rattle.ynv_read.specs.Theorems.{Named, bad-header, no-root, bad-sector, many-sectors, bad-data, bad-box, bad-list, bad-counts, bad-run, bad-index, bad-portals}
 
@@ -104,7 +104,7 @@ module _ (S G : List ℕ) where
   after-walk ps k =
       let h = header S G in
       let s = source S G in
-      let last = check (whole S G (leAt 8 h 0x128) (28 * portalCount S G)) 39 (made (cellOf S G ps) k) in
+      let last = check (readableAt S G (leAt 8 h 0x128) (28 * portalCount S G)) 39 (made (cellOf S G ps) k) in
       let o₅ = onPaper (tallyFrom (limitsOf s) (s .indices) 0 (polygons S G)) last in
       let o₄ = onPaper (listed S G 48 (leAt 8 h 0x118) 4) o₅ in
       let o₃ = onPaper (listed S G 8 (leAt 8 h 0x88) 3) o₄ in
@@ -114,7 +114,7 @@ module _ (S G : List ℕ) where
       (lists 8 (leAt 8 h 0x88) 3 o₄ (omega arith) (omega arith)
       (lists 48 (leAt 8 h 0x118) 4 o₅ (omega arith) (omega arith)
       (tallies (limitsOf s) (s .indices) last
-      (checks (whole S G (leAt 8 h 0x128) (28 * portalCount S G)) 39 (made (cellOf S G ps) k) bad-portals tt)))))
+      (checks (readableAt S G (leAt 8 h 0x128) (28 * portalCount S G)) 39 (made (cellOf S G ps) k) bad-portals tt)))))
 
   pub named : AsNamed count (readCell S G)
   unfolding readCell onHead
@@ -122,9 +122,9 @@ module _ (S G : List ℕ) where
       let w = walk S G 4096 (rootAt S G ∷ []) in
       let o₄ = onWalk w (afterWalk S G) in
       let o₃ = check (finiteBox (head S G)) 40 o₄ in
-      let o₂ = check (whole S G (rootAt S G) 96) 32 o₃ in
+      let o₂ = check (readableAt S G (rootAt S G) 96) 32 o₃ in
       let o₁ = check (ltb 0 (rootAt S G)) 31 o₂ in
-      checks (whole S G 0x5000_0000 368) 30 o₁ bad-header
+      checks (readableAt S G 0x5000_0000 368) 30 o₁ bad-header
       (checks (ltb 0 (rootAt S G)) 31 o₂ no-root
-      (checks (whole S G (rootAt S G) 96) 32 o₃ bad-sector
+      (checks (readableAt S G (rootAt S G) 96) 32 o₃ bad-sector
       (checks (finiteBox (head S G)) 40 o₄ bad-box (on-walk w (afterWalk S G) (walks 4096 (rootAt S G ∷ [])) after-walk))))

@@ -15,11 +15,11 @@ use Rattle.fields.specs.Rows.{pack}
 use Rattle.strip.specs.Cell.{Cell, vecWords, headWords, encode, encodeAs, each}
 use Rattle.strip.specs.Scan.{Scanned, scan}
 use Rattle.strip.specs.Outcome as Outcome
-use Rattle.grammar.specs.Derives.{Derives}
-use Rattle.grammar.specs.Formed.{Bytes}
-use Rattle.grammar.specs.Vehicle.{vehiclePages, vehicleCell, vehicleStrip}
-use Rattle.grammar.proofs.Formed.{derived-scans}
-use Rattle.grammar.proofs.Examples.{p12-makes}
+use Rattle.read_grammar.specs.Derives.{Derives}
+use Rattle.read_grammar.specs.Formed.{Bytes}
+use Rattle.read_grammar.specs.Vehicle.{vehiclePages, vehicleCell, vehicleStrip}
+use Rattle.read_grammar.proofs.Formed.{derived-scans}
+use Rattle.read_grammar.proofs.Examples.{p12-makes}
 use Rattle.ynv_read.specs.declared.Parsed.{Parsed}
 use Rattle.ynv_read.specs.Reading.{Reading, made, refused, polygons, readCell}
 use Rattle.ynv_read.specs.Parse.{countsOf, fitted, parseOutcome}

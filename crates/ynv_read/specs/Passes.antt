@@ -6,10 +6,10 @@ use lib.ListN.{length}
 use Rattle.fields.specs.Bytes.{leAt, cut}
 use Rattle.resource.specs.Section.{resolved}
 use Rattle.strip.specs.Cell.{Cell, each, polygonWords, portalWords, encode}
-use Rattle.grammar.specs.Derives.{backOf, portalOf}
-use Rattle.lists.specs.Lists.{tableOf, Readable}
-use Rattle.polygons.specs.Polygons.{limitsOf, polygonMade}
-use Rattle.polygons.specs.Passes.{Passed}
+use Rattle.read_grammar.specs.Derives.{backOf, portalOf}
+use Rattle.read_lists.specs.Lists.{tableOf, Readable}
+use Rattle.read_polygons.specs.Polygons.{limitsOf, polygonMade}
+use Rattle.read_polygons.specs.Passes.{Passed}
 use Rattle.cell_record.specs.Record.{recordOf}
 use Rattle.cell_record.specs.declared.CellRecord.{CellRecord}
 use Rattle.ynv_read.specs.declared.ParseAnswer.{ParseAnswer}
@@ -28,9 +28,9 @@ answerOf (made c sectors) = ParseAnswer.Parsed (countsOf c sectors)
 answerOf (refused number place) = ParseAnswer.Refused (record { number = number; place = place })
 
 -- a run of checks, before the rest
-abbrev pub after : Check → Reading → Reading
-after Check.Passed rest = rest
-after (Check.Refused r) rest = refused (r .number) (r .place)
+abbrev pub passedThen : Check → Reading → Reading
+passedThen Check.Passed rest = rest
+passedThen (Check.Refused r) rest = refused (r .number) (r .place)
 
 -- where the lists are
 unfoldable pub addresses : List ℕ → ListAddresses
@@ -38,7 +38,7 @@ addresses h = record { vertices = leAt 8 h 0x70; indices = leAt 8 h 0x80; edges 
 
 module _ (system graphics : List ℕ) where
   -- header and root as they were looked up
-  pub record Looked (h r : List ℕ) : Type 0 where
+  pub record HeaderRoot (h r : List ℕ) : Type 0 where
     pub header-is : h ≡ header system graphics
     pub root-is : r ≡ root system graphics
 

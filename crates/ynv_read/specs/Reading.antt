@@ -8,13 +8,13 @@ use Rattle.resource.specs.Section.{resolved}
 use Rattle.strip.specs.Cell.{Head, Cell}
 use Rattle.strip.specs.Box.{finiteBox}
 use Rattle.strip.specs.Outcome.{Paper, values, refusal}
-use Rattle.grammar.specs.Polygons.{linksAt}
-use Rattle.grammar.specs.Derives.{areaOf, backOf, headOf, portalOf, pointOf}
-use Rattle.lists.specs.Lists.{whole, tableOf, listed}
-use Rattle.polygons.specs.Polygons.{Source, limitsOf, polygonMade, tallyFrom}
-use Rattle.polygons.specs.Passes.{itemsIn}
-use Rattle.sector_tree.specs.Walk.{Walked, walk}
-use Rattle.sector_tree.specs.Walk as Walk
+use Rattle.read_grammar.specs.Polygons.{linksAt}
+use Rattle.read_grammar.specs.Derives.{areaOf, backOf, headOf, portalOf, pointOf}
+use Rattle.read_lists.specs.Lists.{readableAt, tableOf, listed}
+use Rattle.read_polygons.specs.Polygons.{Source, limitsOf, polygonMade, tallyFrom}
+use Rattle.read_polygons.specs.Passes.{itemsIn}
+use Rattle.read_sectors.specs.Walk.{Walked, walk}
+use Rattle.read_sectors.specs.Walk as Walk
 
 -- the cell and the sectors visited, or a refusal's number and place
 pub data Reading : Type 0 where
@@ -87,8 +87,8 @@ module _ (system graphics : List ℕ) where
   -- before the walk: 30, 31, 32 for the root, 40
   unfoldable pub onHead : Reading → Reading
   onHead rest =
-      check (whole system graphics 0x5000_0000 368) 30
-      (check (ltb 0 rootAt) 31 (check (whole system graphics rootAt 96) 32 (check (finiteBox head) 40 rest)))
+      check (readableAt system graphics 0x5000_0000 368) 30
+      (check (ltb 0 rootAt) 31 (check (readableAt system graphics rootAt 96) 32 (check (finiteBox head) 40 rest)))
 
   -- after it: lists 1 to 4, then polygons
   unfoldable pub onLists : Reading → Reading
@@ -102,7 +102,7 @@ module _ (system graphics : List ℕ) where
   -- and portals: so many, 28 bytes each
   unfoldable pub afterWalk : List (List ℕ) → ℕ → Reading
   afterWalk points sectors =
-      onLists (check (whole system graphics (leAt 8 header 0x128) (28 * portalCount)) 39 (made (cellOf points) sectors))
+      onLists (check (readableAt system graphics (leAt 8 header 0x128) (28 * portalCount)) 39 (made (cellOf points) sectors))
 
   unfoldable pub readCell : Reading
   readCell = onHead (onWalk (walk system graphics 4096 (rootAt ∷ [])) afterWalk)

@@ -8,35 +8,35 @@ ghost use Rattle.fields.specs.Bytes.{leAt, put};
 ghost use Rattle.strip.specs.Cell.{Cell, encode};
 ghost use Rattle.strip.specs.Box.{finiteVec, finiteBox};
 ghost use Rattle.strip.specs.Outcome.{shown, left};
-ghost use Rattle.grammar.specs.Derives.{vecOf, headOf};
-ghost use Rattle.sector_tree.specs.Walk.{walk};
-ghost use Rattle.sector_tree.specs.Write.{pointsIn, pointsWords, Fits};
-ghost use Rattle.grammar.specs.Derives.{backOf};
+ghost use Rattle.read_grammar.specs.Derives.{vecOf, headOf};
+ghost use Rattle.read_sectors.specs.Walk.{walk};
+ghost use Rattle.read_sectors.specs.Write.{pointsIn, pointsWords, HasRoom};
+ghost use Rattle.read_grammar.specs.Derives.{backOf};
 ghost use Rattle.ynv_read.specs.Reading as Reading;
 ghost use Rattle.ynv_read.specs.Reading.{Reading, made, rootAt, head, polygons, portalCount, portals, onHead, afterWalk, readCell};
 ghost use Rattle.ynv_read.specs.Parse.{paper, parseOutcome};
-ghost use Rattle.ynv_read.specs.Passes.{answerOf, after, addresses, linkBytes, polysWords, portalsWords, Looked, Given, ListsReady, ReadyFor, ListsChecked, PolysFit, Fillable};
+ghost use Rattle.ynv_read.specs.Passes.{answerOf, passedThen, addresses, linkBytes, polysWords, portalsWords, HeaderRoot, Given, ListsReady, ReadyFor, ListsChecked, PolysFit, Fillable};
 use cell_record::CellRecord;
 use fields::sizes::NAVMESH_SIZE;
 use fields::sizes::PORTAL_SIZE;
 use fields::sizes::SECTOR_SIZE;
 use fields::u32_le;
 use fields::u64_le;
-use lists::list_table;
-use polygons::ListsAnswer;
-use polygons::PolysAnswer;
-use polygons::check_polygons;
-use polygons::put_polygons;
-use polygons::read_lists;
-use records::cell::put_cell;
-use records::cell::record_of;
-use records::portal::put_portals;
+use read_lists::list_table;
+use read_polygons::ListsAnswer;
+use read_polygons::PolysAnswer;
+use read_polygons::check_polygons;
+use read_polygons::put_polygons;
+use read_polygons::read_lists;
+use read_records::cell::put_cell;
+use read_records::cell::record_of;
+use read_records::portal::put_portals;
+use read_sectors::Tree;
+use read_sectors::TreeAnswer;
+use read_sectors::put_tree_points;
+use read_sectors::read_sector_tree;
 use resource::SYSTEM_BASE;
 use resource::resolve;
-use sector_tree::Tree;
-use sector_tree::TreeAnswer;
-use sector_tree::put_tree_points;
-use sector_tree::read_sector_tree;
 use strip::Refusal;
 use strip::is_finite;
 
@@ -163,7 +163,7 @@ fn refuse(number: u32) -> Check
 
 // Header, root and box, in whichever sections they were looked up.
 fn check_head<'a>(header: &'a [u8], root: &'a [u8]) -> Check
-    ensures { λ r. ⌜ ((system graphics : List ℕ) → Looked system graphics (now (header .entry)) (now (root .entry)) → (rest : Reading) → onHead system graphics rest ≡ after r rest) ⌝ }
+    ensures { λ r. ⌜ ((system graphics : List ℕ) → HeaderRoot system graphics (now (header .entry)) (now (root .entry)) → (rest : Reading) → onHead system graphics rest ≡ passedThen r rest) ⌝ }
 {
     if header.len() < NAVMESH_SIZE {
         return refuse(30);
@@ -241,7 +241,7 @@ fn decide_rest<'a>(
 
 // All checks but the last: whether the strip is long enough.
 fn decide<'a>(system: &'a [u8], graphics: &'a [u8], header: &'a [u8], root: &'a [u8]) -> ParseAnswer
-    requires { ⌜ Looked (now system) (now graphics) (now header) (now root) ⌝ }
+    requires { ⌜ HeaderRoot (now system) (now graphics) (now header) (now root) ⌝ }
     ensures { λ r. ⌜ (r ≡ answerOf (readCell (now (system .entry)) (now (graphics .entry)))) × ReadyFor (now (system .entry)) (now (graphics .entry)) r ⌝ }
 {
     match check_head(header, root) {
@@ -255,7 +255,7 @@ fn decide<'a>(system: &'a [u8], graphics: &'a [u8], header: &'a [u8], root: &'a 
 
 // Filling.
 
-// Each of these goes on from the word `at`, and answers the word after what it stored.
+// Each of these goes on from the word `at`, and answers the word passedThen what it stored.
 fn fill_portals<'a>(
     system: &'a [u8],
     graphics: &'a [u8],
@@ -280,7 +280,7 @@ fn fill_points<'a>(
     strip: &mut [u32],
     at: usize,
 ) -> usize
-    requires { ⌜ Given (now system) (now graphics) (now header) cell × Fits (walk (now system) (now graphics) 4096 (rootAt (now system) (now graphics) ∷ [])) at (length (now strip)) ⌝ }
+    requires { ⌜ Given (now system) (now graphics) (now header) cell × HasRoom (walk (now system) (now graphics) 4096 (rootAt (now system) (now graphics) ∷ [])) at (length (now strip)) ⌝ }
     ensures { λ r. ⌜ (r ≡ at + 4 * length (pointsIn (walk (now (system .entry)) (now (graphics .entry)) 4096 (rootAt (now (system .entry)) (now (graphics .entry)) ∷ []))))
         × (now (strip .exit) ≡ put at (pointsWords (backOf (head (now (system .entry)) (now (graphics .entry)))) (pointsIn (walk (now (system .entry)) (now (graphics .entry)) 4096 (rootAt (now (system .entry)) (now (graphics .entry)) ∷ [])))) (now (strip .entry))) ⌝ }
 {
@@ -330,7 +330,7 @@ fn fill<'a>(
     polys: usize,
     strip: &mut [u32],
 )
-    requires { ⌜ Looked (now system) (now graphics) (now header) (now root) × Fillable (now system) (now graphics) polys (length (now strip)) ⌝ }
+    requires { ⌜ HeaderRoot (now system) (now graphics) (now header) (now root) × Fillable (now system) (now graphics) polys (length (now strip)) ⌝ }
     ensures { λ _. ⌜ ((c : Cell) (k : ℕ) → readCell (now (system .entry)) (now (graphics .entry)) ≡ made c k → now (strip .exit) ≡ put 0 (encode c) (now (strip .entry))) ⌝ }
 {
     let cell = record_of(header, root);

@@ -10,25 +10,25 @@ use Rattle.strip.specs.Cell.{Cell}
 use Rattle.strip.specs.Reading.{headAt, polygonsAt, afterPolygons}
 use Rattle.areas.specs.Areas.{areaIds}
 use Rattle.cell_record.proofs.Fields.{area-is}
-use Rattle.vertices.specs.Table.{met}
-use Rattle.blocks.specs.Layout.{behind, endOf, Laid}
-use Rattle.blocks.specs.Lists.{listSizes, listBlocks, Wide, ListRoom}
-use Rattle.blocks.specs.declared.Layout.{Layout}
-use Rattle.blocks.proofs.Layouts.{laid-then}
-use Rattle.pages.specs.Items.{vertexItems, indexItems, edgeItems, polygonItems}
-use Rattle.pages.specs.Pages.{allCorners, vertices, areas, sectors, counts, endHeader, endVertices, endIndices, endEdges, endPolygons}
-use Rattle.pages.proofs.Sizes.{list-size, wide-vertices, wide-indices, wide-edges, wide-polygons, length-vertices, length-indices, length-edges, length-polygons}
-use Rattle.decide.specs.Decide.{trees, indicesAt, tablesEnd}
-use Rattle.decide.specs.declared.Decision.{Decision}
-use Rattle.plan.specs.Plan.{boxes}
-use Rattle.plan.specs.Ready.{cellAt, Ready}
-use Rattle.items.specs.Words.{numberItems}
-use Rattle.items.specs.Made.{edgeWords, cornersAt}
-use Rattle.vertices.proofs.Triples.{length-met}
-use Rattle.plan.proofs.Rest.{poly-count, box-part}
-use Rattle.plan.proofs.Whole.{drop-behind}
-use Rattle.items.proofs.Tables.{index-items}
-use Rattle.items.proofs.Halves.{length-words}
+use Rattle.write_vertices.specs.Table.{met}
+use Rattle.write_blocks.specs.Layout.{behind, endOf, Laid}
+use Rattle.write_blocks.specs.Lists.{listSizes, listBlocks, Wide, ListRoom}
+use Rattle.write_blocks.specs.declared.Layout.{Layout}
+use Rattle.write_blocks.proofs.Layouts.{laid-then}
+use Rattle.write_pages.specs.Items.{vertexItems, indexItems, edgeItems, polygonItems}
+use Rattle.write_pages.specs.Pages.{allCorners, vertices, areas, sectors, counts, endHeader, endVertices, endIndices, endEdges, endPolygons}
+use Rattle.write_pages.proofs.Sizes.{list-size, wide-vertices, wide-indices, wide-edges, wide-polygons, length-vertices, length-indices, length-edges, length-polygons}
+use Rattle.write_decide.specs.Decide.{trees, indicesAt, tablesEnd}
+use Rattle.write_decide.specs.declared.Decision.{Decision}
+use Rattle.write_plan.specs.Plan.{boxes}
+use Rattle.write_plan.specs.Ready.{cellAt, Ready}
+use Rattle.write_lists.specs.Words.{numberItems}
+use Rattle.write_lists.specs.Made.{edgeWords, cornersAt}
+use Rattle.write_vertices.proofs.Triples.{length-met}
+use Rattle.write_plan.proofs.Rest.{poly-count, box-part}
+use Rattle.write_plan.proofs.Whole.{drop-behind}
+use Rattle.write_lists.proofs.Tables.{index-items}
+use Rattle.write_lists.proofs.Halves.{length-words}
 use Rattle.ynv_write.specs.Filled.{listsOf, Left}
 use Rattle.ynv_write.proofs.Rooms.{rooms}
 use Rattle.fields.specs.Sizes.{LIST-VFT-EDGES, LIST-VFT-INDICES, LIST-VFT-POLYS, LIST-VFT-VERTICES}

@@ -11,11 +11,11 @@ use Rattle.strip.specs.Cell.{NavPoly, Cell, All}
 use Rattle.strip.specs.Box.{finiteBox}
 use Rattle.distinct.specs.Distinct.{withNew, distinctFrom}
 use Rattle.areas.specs.Areas.{seeded}
-use Rattle.pages.specs.Items.{Corner, cornersIn, triples, named}
-use Rattle.pages.specs.Sectors.{treeOf, leafCounts, depthOf, rootBox}
-use Rattle.pages.specs.Pages.{loOf, extentOf, links, sectors, pages}
-use Rattle.pages.specs.Checks.{Verdict, fine, refused, faultIf, firstFault, at, cornerFault, cornersFault, polygonFault, polygonsVerdict, leafFault, leavesVerdict, cellVerdict}
-use Rattle.quadtree.proofs.Tellings.{leaves-length}
+use Rattle.write_pages.specs.Items.{Corner, cornersIn, triples, named}
+use Rattle.write_pages.specs.Sectors.{treeOf, leafCounts, depthOf, rootBox}
+use Rattle.write_pages.specs.Pages.{loOf, extentOf, links, sectors, pages}
+use Rattle.write_pages.specs.Checks.{Verdict, fine, refused, faultIf, firstFault, at, cornerFault, cornersFault, polygonFault, polygonsVerdict, leafFault, leavesVerdict, cellVerdict}
+use Rattle.write_quadtree.proofs.LeafVerdicts.{leaves-length}
 use Rattle.ynv_write.specs.Theorems.{Named, short-work, endless-box, many-polygons, vertex-count, late-start, many-vertices, many-areas, polygon-links, many-ids, many-points, many-portals, many-links, short-pages}
 
 pub above-zero : {c : Cell} {number place : ℕ} → Named c number place → 0 < number
@@ -82,8 +82,8 @@ module _ (c : Cell) where
   corners-named ts us [] p h = tt
   corners-named ts us (k ∷ ks) p h = first-named (At p) _ (corner-named ts us k p h, (corners-named (withNew ts (k .vertex)) (withNew (withNew us (k .edge .a .area)) (k .edge .b .area)) ks p h, tt))
 
-  module _ (lo size : Floats) where
-    polygon-named : (ts us : List ℕ) (start p : ℕ) (q : NavPoly) → p < length (c .polys) → OrNone (At p) (polygonFault lo size ts us start q)
+  module _ (bb-min bb-size : Floats) where
+    polygon-named : (ts us : List ℕ) (start p : ℕ) (q : NavPoly) → p < length (c .polys) → OrNone (At p) (polygonFault bb-min bb-size ts us start q)
     unfolding polygonFault
     polygon-named ts us start p q h =
         first-named (At p) _ (
@@ -91,18 +91,18 @@ module _ (c : Cell) where
           (
             when-named (ltb 65535 start) 12 (late-start h),
             (
-              corners-named ts us (cornersIn lo size q) p h,
+              corners-named ts us (cornersIn bb-min bb-size q) p h,
               (when-named (ltb 7 (length (q .links))) 15 (polygon-links h), tt),
             ),
           ),
         )
 
     polygons-named : (ts us : List ℕ) (start p : ℕ) (qs : List NavPoly) (rest : Verdict) → p + length qs ≡ length (c .polys) → AsNamed rest
-        → AsNamed (polygonsVerdict lo size ts us start p qs rest)
+        → AsNamed (polygonsVerdict bb-min bb-size ts us start p qs rest)
     unfolding polygonsVerdict
     polygons-named ts us start p [] rest e k = k
     polygons-named ts us start p (q ∷ qs) rest e k =
-        let ks = cornersIn lo size q in
+        let ks = cornersIn bb-min bb-size q in
         at-named p _ _ (polygon-named ts us start p q (omega arith))
         (polygons-named (distinctFrom ts (triples ks)) (distinctFrom us (named ks)) (start + length (q .vertices)) (p + 1) qs rest (omega arith) k)
 

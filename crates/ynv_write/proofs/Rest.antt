@@ -8,20 +8,20 @@ use Rattle.fields.specs.Bytes.{les, cat}
 use Rattle.math.specs.declared.vec3.Vec3.{Vec3 as Floats}
 use Rattle.strip.specs.Reading.{headAt, polygonsAt, afterPolygons, portalsAt}
 use Rattle.strip.specs.declared.Counts.{Counts}
-use Rattle.blocks.specs.Layout.{endOf, Laid}
-use Rattle.blocks.specs.declared.Layout.{Layout}
-use Rattle.blocks.proofs.Layouts.{laid-then}
-use Rattle.pages.specs.Items.{floats, linksOf}
-use Rattle.pages.specs.Optional.{blockOf, sizeOf}
-use Rattle.pages.specs.Pages.{loOf, extentOf, links, sectors, counts, portalItems, endPortals}
-use Rattle.pages.proofs.Sizes.{block-size, length-portals}
-use Rattle.plan.specs.Ready.{cellAt}
-use Rattle.sectors.specs.declared.Spot.{Spot}
-use Rattle.front.proofs.Planned.{portals-many}
+use Rattle.write_blocks.specs.Layout.{endOf, Laid}
+use Rattle.write_blocks.specs.declared.Layout.{Layout}
+use Rattle.write_blocks.proofs.Layouts.{laid-then}
+use Rattle.write_pages.specs.Items.{floats, linksOf}
+use Rattle.write_pages.specs.Optional.{blockOf, sizeOf}
+use Rattle.write_pages.specs.Pages.{loOf, extentOf, links, sectors, counts, portalItems, endPortals}
+use Rattle.write_pages.proofs.Sizes.{block-size, length-portals}
+use Rattle.write_plan.specs.Ready.{cellAt}
+use Rattle.write_sectors.specs.declared.SectorCursor.{SectorCursor}
+use Rattle.write_header.proofs.Planned.{portals-many}
 use Rattle.ynv_write.specs.Filled.{WorkKept, SectorsFilled, restOf, RestFilled}
 use Rattle.ynv_write.proofs.Rooms.{portals-below, links-below}
 
-module _ (s w : List ℕ) (n : Counts) (K : WorkKept s w n) {l : Layout} {xs ys : List ℕ} {spot : Spot} (f : SectorsFilled (cellAt s n) l xs ys spot) where
+module _ (s w : List ℕ) (n : Counts) (K : WorkKept s w n) {l : Layout} {xs ys : List ℕ} {spot : SectorCursor} (f : SectorsFilled (cellAt s n) l xs ys spot) where
   module _ (first : ℕ) (here : first ≡ length s - 1 - 4 * n .points - 11 * n .portals) where
     first-is : first ≡ afterPolygons s 14 (n .polys)
     first-is = omega (arith, here, K .whole)
@@ -31,20 +31,20 @@ module _ (s w : List ℕ) (n : Counts) (K : WorkKept s w n) {l : Layout} {xs ys 
         let many : length (cellAt s n .portals) ≡ n .portals = sym (portals-many s n) in
         (omega (arith, first-is, K .whole), rw (f .ends) (rw many at (portals-below (cellAt s n) (K .accepted))))
 
-    module _ (lo size : Floats) (el : lo ≡ floats (headAt s 0 .bb-min)) (es : size ≡ floats (headAt s 0 .bb-size)) {r : Layout} {zs : List ℕ}
-        (g : Laid (spot .layout) (blockOf (cat (portalItems lo size (portalsAt s first (n .portals))))) r ys zs) where
+    module _ (bb-min bb-size : Floats) (el : bb-min ≡ floats (headAt s 0 .bb-min)) (es : bb-size ≡ floats (headAt s 0 .bb-size)) {r : Layout} {zs : List ℕ}
+        (g : Laid (spot .layout) (blockOf (cat (portalItems bb-min bb-size (portalsAt s first (n .portals))))) r ys zs) where
       portals-laid : Laid (spot .layout) (blockOf (cat (portalItems (loOf (cellAt s n)) (extentOf (cellAt s n)) (cellAt s n .portals)))) r ys zs
       portals-laid =
           subst (λ (k : ℕ). Laid (spot .layout) (blockOf (cat (portalItems (loOf (cellAt s n)) (extentOf (cellAt s n)) (portalsAt s k (n .portals))))) r ys zs) first-is
           (subst (λ (v : Floats). Laid (spot .layout) (blockOf (cat (portalItems (loOf (cellAt s n)) v (portalsAt s first (n .portals))))) r ys zs) es
-          (subst (λ (v : Floats). Laid (spot .layout) (blockOf (cat (portalItems v size (portalsAt s first (n .portals))))) r ys zs) el g))
+          (subst (λ (v : Floats). Laid (spot .layout) (blockOf (cat (portalItems v bb-size (portalsAt s first (n .portals))))) r ys zs) el g))
 
       portals-end : r .at ≡ endPortals (counts (cellAt s n)) (sectors (cellAt s n))
       unfolding endPortals counts
       portals-end =
           let ps = cellAt s n .portals in
-          let size : _ = block-size (28 * length ps) (cat (portalItems (loOf (cellAt s n)) (extentOf (cellAt s n)) ps)) (length-portals (loOf (cellAt s n)) (extentOf (cellAt s n)) ps) in
-          portals-laid .ends ∙ rw (size, f .ends)
+          let bb-size : _ = block-size (28 * length ps) (cat (portalItems (loOf (cellAt s n)) (extentOf (cellAt s n)) ps)) (length-portals (loOf (cellAt s n)) (extentOf (cellAt s n)) ps) in
+          portals-laid .ends ∙ rw (bb-size, f .ends)
 
       pub links-ask : (m : ℕ) → m ≡ length (links (cellAt s n))
           → (afterPolygons s 14 (n .polys) ≤ length s) × (m ≡ length (linksOf (polygonsAt s 14 (n .polys)))) × (endOf (r .at) (sizeOf (2 * m)) < 2 ^ 28)

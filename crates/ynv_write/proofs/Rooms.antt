@@ -5,19 +5,19 @@ use mathlib.Core.List.{List, [], _∷_, _++_}
 use native.Mathlib.Omega.{arith}
 use lib.ListN.{length}
 use Rattle.strip.specs.Cell.{Cell}
-use Rattle.blocks.specs.Layout.{endOf, behind}
-use Rattle.blocks.specs.Lists.{partCount, partSizes, offsetSizes, listSizes}
-use Rattle.blocks.proofs.Layouts.{end-ge}
-use Rattle.pages.specs.Optional.{sizeOf}
-use Rattle.pages.specs.Sectors as Sectors
-use Rattle.pages.specs.Sectors.{Sector, byteCount}
-use Rattle.pages.specs.Sectors.Sector.{leaf, node}
-use Rattle.pages.specs.Pages.{allCorners, vertices, links, sectors, counts, endHeader, endVertices, endIndices, endEdges, endPolygons, endSectors, endPortals}
-use Rattle.pages.specs.Accepted.{Accepted}
-use Rattle.pages.proofs.Placed.{few-corners, pages-short}
-use Rattle.front.specs.Ends.{pagesEnd}
-use Rattle.front.proofs.Behind.{end-sum, ListRooms, list-rooms}
-use Rattle.front.proofs.Cells.{sum-tree, cell-end}
+use Rattle.write_blocks.specs.Layout.{endOf, behind}
+use Rattle.write_blocks.specs.Lists.{partCount, partSizes, offsetSizes, listSizes}
+use Rattle.write_blocks.proofs.Layouts.{end-ge}
+use Rattle.write_pages.specs.Optional.{sizeOf}
+use Rattle.write_pages.specs.Sectors as Sectors
+use Rattle.write_pages.specs.Sectors.{Sector, byteCount}
+use Rattle.write_pages.specs.Sectors.Sector.{leaf, node}
+use Rattle.write_pages.specs.Pages.{allCorners, vertices, links, sectors, counts, endHeader, endVertices, endIndices, endEdges, endPolygons, endSectors, endPortals}
+use Rattle.write_pages.specs.Accepted.{Accepted}
+use Rattle.write_pages.proofs.Placed.{few-corners, pages-short}
+use Rattle.write_header.specs.Ends.{pagesEnd}
+use Rattle.write_header.proofs.Behind.{end-sum, ListRooms, list-rooms}
+use Rattle.write_header.proofs.Cells.{sum-tree, cell-end}
 use Rattle.ynv_write.specs.Filled.{ListsFilled, RestFilled, Near}
 use Rattle.ynv_write.specs.declared.ListEnds.{ListEnds}
 use Rattle.ynv_write.specs.declared.RestEnds.{RestEnds}

@@ -12,12 +12,12 @@ use Rattle.strip.specs.Scan.{Scanned, ok, fault, scan}
 use Rattle.strip.specs.Outcome as Outcome
 use Rattle.strip.specs.Check.{onCell}
 use Rattle.strip.proofs.Faults.{Fault, scan-fault}
-use Rattle.blocks.specs.Placed.{Placed}
-use Rattle.pages.specs.Pages.{blocks, pages}
-use Rattle.pages.specs.Checks.{Verdict, fine, refused, onVerdict, cellVerdict, cellOutcome}
-use Rattle.pages.specs.Accepted.{Accepted}
-use Rattle.pages.proofs.Accepted.{accepted}
-use Rattle.pages.proofs.Placed.{pages-placed, pages-short}
+use Rattle.write_blocks.specs.Placed.{Placed}
+use Rattle.write_pages.specs.Pages.{blocks, pages}
+use Rattle.write_pages.specs.Checks.{Verdict, fine, refused, onVerdict, cellVerdict, cellOutcome}
+use Rattle.write_pages.specs.Accepted.{Accepted}
+use Rattle.write_pages.proofs.Accepted.{accepted}
+use Rattle.write_pages.proofs.Placed.{pages-placed, pages-short}
 use Rattle.ynv_write.specs.declared.Written.{Written}
 use Rattle.ynv_write.specs.Serialize.{writtenOf, serializeOutcome}
 use Rattle.ynv_write.specs.Theorems.{Named, Accepts}

@@ -11,16 +11,16 @@ use Rattle.strip.specs.declared.Counts.{Counts}
 use Rattle.cell_record.specs.Record.{recordOf, rootIn}
 use Rattle.cell_record.specs.declared.CellRecord.{CellRecord}
 use Rattle.cell_record.proofs.Fields.{flags-are, min-is, size-is, root-is}
-use Rattle.pages.specs.Sectors.{Sector, depthBy, pointCount}
-use Rattle.pages.specs.Pages.{loOf, extentOf, counts, sectors, endPolygons, endSectors}
-use Rattle.pages.proofs.Sizes.{tree-lengths}
-use Rattle.decide.specs.Decide.{tablesEnd}
-use Rattle.plan.specs.Plan.{portalsEnd, pointsIn}
-use Rattle.plan.specs.Ready.{cellAt}
-use Rattle.plan.proofs.Rest.{boxPart, leafPart, part-long, part-tree, point-count}
-use Rattle.sectors.specs.Written.{treeIn, TreeRoom, Wrote}
-use Rattle.sectors.specs.declared.Spot.{Spot}
-use Rattle.sectors.proofs.Cell.{few-leaves, cell-room, cell-laid}
+use Rattle.write_pages.specs.Sectors.{Sector, depthBy, pointCount}
+use Rattle.write_pages.specs.Pages.{loOf, extentOf, counts, sectors, endPolygons, endSectors}
+use Rattle.write_pages.proofs.Sizes.{tree-lengths}
+use Rattle.write_decide.specs.Decide.{tablesEnd}
+use Rattle.write_plan.specs.Plan.{portalsEnd, pointsIn}
+use Rattle.write_plan.specs.Ready.{cellAt}
+use Rattle.write_plan.proofs.Rest.{boxPart, leafPart, part-long, part-tree, point-count}
+use Rattle.write_sectors.specs.Written.{treeIn, TreeRoom, Wrote}
+use Rattle.write_sectors.specs.declared.SectorCursor.{SectorCursor}
+use Rattle.write_sectors.proofs.Cell.{few-leaves, cell-room, cell-laid}
 use Rattle.ynv_write.specs.Filled.{WorkKept, SectorsFilled}
 
 module _ (s w : List ℕ) (n : Counts) (K : WorkKept s w n) (from : ℕ) (here : from ≡ tablesEnd (length s)) where
@@ -52,7 +52,7 @@ module _ (s w : List ℕ) (n : Counts) (K : WorkKept s w n) (from : ℕ) (here :
     unfolding tree
     sectors-ask end e = subst (λ (t : Sector). TreeRoom t end 0) (sym tree-is) (rw e (cell-room (cellAt s n) (K .accepted)))
 
-    pub sectors-filled : {j : ℕ} {p r : Spot} {xs ys : List ℕ}
+    pub sectors-filled : {j : ℕ} {p r : SectorCursor} {xs ys : List ℕ}
         → p .layout .at ≡ endPolygons (counts (cellAt s n)) (sectors (cellAt s n)) → p .first ≡ 0
         → Wrote (cell .«bb_min») (cell .«bb_size») (treeIn (boxPart s w n (K .held) from here) (leafPart s w n (K .held) from here) s at k 0 b) j p r xs ys
         → SectorsFilled (cellAt s n) (p .layout) xs ys r

@@ -14,22 +14,22 @@ use Rattle.strip.specs.Reading.{word, headAt}
 use Rattle.cell_record.specs.Record.{headBy}
 use Rattle.cell_record.proofs.Fields.{head-is, word-box}
 use Rattle.areas.specs.Areas.{areaIds}
-use Rattle.blocks.specs.Layout.{placeOf, pagesOf, Laid}
-use Rattle.blocks.specs.declared.Layout.{Layout}
-use Rattle.blocks.proofs.Layouts.{laid-then, laid-before}
-use Rattle.pages.specs.Pages as Pages
-use Rattle.pages.specs.Pages.{Places, headerBytes, vertices, areas, links, sectors, counts, placesOf, header, blocks, pages, endHeader}
-use Rattle.pages.specs.Sectors.{byteCount}
-use Rattle.pages.specs.Checks.{fine, faultIf, at, onVerdict}
-use Rattle.pages.proofs.Sizes.{header-length}
-use Rattle.pages.proofs.Placed.{few-corners}
+use Rattle.write_blocks.specs.Layout.{placeOf, pagesOf, Laid}
+use Rattle.write_blocks.specs.declared.Layout.{Layout}
+use Rattle.write_blocks.proofs.Layouts.{laid-then, laid-before}
+use Rattle.write_pages.specs.Pages as Pages
+use Rattle.write_pages.specs.Pages.{Places, headerBytes, vertices, areas, links, sectors, counts, placesOf, header, blocks, pages, endHeader}
+use Rattle.write_pages.specs.Sectors.{byteCount}
+use Rattle.write_pages.specs.Checks.{fine, faultIf, at, onVerdict}
+use Rattle.write_pages.proofs.Sizes.{header-length}
+use Rattle.write_pages.proofs.Placed.{few-corners}
 use Rattle.strip.specs.declared.Refusal.{Refusal}
-use Rattle.decide.specs.declared.Verdict.the-variants.{Fine, Refused}
-use Rattle.decide.specs.declared.Decision.{Decision}
-use Rattle.plan.specs.Plan.{Planned}
-use Rattle.plan.specs.Ready.{cellAt, Ready}
-use Rattle.plan.proofs.Ready.{ready, verdict-of, refused-so}
-use Rattle.front.proofs.Planned.{vertex-count, polygon-count, portal-count, link-count}
+use Rattle.write_decide.specs.declared.Verdict.the-variants.{Fine, Refused}
+use Rattle.write_decide.specs.declared.Decision.{Decision}
+use Rattle.write_plan.specs.Plan.{Planned}
+use Rattle.write_plan.specs.Ready.{cellAt, Ready}
+use Rattle.write_plan.proofs.Ready.{ready, verdict-of, refused-so}
+use Rattle.write_header.proofs.Planned.{vertex-count, polygon-count, portal-count, link-count}
 use Rattle.ynv_write.specs.Serialize.{writtenOf, serializeOutcome}
 use Rattle.ynv_write.specs.Filled.{listsOf, restOf, Left, ListsFilled, RestFilled, placesBy, Near, countsBy, Few, Filled}
 use Rattle.ynv_write.specs.declared.ListEnds.{ListEnds}
@@ -132,6 +132,6 @@ module _ (s w w' : List ℕ) (d : Decision) (P : Planned s w w' d) (out : ℕ) w
     writes h = decided ∙ rw (le-ltb out (length (pages (cellAt s (d .counts)))) h)
 
     -- and says its length
-    pub told : length (pages (cellAt s (d .counts))) ≤ out → {n : ℕ} → n ≡ length (pages (cellAt s (d .counts)))
+    pub answers-length : length (pages (cellAt s (d .counts))) ≤ out → {n : ℕ} → n ≡ length (pages (cellAt s (d .counts)))
         → values (record { length = n }) ≡ shown (serializeOutcome s (length w) out)
-    told h e = rw (writes h, e)
+    answers-length h e = rw (writes h, e)

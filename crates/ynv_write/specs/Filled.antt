@@ -8,19 +8,19 @@ use Rattle.fields.specs.Bytes.{les, cat, put}
 use Rattle.strip.specs.Cell.{Cell}
 use Rattle.strip.specs.declared.Counts.{Counts}
 use Rattle.areas.specs.Areas.{areaIds}
-use Rattle.blocks.specs.Layout.{endOf, Laid}
-use Rattle.blocks.specs.Lists.{listBlocks}
-use Rattle.blocks.specs.declared.Layout.{Layout}
-use Rattle.pages.specs.Items.{vertexItems, indexItems, edgeItems, polygonItems}
-use Rattle.pages.specs.Optional.{blockOf, sizeOf, addressOf}
-use Rattle.pages.specs.Sectors.{treeBlocks, pointCount}
-use Rattle.pages.specs.Pages as Pages
-use Rattle.pages.specs.Pages.{Places, loOf, extentOf, allCorners, vertices, areas, links, sectors, counts, portalItems, endHeader, endVertices, endIndices, endEdges, endPolygons, endSectors, endPortals, pages}
-use Rattle.pages.specs.Accepted.{Accepted}
-use Rattle.decide.specs.declared.Decision.{Decision}
-use Rattle.plan.specs.Plan.{portalsEnd, WorkHeld}
-use Rattle.plan.specs.Ready.{cellAt}
-use Rattle.sectors.specs.declared.Spot.{Spot}
+use Rattle.write_blocks.specs.Layout.{endOf, Laid}
+use Rattle.write_blocks.specs.Lists.{listBlocks}
+use Rattle.write_blocks.specs.declared.Layout.{Layout}
+use Rattle.write_pages.specs.Items.{vertexItems, indexItems, edgeItems, polygonItems}
+use Rattle.write_pages.specs.Optional.{blockOf, sizeOf, addressOf}
+use Rattle.write_pages.specs.Sectors.{treeBlocks, pointCount}
+use Rattle.write_pages.specs.Pages as Pages
+use Rattle.write_pages.specs.Pages.{Places, loOf, extentOf, allCorners, vertices, areas, links, sectors, counts, portalItems, endHeader, endVertices, endIndices, endEdges, endPolygons, endSectors, endPortals, pages}
+use Rattle.write_pages.specs.Accepted.{Accepted}
+use Rattle.write_decide.specs.declared.Decision.{Decision}
+use Rattle.write_plan.specs.Plan.{portalsEnd, WorkHeld}
+use Rattle.write_plan.specs.Ready.{cellAt}
+use Rattle.write_sectors.specs.declared.SectorCursor.{SectorCursor}
 use Rattle.ynv_write.specs.declared.ListEnds.{ListEnds}
 use Rattle.ynv_write.specs.declared.RestEnds.{RestEnds}
 use Rattle.fields.specs.Sizes.{LIST-VFT-EDGES, LIST-VFT-INDICES, LIST-VFT-POLYS, LIST-VFT-VERTICES}
@@ -67,7 +67,7 @@ pub record ListsFilled (c : Cell) (xs ys : List ℕ) (r : ListEnds) : Type 0 whe
   pub laid : Laid (r .header) (listsOf c) (r .polygons) xs ys
 
 -- the sectors, from l on
-pub record SectorsFilled (c : Cell) (l : Layout) (xs ys : List ℕ) (r : Spot) : Type 0 where
+pub record SectorsFilled (c : Cell) (l : Layout) (xs ys : List ℕ) (r : SectorCursor) : Type 0 where
   pub ends : r .layout .at ≡ endSectors (counts c) (sectors c)
   pub points : r .first ≡ pointCount (sectors c)
   pub laid : Laid l (treeBlocks (loOf c) (extentOf c) (endPolygons (counts c) (sectors c)) 0 (sectors c)) (r .layout) xs ys

@@ -4,8 +4,8 @@ use mathlib.Core.List.{List}
 use lib.ListN.{length}
 use Rattle.strip.specs.Cell.{Cell}
 use Rattle.strip.specs.Outcome.{Outcome, Paper, values, refusalOf}
-use Rattle.pages.specs.Pages.{pages}
-use Rattle.pages.specs.Checks.{writeOutcome}
+use Rattle.write_pages.specs.Pages.{pages}
+use Rattle.write_pages.specs.Checks.{writeOutcome}
 use Rattle.ynv_write.specs.declared.Written.{Written}
 use Rattle.ynv_write.specs.declared.SerializeAnswer.{SerializeAnswer}
 use Rattle.ynv_write.specs.declared.SerializeAnswer.the-variants as SerializeAnswer

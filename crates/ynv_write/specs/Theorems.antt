@@ -5,9 +5,9 @@ use mathlib.Core.List.{List}
 use lib.ListN.{length}
 use Rattle.strip.specs.Cell.{Cell}
 use Rattle.strip.specs.Scan.{ok, scan}
-use Rattle.pages.specs.Sectors.{depthOf}
-use Rattle.pages.specs.Pages.{pages}
-use Rattle.pages.specs.Accepted.{Accepted}
+use Rattle.write_pages.specs.Sectors.{depthOf}
+use Rattle.write_pages.specs.Pages.{pages}
+use Rattle.write_pages.specs.Accepted.{Accepted}
 use Rattle.ynv_write.specs.declared.Written.{Written}
 use Rattle.ynv_write.specs.Serialize.{writtenOf}
 

@@ -6,33 +6,33 @@ ghost use Rattle.fields.specs.Bytes.{put};
 ghost use Rattle.strip.specs.Reading.{headAt, afterPolygons};
 ghost use Rattle.cell_record.specs.Record.{recordOf};
 ghost use Rattle.areas.specs.Areas.{areaIds};
-ghost use Rattle.blocks.specs.Layout.{Laid};
-ghost use Rattle.blocks.specs.Lists.{listSizes, listBlocks, ListRoom};
-ghost use Rattle.pages.specs.Items.{edgeItems};
-ghost use Rattle.items.specs.Made.{edgeWords, cornersAt};
+ghost use Rattle.write_blocks.specs.Layout.{Laid};
+ghost use Rattle.write_blocks.specs.Lists.{listSizes, listBlocks, ListRoom};
+ghost use Rattle.write_pages.specs.Items.{edgeItems};
+ghost use Rattle.write_lists.specs.Made.{edgeWords, cornersAt};
 ghost use Rattle.strip.specs.Outcome.{shown, left};
-ghost use Rattle.pages.specs.Sectors.{byteCount};
-ghost use Rattle.pages.specs.Pages.{links, counts, sectors, endPolygons};
-ghost use Rattle.front.specs.Front.{placesIn, countsIn};
-ghost use Rattle.plan.specs.Ready.{cellAt, Ready};
+ghost use Rattle.write_pages.specs.Sectors.{byteCount};
+ghost use Rattle.write_pages.specs.Pages.{links, counts, sectors, endPolygons};
+ghost use Rattle.write_header.specs.Front.{placesIn, countsIn};
+ghost use Rattle.write_plan.specs.Ready.{cellAt, Ready};
 ghost use Rattle.ynv_write.specs.Serialize.{paper, serializeOutcome};
 ghost use Rattle.ynv_write.specs.Filled.{WorkKept, Left, ListsFilled, SectorsFilled, RestFilled, placesBy, Near, countsBy, Few, Filled};
 ghost use Rattle.fields.specs.Sizes.{LIST-VFT-EDGES};
 use areas::Areas;
-use blocks::Layout;
 use cell_record::CellRecord;
-use decide::Decision;
-use decide::Verdict;
 use fields::sizes::LIST_SIZE;
 use fields::sizes::NAVMESH_SIZE;
 use fields::sizes::PORTAL_SIZE;
 use fields::sizes::SECTOR_SIZE;
-use front::Addresses;
-use front::Totals;
-use sectors::Points;
-use sectors::Spot;
 use strip::Counts;
 use strip::Refusal;
+use write_blocks::Layout;
+use write_decide::Decision;
+use write_decide::Verdict;
+use write_header::Addresses;
+use write_header::Totals;
+use write_sectors::Points;
+use write_sectors::SectorCursor;
 
 // What an accepted strip came to: the pages' length in bytes.
 pub struct Written {
@@ -78,7 +78,7 @@ fn fill_edges(
     ensures { λ _. ⌜ now (work .exit) ≡ put base (edgeWords (areaIds areas) (cornersAt (now (strip .entry)) n)) (now (work .entry)) ⌝ }
 {
     let ids = areas.ids;
-    items::lay_edges(pages, l, strip, n, corners, &ids, areas.len, work, base)
+    write_lists::lay_edges(pages, l, strip, n, corners, &ids, areas.len, work, base)
 }
 
 // The four lists, behind the place that is kept for the header. Edges are made in work, in the words of vertices that are laid out by then.
@@ -88,18 +88,25 @@ fn fill_lists(pages: &mut [u8], strip: &[u32], d: Decision, work: &mut [u32]) ->
     ensures { λ _. ⌜ Left (now (strip .entry)) (d .counts) (now (work .entry)) (now (work .exit)) ⌝ }
 {
     let words = strip.len();
-    let at = decide::tree_count(words);
+    let at = write_decide::tree_count(words);
     let counts = d.counts;
     let n = counts.polys;
     let corners = d.corners;
     let header = Layout::new().alloc(NAVMESH_SIZE);
-    let vertices = items::lay_vertices(pages, header, work, at, d.vertices);
-    let indices = items::lay_indices(pages, vertices, work, at + 2 * (words / 3), corners);
+    let vertices = write_lists::lay_vertices(pages, header, work, at, d.vertices);
+    let indices = write_lists::lay_indices(pages, vertices, work, at + 2 * (words / 3), corners);
     let edges = fill_edges(pages, indices, strip, n, corners, d.areas, work, at);
-    let boxes = decide::tables_end(strip);
+    let boxes = write_decide::tables_end(strip);
     let end = boxes + 3 * n;
     let cell = d.cell;
-    let polygons = items::lay_polygons(pages, edges, strip, cell.area_id, n, &work[boxes..end]);
+    let polygons = write_lists::lay_polygons(
+        pages,
+        edges,
+        strip,
+        cell.area_id,
+        n,
+        &work[boxes..end],
+    );
     ListEnds {
         header,
         vertices,
@@ -117,12 +124,12 @@ fn fill_sectors<'a>(
     n: Counts,
     work: &'a [u32],
     l: Layout,
-) -> Spot
+) -> SectorCursor
     requires { ⌜ WorkKept (now strip) (now work) n × (l .at ≡ endPolygons (counts (cellAt (now strip) n)) (sectors (cellAt (now strip) n)))
         × (cell ≡ recordOf (headAt (now strip) 0)) ⌝ }
     ensures { λ r. ⌜ SectorsFilled (cellAt (now (strip .entry)) n) l (now (pages .entry)) (now (pages .exit)) r ⌝ }
 {
-    let at = decide::tables_end(strip);
+    let at = write_decide::tables_end(strip);
     let mid = at + 3 * n.polys;
     let end = mid + n.points;
     let b = cell.root_box();
@@ -133,13 +140,13 @@ fn fill_sectors<'a>(
         bb_min,
         bb_size,
     };
-    let spot = Spot {
+    let spot = SectorCursor {
         layout: l,
         leaf: 0,
         first: 0,
     };
-    let depth = quadtree::boxes::depth_of(cell.content_flags);
-    sectors::write_sector(
+    let depth = write_quadtree::boxes::depth_of(cell.content_flags);
+    write_sectors::write_sector(
         pages,
         spot,
         b,
@@ -171,7 +178,7 @@ fn fill_rest<'a>(
     let spot = fill_sectors(pages, strip, cell, counts, work, l);
     let sectors = spot.layout;
     let first = strip.len() - 1 - 4 * counts.points - 11 * counts.portals;
-    let portals = front::lay_portals(
+    let portals = write_header::lay_portals(
         pages,
         sectors,
         strip,
@@ -180,7 +187,7 @@ fn fill_rest<'a>(
         bb_min,
         bb_size,
     );
-    let links = front::lay_links(pages, portals, strip, counts.polys, d.links);
+    let links = write_header::lay_links(pages, portals, strip, counts.polys, d.links);
     RestEnds {
         sectors,
         portals,
@@ -196,13 +203,13 @@ fn addresses(d: Decision, lists: ListEnds, rest: RestEnds) -> Addresses
 {
     let counts = d.counts;
     Addresses {
-        vertices: sectors::address_of(lists.header, LIST_SIZE),
-        indices: sectors::address_of(lists.vertices, LIST_SIZE),
-        edges: sectors::address_of(lists.indices, LIST_SIZE),
-        polygons: sectors::address_of(lists.edges, LIST_SIZE),
-        root: sectors::address_of(lists.polygons, SECTOR_SIZE),
-        portals: sectors::address_of(rest.sectors, PORTAL_SIZE * counts.portals),
-        links: sectors::address_of(rest.portals, 2 * d.links),
+        vertices: write_sectors::address_of(lists.header, LIST_SIZE),
+        indices: write_sectors::address_of(lists.vertices, LIST_SIZE),
+        edges: write_sectors::address_of(lists.indices, LIST_SIZE),
+        polygons: write_sectors::address_of(lists.edges, LIST_SIZE),
+        root: write_sectors::address_of(lists.polygons, SECTOR_SIZE),
+        portals: write_sectors::address_of(rest.sectors, PORTAL_SIZE * counts.portals),
+        links: write_sectors::address_of(rest.portals, 2 * d.links),
     }
 }
 
@@ -243,7 +250,7 @@ fn fill(strip: &[u32], d: Decision, bytes: u32, work: &mut [u32], pages: &mut [u
     let n = totals(d, rest.points, bytes);
     let cell = d.cell;
     let areas = d.areas;
-    front::put_header(pages, cell, a, n, areas);
+    write_header::put_header(pages, cell, a, n, areas);
 }
 
 // Writes the cell of a strip into the lent pages. A refusal leaves them as they were. Work is for the call's own use: four words to a word of the strip.
@@ -252,11 +259,11 @@ pub fn serialize_ynv(strip: &[u32], work: &mut [u32], pages: &mut [u8]) -> Seria
     ensures pages { λ _. ⌜ now (pages .exit) ≡ left (serializeOutcome (now (strip .entry)) (length (now (work .entry))) (length (now (pages .entry)))) (now (pages .entry)) ⌝ }
     ensures work { λ _. ⌜ length (now (work .exit)) ≡ length (now (work .entry)) ⌝ }
 {
-    let d = plan::plan(strip, work);
+    let d = write_plan::plan(strip, work);
     let verdict = d.verdict;
     match verdict {
         Verdict::Fine => {
-            let reach = front::ends::pages_end(strip, d, work);
+            let reach = write_header::ends::pages_end(strip, d, work);
             let length = reach.at;
             if pages.len() < length {
                 return SerializeAnswer::Refused(Refusal {

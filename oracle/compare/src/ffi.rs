@@ -1,4 +1,4 @@
-//! The C entries of libleaves.a, and safe calls of them. A slice passes as a pointer
+//! The C entries of libunits.a, and safe calls of them. A slice passes as a pointer
 //! and its length in elements, an array as a pointer.
 
 use std::array;

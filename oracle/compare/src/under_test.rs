@@ -1,4 +1,4 @@
-//! The functions that are compared: the leaves of libleaves.a with the feature `lib`, the
+//! The functions that are compared: the leaves of libunits.a with the feature `lib`, the
 //! reader, writer, seam count and polygon under the cursor of libynv.a with the feature `ynv`, else the judge's own. Floats,
 //! numbers and answers as the C entries have them.
 
@@ -6,7 +6,7 @@
 pub use crate::ffi::{areas, back, check_strip, place, quarter, short};
 
 pub const NAME: &str = if cfg!(feature = "lib") {
-    "the library (libleaves.a)"
+    "the library (libunits.a)"
 } else {
     "the judge's own functions (the library with --features lib)"
 };

@@ -45,11 +45,11 @@ part-agrees-end-2 c = search needs
 agrees-requires : tie.Need-agrees-requires
 agrees-requires c κs = search needs
 
-counted-requires : tie.Need-counted-requires
-counted-requires c κs = (c .before .before .before .before .before .before .before .pre .1, omega arith)
+tallied-requires : tie.Need-tallied-requires
+tallied-requires c κs = (c .before .before .before .before .before .before .before .pre .1, omega arith)
 
 returns-3 : tie.Need-returns-3
-returns-3 c = (step _ _ _ _ _ _ (omega arith, omega arith) (c .before .agrees .ensures) (c .counted .ensures .0), c .counted .ensures .1)
+returns-3 c = (step _ _ _ _ _ _ (omega arith, omega arith) (c .before .agrees .ensures) (c .tallied .ensures .0), c .tallied .ensures .1)
 
 pub with-record-spec : {M : Type 1} → statement M
 with-record-spec =
@@ -68,5 +68,5 @@ with-record-spec =
     part-agrees-start-2
     part-agrees-end-2
     agrees-requires
-    counted-requires
+    tallied-requires
     returns-3)

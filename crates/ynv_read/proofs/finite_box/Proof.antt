@@ -1,6 +1,6 @@
 -- `finite_box` meets its contract. One test after the other.
 use Rattle.strip.proofs.Box.{failed, passed}
-use Rattle.grammar.specs.Derives.{headOf}
+use Rattle.read_grammar.specs.Derives.{headOf}
 use Rattle.strip.specs.Box.{finiteBox}
 use borrow.Author.Needs.{needs}
 use Rattle.ynv_read.proofs.finite_box.Statement.{statement}

@@ -1,7 +1,7 @@
 -- `finite_vec` meets its contract. One test after the other.
 use mathlib.Core.Path.{ap, _∙_}
 use Rattle.strip.proofs.Box.{failed, passed}
-use Rattle.grammar.specs.Derives.{vecOf}
+use Rattle.read_grammar.specs.Derives.{vecOf}
 use Rattle.strip.specs.Box.{finiteBits}
 use Prim.Native.Nat.{ℕ}
 use borrow.Author.Needs.{needs}

@@ -3,7 +3,7 @@ use mathlib.Core.Path.{ap, _∙_}
 use lib.ListN.{length}
 use Rattle.fields.proofs.Puts.{length-put}
 use borrow.Author.Needs.{needs}
-use Rattle.front.proofs.Planned.{link-count}
+use Rattle.write_header.proofs.Planned.{link-count}
 use Rattle.ynv_write.proofs.Whole.{near, few, filled}
 use Rattle.ynv_write.proofs.fill.Statement.{statement}
 use Rattle.ynv_write.proofs.fill.Tie as tie

@@ -2,9 +2,9 @@
 use mathlib.Core.Path.{_≡_, _∙_}
 use native.Mathlib.Omega.{arith}
 use Rattle.areas.specs.Areas.{areaIds}
-use Rattle.blocks.proofs.Layouts.{place-near}
-use Rattle.pages.specs.Pages.{counts, sectors, endHeader}
-use Rattle.plan.specs.Ready.{cellAt}
+use Rattle.write_blocks.proofs.Layouts.{place-near}
+use Rattle.write_pages.specs.Pages.{counts, sectors, endHeader}
+use Rattle.write_plan.specs.Ready.{cellAt}
 use Rattle.ynv_write.proofs.Lists.{header-end, vertices-ask, indices-ask, edges-ask, polygons-ask, vertices-step, indices-step, edges-step, polygons-step, four-laid, work-left}
 use borrow.Author.Needs.{needs}
 use Rattle.ynv_write.proofs.fill_lists.Statement.{statement}

@@ -4,10 +4,10 @@ use native.Mathlib.Omega.{arith}
 use mathlib.Core.Path.{_∙_}
 use lib.ListN.{length}
 use Rattle.fields.proofs.Puts.{put-whole}
-use Rattle.pages.specs.Pages.{pages}
-use Rattle.plan.specs.Ready.{cellAt}
-use Rattle.plan.proofs.Ready.{ready}
-use Rattle.ynv_write.proofs.Whole.{refuses, too-short, writes, told}
+use Rattle.write_pages.specs.Pages.{pages}
+use Rattle.write_plan.specs.Ready.{cellAt}
+use Rattle.write_plan.proofs.Ready.{ready}
+use Rattle.ynv_write.proofs.Whole.{refuses, too-short, writes, answers-length}
 use borrow.Author.Needs.{needs}
 use Rattle.ynv_write.proofs.serialize_ynv.Statement.{statement}
 use Rattle.ynv_write.proofs.serialize_ynv.Tie as tie
@@ -56,7 +56,7 @@ returns-2 c =
     let none = fine .enum-told .given .1 in
     let room : length (pages (cellAt (a .strip .now) (planned .plan .result .counts))) ≤ out = omega (arith, c .before .before .before .before .before .before .before .if1 .left, ended .ensures .0) in
     let F = c .before .before .before .before .fill .ensures in
-    (told (a .strip .now) (a .work .now) _ _ P out none room (ended .ensures .0), (rw (writes (a .strip .now) (a .work .now) _ _ P out none room) (F .bytes ∙ put-whole _ _ room), F .long ∙ P .long))
+    (answers-length (a .strip .now) (a .work .now) _ _ P out none room (ended .ensures .0), (rw (writes (a .strip .now) (a .work .now) _ _ P out none room) (F .bytes ∙ put-whole _ _ room), F .long ∙ P .long))
 
 same-length-4 : tie.Need-same-length-4
 same-length-4 c = search needs

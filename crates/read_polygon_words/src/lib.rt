@@ -1,0 +1,143 @@
+// The words of a polygon's parts, from bytes that are at hand. Nothing here can fail: pass two calls it for what pass one accepted.
+ghost use mathlib.Core.Path.{_≡_};
+ghost use mathlib.Core.List.{[], _∷_, map};
+ghost use Prim.Native.Nat.{_+_, _*_, _/_, _≤_};
+ghost use lib.ListN.{length};
+ghost use Rattle.fields.specs.Bytes.{put, cut, leAt};
+ghost use Rattle.strip.specs.Cell.{vecWords, halfWords, edgeWords, each};
+ghost use Rattle.read_grammar.specs.Polygons.{vertexOf, halfOf, edgeOf, linkRun, countOf};
+ghost use Rattle.read_grammar.specs.Derives.{areaOf};
+ghost use Rattle.read_records.specs.Back.{backBy};
+ghost use Rattle.read_polygon_words.specs.Words.{linksOf, linkStart, linksNamed, linkCount, frontOf, allBelow};
+use areas::ADJACENT_NONE;
+use areas::edge::decode_end;
+use fields::u16_le;
+use fields::u32_le;
+use math::vec3::Vec3;
+use read_records::words::put_position;
+use read_records::words::put3;
+use read_records::words::shorts_at;
+
+fn put4(out: &mut [u32], at: usize, a: u32, b: u32, c: u32, d: u32)
+    requires { ⌜ at + 4 ≤ length (now out) ⌝ }
+    ensures { λ _. ⌜ now (out .exit) ≡ put at (a ∷ b ∷ c ∷ d ∷ []) (now (out .entry)) ⌝ }
+{
+    put3(out, at, a, b, c);
+    out[at + 3] = d;
+}
+
+// A vertex, 6 bytes: the bits of its coordinates.
+pub fn put_vertex(v: &[u8], bb_min: Vec3, bb_size: Vec3, out: &mut [u32], at: usize)
+    requires { ⌜ at + 3 ≤ length (now out) ⌝ }
+    ensures { λ _. ⌜ now (out .exit) ≡ put at (vecWords (vertexOf (backBy «bb_min» «bb_size») (now (v .entry)))) (now (out .entry)) ⌝ }
+{
+    put_position(shorts_at(v, 0), bb_min, bb_size, out, at);
+}
+
+// The area of an index, by the header's table.
+fn area_of(header: &[u8], i: u32) -> u32
+    ensures { λ r. ⌜ r ≡ areaOf (now (header .entry)) i ⌝ }
+{
+    if i < u32_le(header, 0x94) {
+        u32_le(header, 0x98 + 4 * (i as usize))
+    } else {
+        ADJACENT_NONE
+    }
+}
+
+fn put_half(header: &[u8], raw: u32, out: &mut [u32], at: usize)
+    requires { ⌜ at + 3 ≤ length (now out) ⌝ }
+    ensures { λ _. ⌜ now (out .exit) ≡ put at (halfWords (halfOf (areaOf (now (header .entry))) raw)) (now (out .entry)) ⌝ }
+{
+    let e = decode_end(raw);
+    let area = area_of(header, e.index);
+    put3(out, at, area, e.poly, e.unk3 % 2048 + 65536 * (e.unk2 % 4));
+}
+
+// An edge, 8 bytes.
+fn put_edge<'a>(header: &'a [u8], e: &'a [u8], out: &mut [u32], at: usize)
+    requires { ⌜ at + 6 ≤ length (now out) ⌝ }
+    ensures { λ _. ⌜ now (out .exit) ≡ put at (edgeWords (edgeOf (areaOf (now (header .entry))) (now (e .entry)))) (now (out .entry)) ⌝ }
+{
+    put_half(header, u32_le(e, 0), out, at);
+    put_half(header, u32_le(e, 4), out, at + 3);
+}
+
+// The first n edges of `run`.
+pub fn put_edge_run<'a>(header: &'a [u8], run: &'a [u8], n: usize, out: &mut [u32], at: usize)
+    requires { ⌜ (8 * n ≤ length (now run)) × (at + 6 * n ≤ length (now out)) ⌝ }
+    ensures { λ _. ⌜ now (out .exit) ≡ put at (each edgeWords (map (edgeOf (areaOf (now (header .entry)))) (cut 8 n (now (run .entry))))) (now (out .entry)) ⌝ }
+{
+    let mut k = 0;
+    while k < n {
+        let from = 8 * k;
+        let to = from + 8;
+        put_edge(header, &run[from..to], out, at + 6 * k);
+        k += 1;
+    }
+}
+
+// Index k of `run`. Two bytes are lent to the reader of numbers, which then needs no look at the end.
+pub fn index_at(run: &[u8], k: usize) -> usize
+    requires { ⌜ 2 * k + 2 ≤ length (now run) ⌝ }
+    ensures { λ r. ⌜ r ≡ leAt 2 (now (run .entry)) (2 * k) ⌝ }
+{
+    let from = 2 * k;
+    let to = from + 2;
+    u16_le(&run[from..to], 0) as usize
+}
+
+// Whether the first n indices of `run` are below a limit.
+pub fn all_below(run: &[u8], n: usize, limit: usize) -> bool
+    requires { ⌜ 2 * n ≤ length (now run) ⌝ }
+    ensures { λ r. ⌜ r ≡ allBelow limit (cut 2 n (now (run .entry))) ⌝ }
+{
+    let mut k = 0;
+    while k < n {
+        if limit <= index_at(run, k) {
+            return false;
+        }
+        k += 1;
+    }
+    true
+}
+
+// How many links a polygon has by a table of n: none where their run is not inside it.
+pub fn link_count(rec: &[u8], n: usize) -> usize
+    ensures { λ r. ⌜ (r ≡ linkCount n (now (rec .entry))) × (r ≤ 7) ⌝ }
+{
+    let w = u32_le(rec, 0x2C);
+    let start = (w / 32768 % 131072) as usize;
+    let named = (w / 4096 % 8) as usize;
+    if start + named <= n { named } else { 0 }
+}
+
+// A polygon's n links.
+fn put_links(rec: &[u8], links: &[u8], n: usize, out: &mut [u32], at: usize)
+    requires { ⌜ (n ≡ linkCount (length (linksOf (now links))) (now rec)) × (at + n ≤ length (now out)) ⌝ }
+    ensures { λ _. ⌜ now (out .exit) ≡ put at (linkRun (linksOf (now (links .entry))) (linkStart (now (rec .entry))) (linksNamed (now (rec .entry)))) (now (out .entry)) ⌝ }
+{
+    let start = (u32_le(rec, 0x2C) / 32768 % 131072) as usize;
+    let mut k = 0;
+    while k < n {
+        out[at + k] = u16_le(links, 2 * (start + k)) as u32;
+        k += 1;
+    }
+}
+
+// The words before a polygon's vertices: n links, `count` vertices and as many edges.
+pub fn put_front(rec: &[u8], links: &[u8], n: usize, count: usize, out: &mut [u32], at: usize)
+    requires { ⌜ (n ≡ linkCount (length (linksOf (now links))) (now rec)) × (n ≤ 7) × (count ≡ countOf (now rec)) × (at + 4 + n ≤ length (now out)) ⌝ }
+    ensures { λ _. ⌜ now (out .exit) ≡ put at (frontOf (linksOf (now (links .entry))) (now (rec .entry))) (now (out .entry)) ⌝ }
+{
+    let first = 0x2000_0000 + (n * 0x100_0000 + (count * 0x1000 + count));
+    put4(
+        out,
+        at,
+        first as u32,
+        u16_le(rec, 0) as u32,
+        u32_le(rec, 0x24),
+        u32_le(rec, 0x28),
+    );
+    put_links(rec, links, n, out, at + 4);
+}

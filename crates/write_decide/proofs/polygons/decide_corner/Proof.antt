@@ -1,0 +1,75 @@
+-- `decide::polygons::decide_corner` meets its contract. Assumes nothing.
+use native.Mathlib.Omega.{arith}
+use Rattle.write_decide.proofs.Answers.{number-le, corner-no-vertex, corner-no-area, corner-fine}
+use borrow.Author.Needs.{needs}
+use Rattle.write_decide.proofs.polygons.decide_corner.Statement.{statement}
+use Rattle.write_decide.proofs.polygons.decide_corner.Tie as tie
+
+vertex-index-requires : tie.Need-vertex-index-requires
+vertex-index-requires c κs = search needs
+
+enum-known-known : tie.Need-enum-known-known
+enum-known-known c = search needs
+
+ensure-edge-requires : tie.Need-ensure-edge-requires
+ensure-edge-requires c κs = search needs
+
+same-length : tie.Need-same-length
+same-length c = search needs
+
+returns : tie.Need-returns
+returns c = corner-no-area _ _ _ _ _ _ _ _ _ _ (c .before .before .before .before .before .before .before .before .before .before .before .pre .0) (c .before .before .before .before .before .before .before .before .before .before .before .pre .1) _ (c .before .before .before .before .before .before .before .before .vertex-index .ensures) _ _ (c .before .before .before .before .known .given .1) _ _ (c .before .ensure-edge .ensures) (c .if1 .taken)
+
+cast-work : tie.Need-cast-work
+cast-work c = omega (arith, number-le _ _ _ _ _ (c .before .before .before .before .before .before .before .before .before .before .before .args .had) _ _ 0 0 (c .before .before .before .before .before .before .before .before .before .before .before .pre .0) (c .before .before .before .before .before .before .before .before .before .before .before .pre .1) _ (c .before .before .before .before .before .before .before .before .vertex-index .ensures) _ _ (c .before .before .before .before .known .given .1))
+
+mul-work : tie.Need-mul-work
+mul-work c = search needs
+
+add-work : tie.Need-add-work
+add-work c = search needs
+
+add-work-2 : tie.Need-add-work-2
+add-work-2 c = search needs
+
+mul-work-2 : tie.Need-mul-work-2
+mul-work-2 c = search needs
+
+slice-write-work : tie.Need-slice-write-work
+slice-write-work c = search needs
+
+enum-told : tie.Need-enum-told
+enum-told c = search needs
+
+same-length-2 : tie.Need-same-length-2
+same-length-2 c = search needs
+
+returns-2 : tie.Need-returns-2
+returns-2 c = corner-fine _ _ _ _ _ _ _ _ _ _ (c .before .before .before .before .before .before .before .before .before .before .before .pre .0) (c .before .before .before .before .before .before .before .before .before .before .before .pre .1) _ (c .before .before .before .before .before .before .before .before .vertex-index .ensures) _ _ (c .before .before .before .before .known .given .1) _ _ (c .before .ensure-edge .ensures) (c .if1 .left)
+
+same-length-3 : tie.Need-same-length-3
+same-length-3 c = search needs
+
+returns-3 : tie.Need-returns-3
+returns-3 c = corner-no-vertex _ _ _ _ _ _ _ _ _ _ (c .before .before .before .before .before .before .before .pre .0) (c .before .before .before .before .before .before .before .pre .1) _ (c .before .before .before .before .vertex-index .ensures) (c .enum-told .given .1)
+
+pub decide-corner-spec : {M : Type 1} → statement M
+decide-corner-spec =
+    tie.close
+    (tie.spec
+    vertex-index-requires
+    enum-known-known
+    ensure-edge-requires
+    same-length
+    returns
+    cast-work
+    mul-work
+    add-work
+    add-work-2
+    mul-work-2
+    slice-write-work
+    enum-told
+    same-length-2
+    returns-2
+    same-length-3
+    returns-3)

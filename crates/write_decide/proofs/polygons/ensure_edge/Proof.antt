@@ -1,0 +1,46 @@
+-- `decide::polygons::ensure_edge` meets its contract. Assumes nothing.
+use Rattle.write_decide.proofs.Answers.{edge-no-a, edge-no-b, edge-both}
+use borrow.Author.Needs.{needs}
+use Rattle.write_decide.proofs.polygons.ensure_edge.Statement.{statement}
+use Rattle.write_decide.proofs.polygons.ensure_edge.Tie as tie
+
+ensure-id-requires : tie.Need-ensure-id-requires
+ensure-id-requires c κs = search needs
+
+enum-told : tie.Need-enum-told
+enum-told c = search needs
+
+ensure-id-requires-2 : tie.Need-ensure-id-requires-2
+ensure-id-requires-2 c κs = search needs
+
+enum-told-2 : tie.Need-enum-told-2
+enum-told-2 c = search needs
+
+enum-told-3 : tie.Need-enum-told-3
+enum-told-3 c = search needs
+
+enum-told-4 : tie.Need-enum-told-4
+enum-told-4 c = search needs
+
+returns : tie.Need-returns
+returns c = edge-both _ (c .before .before .before .before .before .before .before .before .pre) _ _ _ _ _ (c .before .before .before .before .before .before .ensure-id .ensures .0) (c .before .before .before .before .before .before .ensure-id .ensures .1) _ (c .before .before .before .before .enum-told .given .1) _ _ (c .before .before .ensure-id2 .ensures .0) (c .before .before .ensure-id2 .ensures .1) _ (c .enum-told2 .given .1)
+
+returns-2 : tie.Need-returns-2
+returns-2 c = edge-no-b _ (c .before .before .before .before .before .before .before .before .pre) _ _ _ _ _ (c .before .before .before .before .before .before .ensure-id .ensures .0) (c .before .before .before .before .before .before .ensure-id .ensures .1) _ (c .before .before .before .before .enum-told .given .1) _ _ (c .before .before .ensure-id2 .ensures .0) (c .before .before .ensure-id2 .ensures .1) _ (c .enum-told3 .given .1)
+
+returns-3 : tie.Need-returns-3
+returns-3 c = edge-no-a _ (c .before .before .before .before .pre) _ _ _ _ _ (c .before .before .ensure-id .ensures .0) (c .before .before .ensure-id .ensures .1) _ (c .enum-told4 .given .1)
+
+pub ensure-edge-spec : {M : Type 1} → statement M
+ensure-edge-spec =
+    tie.close
+    (tie.spec
+    ensure-id-requires
+    enum-told
+    ensure-id-requires-2
+    enum-told-2
+    enum-told-3
+    enum-told-4
+    returns
+    returns-2
+    returns-3)

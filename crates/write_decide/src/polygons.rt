@@ -1,0 +1,298 @@
+// The polygons of a strip in order: 12, 13, then per vertex 14, then 15 for half a and b, then 16. On the way the vertex table, each corner's
+// index and the area table are made.
+ghost use mathlib.Core.Bool.{cond};
+ghost use mathlib.Core.Path.{_≡_};
+ghost use Prim.Native.Nat.{_+_, _*_, _≤_, _<_, _^_};
+ghost use lib.ListN.{length};
+ghost use lib.Dec.{ltb};
+ghost use Rattle.strip.specs.Reading.{word, vecAt, polygonOf, polygonsAt, afterPolygons};
+ghost use Rattle.areas.specs.EdgeHalf.{none};
+ghost use Rattle.write_pages.specs.Items.{tripleIn, cornersIn};
+ghost use Rattle.write_decide.specs.Steps.{runFault, EdgeHas, TablesReady, CornerDone, CornersDone, PolygonDone, PolygonsDone};
+use super::Verdict;
+use areas::AreaAnswer;
+use math::vec3::Vec3;
+use math::vec3::floats_at;
+use strip::Poly;
+use strip::Refusal;
+use write_vertices::Numbered;
+
+// How many areas and vertices there are.
+pub struct Tables {
+    pub areas: usize,
+    pub vertices: usize,
+}
+
+// The count of areas after an edge, and the refusal's number, 0 for none.
+pub struct EdgeAreas {
+    pub len: usize,
+    pub fault: u32,
+}
+
+// The tables after some corners, and the number of the first refusal, 0 for none.
+pub struct Met {
+    pub tables: Tables,
+    pub fault: u32,
+}
+
+// What the polygons come to: the tables, how many corners and links there are, and the verdict.
+pub struct Decided {
+    pub tables: Tables,
+    pub corners: usize,
+    pub links: usize,
+    pub verdict: Verdict,
+}
+
+// The areas of both halves of an edge: 15 where one would be a 33rd.
+fn ensure_edge(ids: &mut [u32; 32], len: usize, a: u32, b: u32) -> EdgeAreas
+    requires { ⌜ length (now ids) ≡ 32 ⌝ }
+    ensures { λ r. ⌜ EdgeHas (now (ids .entry)) (now (ids .exit)) len a b r ⌝ }
+{
+    let one = areas::ensure_id(ids, len, a);
+    let at_a = one.at;
+    match at_a {
+        AreaAnswer::At(_) => {
+            let two = areas::ensure_id(ids, one.len, b);
+            let at_b = two.at;
+            match at_b {
+                AreaAnswer::At(_) => EdgeAreas {
+                    len: two.len,
+                    fault: 0,
+                },
+                AreaAnswer::Full => EdgeAreas {
+                    len: two.len,
+                    fault: 15,
+                },
+            }
+        }
+        AreaAnswer::Full => EdgeAreas {
+            len: one.len,
+            fault: 15,
+        },
+    }
+}
+
+// The triple of the vertex whose three words stand at `at`. (It runs for each corner, so the two steps of `cell_record::shorts_at` stand here: as one call they would
+// take a seventh of the writer's time more.)
+fn triple_of(strip: &[u32], at: usize, bb_min: Vec3, bb_size: Vec3) -> u64
+    requires { ⌜ at + 3 ≤ length (now strip) ⌝ }
+    ensures { λ r. ⌜ (r ≡ tripleIn «bb_min» «bb_size» (vecAt (now (strip .entry)) at)) × (r < 2 ^ 48) ⌝ }
+{
+    let v = floats_at(strip, at);
+    let q = quantise::short::quantise(v, bb_min, bb_size);
+    (q.x as u64) + 65536 * (q.y as u64) + 4294967296 * (q.z as u64)
+}
+
+// The area that stands at `at` for a half of edge i, or that of no neighbour where there are only `edges`.
+fn area_at(strip: &[u32], at: usize, i: usize, edges: usize) -> u32
+    requires { ⌜ (i < edges → at < length (now strip)) ⌝ }
+    ensures { λ r. ⌜ r ≡ cond (ltb i edges) (word (now (strip .entry)) at) none ⌝ }
+{
+    if i < edges {
+        return strip[at];
+    }
+    areas::ADJACENT_NONE
+}
+
+// A corner: its triple is numbered (14), the areas of its edge are ensured (15), and its number is stored as index `item`.
+fn decide_corner(
+    work: &mut [u32],
+    ids: &mut [u32; 32],
+    buckets: usize,
+    room: usize,
+    item: usize,
+    had: Tables,
+    triple: u64,
+    a: u32,
+    b: u32,
+) -> Met
+    requires { ⌜ TablesReady (now work) (now ids) buckets room (had .vertices) item × (item < room) × (triple < 2 ^ 48) ⌝ }
+    ensures { λ r. ⌜ CornerDone (now (work .entry)) (now (work .exit)) (now (ids .entry)) (now (ids .exit)) buckets room had item triple a b r ⌝ }
+{
+    let areas = had.areas;
+    let vertices = had.vertices;
+    let known = write_vertices::vertex_index(work, buckets, vertices, triple);
+    match known {
+        Numbered::Vertex(number, count) => {
+            let e = ensure_edge(ids, areas, a, b);
+            let tables = Tables {
+                areas: e.len,
+                vertices: count,
+            };
+            let fault = e.fault;
+            if fault != 0 {
+                return Met { tables, fault };
+            }
+            work[buckets + 2 * room + item] = number as u32;
+            Met { tables, fault: 0 }
+        }
+        Numbered::Full => Met {
+            tables: had,
+            fault: 14,
+        },
+    }
+}
+
+// The corners of a polygon, the first of them number `start`.
+fn decide_vertices(
+    strip: &[u32],
+    p: Poly,
+    bb_min: Vec3,
+    bb_size: Vec3,
+    work: &mut [u32],
+    ids: &mut [u32; 32],
+    buckets: usize,
+    room: usize,
+    start: usize,
+    had: Tables,
+) -> Met
+    requires { ⌜ (p .«vertex_at» + 3 * p .vertices ≤ length (now strip)) × (p .«edge_at» + 6 * p .edges ≤ length (now strip))
+        × (start + p .vertices ≤ room) × TablesReady (now work) (now ids) buckets room (had .vertices) start ⌝ }
+    ensures { λ r. ⌜ CornersDone (now (work .entry)) (now (work .exit)) (now (ids .entry)) (now (ids .exit)) buckets room had start
+        (cornersIn «bb_min» «bb_size» (polygonOf (now (strip .entry)) p)) r ⌝ }
+{
+    let vertices = p.vertices;
+    let edges = p.edges;
+    let mut v = p.vertex_at;
+    let mut e = p.edge_at;
+    let mut tables = had;
+    let mut i: usize = 0;
+    while i < vertices {
+        let triple = triple_of(strip, v, bb_min, bb_size);
+        let a = area_at(strip, e, i, edges);
+        let b = area_at(strip, e + 3, i, edges);
+        let met = decide_corner(work, ids, buckets, room, start + i, tables, triple, a, b);
+        tables = met.tables;
+        let fault = met.fault;
+        if fault != 0 {
+            return Met { tables, fault };
+        }
+        v += 3;
+        e += 6;
+        i += 1;
+    }
+    Met { tables, fault: 0 }
+}
+
+// A polygon, whose run of corners begins at `start`: 12, 13, its corners (14, 15), 16.
+fn decide_polygon(
+    strip: &[u32],
+    p: Poly,
+    bb_min: Vec3,
+    bb_size: Vec3,
+    work: &mut [u32],
+    ids: &mut [u32; 32],
+    buckets: usize,
+    room: usize,
+    start: usize,
+    had: Tables,
+) -> Met
+    requires { ⌜ (p .«vertex_at» + 3 * p .vertices ≤ length (now strip)) × (p .«edge_at» + 6 * p .edges ≤ length (now strip))
+        × (start + p .vertices ≤ room) × TablesReady (now work) (now ids) buckets room (had .vertices) start ⌝ }
+    ensures { λ r. ⌜ PolygonDone «bb_min» «bb_size» (now (work .entry)) (now (work .exit)) (now (ids .entry)) (now (ids .exit)) buckets room had start
+        (polygonOf (now (strip .entry)) p) r ⌝ }
+{
+    let fault = before_corners(p.vertices, start);
+    if fault != 0 {
+        return Met { tables: had, fault };
+    }
+    let met = decide_vertices(
+        strip,
+        p,
+        bb_min,
+        bb_size,
+        work,
+        ids,
+        buckets,
+        room,
+        start,
+        had,
+    );
+    if met.fault != 0 {
+        return met;
+    }
+    let links = p.links;
+    if 7 < links {
+        let tables = met.tables;
+        return Met { tables, fault: 16 };
+    }
+    met
+}
+
+// 12, 13: of a polygon with so many vertices, whose run begins at `start`.
+fn before_corners(vertices: usize, start: usize) -> u32
+    ensures { λ r. ⌜ r ≡ runFault vertices start ⌝ }
+{
+    if vertices < 3 {
+        return 12;
+    }
+    if 2047 < vertices {
+        return 12;
+    }
+    if 65535 < start {
+        return 13;
+    }
+    0
+}
+
+// The polygons of a strip, in order, up to the first refusal.
+pub fn decide_polygons(
+    strip: &[u32],
+    n: usize,
+    bb_min: Vec3,
+    bb_size: Vec3,
+    work: &mut [u32],
+    ids: &mut [u32; 32],
+    buckets: usize,
+    room: usize,
+    had: Tables,
+) -> Decided
+    requires { ⌜ (afterPolygons (now strip) 14 n ≤ length (now strip)) × (length (now strip) ≤ 3 * room + 2)
+        × TablesReady (now work) (now ids) buckets room (had .vertices) 0 ⌝ }
+    ensures { λ r. ⌜ PolygonsDone «bb_min» «bb_size» (now (work .entry)) (now (work .exit)) (now (ids .entry)) (now (ids .exit)) buckets room had 0 0 0
+        (polygonsAt (now (strip .entry)) 14 n) r ⌝ }
+{
+    let mut tables = had;
+    let mut at: usize = 14;
+    let mut start: usize = 0;
+    let mut links: usize = 0;
+    let mut i: usize = 0;
+    while i < n {
+        let p = strip::poly_at(strip, at);
+        let met = decide_polygon(
+            strip,
+            p,
+            bb_min,
+            bb_size,
+            work,
+            ids,
+            buckets,
+            room,
+            start,
+            tables,
+        );
+        tables = met.tables;
+        let fault = met.fault;
+        if fault != 0 {
+            return Decided {
+                tables,
+                corners: start,
+                links,
+                verdict: Verdict::Refused(Refusal {
+                    number: fault,
+                    place: i,
+                }),
+            };
+        }
+        start += p.vertices;
+        links += p.links;
+        at = p.next;
+        i += 1;
+    }
+    Decided {
+        tables,
+        corners: start,
+        links,
+        verdict: Verdict::Fine,
+    }
+}

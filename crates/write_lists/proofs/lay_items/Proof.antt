@@ -1,0 +1,78 @@
+-- `items::lay_items` meets its contract. The invariant, `Laying`: whoever lays out what is left of the parts from here on has laid out all.
+use Prim.Native.Nat.{_-_}
+use native.Mathlib.Omega.{arith}
+use borrow.Author.Needs.{needs}
+use Rattle.write_blocks.proofs.Parts.{parted}
+use Rattle.write_lists.proofs.Words.{Laying, laying, laying-room, laying-turn}
+use Rattle.write_lists.proofs.lay_items.Statement.{statement}
+use Rattle.write_lists.proofs.lay_items.Tie as tie
+
+abbrev Inv-loop : tie.InvT-loop
+Inv-loop out₀ words n whole w per k next₀ from₀ left₀ i₀ out next from left i = Laying words whole w per k n next₀ out₀ next out from left i
+
+abbrev μ-loop : tie.MeasureT-loop
+μ-loop out₀ words n whole w per k next₀ from₀ left₀ i₀ out next from left i = k - i
+
+div-per : tie.Need-div-per Inv-loop μ-loop
+div-per c = omega (arith, c .before .before .pre .2 .some)
+
+part-count-requires : tie.Need-part-count-requires Inv-loop μ-loop
+part-count-requires c κs = search needs
+
+loop-holds : tie.Need-loop-holds Inv-loop μ-loop
+loop-holds c = laying _ _ _ _ _ _ _ _ (c .before .before .before .pre .0) (c .before .before .before .pre .1)
+
+least-requires : tie.Need-least-requires Inv-loop μ-loop
+least-requires c κs = search needs
+
+lay-part-requires : tie.Need-lay-part-requires Inv-loop μ-loop
+lay-part-requires c κs = let q = laying-room _ _ _ _ _ _ _ _ _ _ _ _ _ (c .before .before .before .loop .inv) (c .before .before .loop-test .taken) _ (c .before .least .ensures) (c .before .before .before .before .before .before .before .pre .0) (rw (c .before .before .before .before .part-count .ensures) (c .before .before .before .before .before .before .before .pre .2 .below)) in
+    (q .0, c .before .before .before .before .before .before .before .pre .1, q .1)
+
+add-from : tie.Need-add-from Inv-loop μ-loop
+add-from c = omega (arith, c .before .before .before .before .before .before .before .before .before .before .pre .1, c .before .before .before .before .before .before .before .before .before .before .pre .2 .page)
+
+mul-from : tie.Need-mul-from Inv-loop μ-loop
+mul-from c = omega (arith, laying-room _ _ _ _ _ _ _ _ _ _ _ _ _ (c .before .before .before .before .before .before .loop .inv) (c .before .before .before .before .before .loop-test .taken) _ (c .before .before .before .before .least .ensures) (c .before .before .before .before .before .before .before .before .before .before .pre .0) (rw (c .before .before .before .before .before .before .before .part-count .ensures) (c .before .before .before .before .before .before .before .before .before .before .pre .2 .below)) .0, c .before .before .before .before .before .before .before .before .before .before .good)
+
+add-from-2 : tie.Need-add-from-2 Inv-loop μ-loop
+add-from-2 c = omega (arith, laying-room _ _ _ _ _ _ _ _ _ _ _ _ _ (c .before .before .before .before .before .before .loop .inv) (c .before .before .before .before .before .loop-test .taken) _ (c .before .before .before .before .least .ensures) (c .before .before .before .before .before .before .before .before .before .before .pre .0) (rw (c .before .before .before .before .before .before .before .part-count .ensures) (c .before .before .before .before .before .before .before .before .before .before .pre .2 .below)) .0, c .before .before .before .before .before .before .before .before .before .before .good)
+
+sub-left : tie.Need-sub-left Inv-loop μ-loop
+sub-left c = omega (arith, c .before .before .before .before .least .ensures)
+
+add-i : tie.Need-add-i Inv-loop μ-loop
+add-i c = omega (arith, c .before .before .before .before .before .loop-test .taken, c .before .before .before .before .before .before .before .before .before .before .good)
+
+loop-less : tie.Need-loop-less Inv-loop μ-loop
+loop-less c = omega (arith, c .before .before .before .before .before .loop-test .taken)
+
+loop-again : tie.Need-loop-again Inv-loop μ-loop
+loop-again c = laying-turn _ _ _ _ _ _ _ _ _ _ _ _ _ (c .before .before .before .before .before .before .loop .inv) (c .before .before .before .before .before .loop-test .taken) _ (c .before .before .before .before .least .ensures) (c .before .before .before .before .before .before .before .before .before .before .pre .0) _ _ (search needs) (c .before .before .lay-part .ensures)
+
+same-length : tie.Need-same-length Inv-loop μ-loop
+same-length c = c .before .loop .inv .parts .long
+
+returns : tie.Need-returns Inv-loop μ-loop
+returns c = rw (c .before .before .part-count .ensures) at (parted _ _ _ _ _ _ _ _ _ _ _ _ (c .before .loop .inv .parts) (c .loop-test .left))
+
+pub lay-items-spec : {M : Type 1} → statement M
+lay-items-spec =
+    tie.close
+    (tie.spec
+    Inv-loop
+    μ-loop
+    div-per
+    part-count-requires
+    loop-holds
+    least-requires
+    lay-part-requires
+    add-from
+    mul-from
+    add-from-2
+    sub-left
+    add-i
+    loop-less
+    loop-again
+    same-length
+    returns)

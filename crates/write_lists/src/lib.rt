@@ -1,0 +1,186 @@
+// The four lists: vertices, indices and edges, whose items are made in words of work and from there laid out part by part, and polygons, whose
+// records are built in their blocks. Around the items stand the lists' headers, part tables and offsets.
+ghost use mathlib.Core.Path.{_≡_};
+ghost use mathlib.Core.List.{[], _∷_};
+ghost use Prim.Native.Nat.{_+_, _-_, _*_, _^_, _≤_, _<_};
+ghost use lib.ListN.{length, take, drop};
+ghost use Rattle.fields.specs.Bytes.{cat, put};
+ghost use Rattle.write_blocks.specs.Layout.{behind, Laid};
+ghost use Rattle.write_blocks.specs.Lists.{partSizes, listSizes, listBlocks, ListRoom};
+ghost use Rattle.write_lists.specs.Words.{itemOf, itemsIn, partsOf, numberItems};
+ghost use Rattle.write_vertices.specs.Table.{met};
+ghost use Rattle.write_plan.specs.Plan.{boxes};
+ghost use Rattle.write_pages.specs.Items.{vertexItems, edgeItems, polygonItems};
+ghost use Rattle.strip.specs.Reading.{polygonsAt, afterPolygons};
+ghost use Rattle.write_lists.specs.Made.{edgeWords, cornersAt};
+ghost use Rattle.fields.specs.Sizes.{LIST-VFT-EDGES, LIST-VFT-INDICES, LIST-VFT-POLYS, LIST-VFT-VERTICES};
+use fields::sizes::EDGE_SIZE;
+use fields::sizes::INDEX_SIZE;
+use fields::sizes::LIST_VFT_EDGES;
+use fields::sizes::LIST_VFT_INDICES;
+use fields::sizes::LIST_VFT_POLYS;
+use fields::sizes::LIST_VFT_VERTICES;
+use fields::sizes::POLY_SIZE;
+use fields::sizes::VERTEX_SIZE;
+use write_blocks::Layout;
+
+mod edges;
+mod polygons;
+
+// A part's items take at most a page.
+const PART_SIZE: usize = 16384;
+
+// An item of w bytes: `whole` words from `from` on, and what is left of it from the next word.
+fn put_item(words: &[u32], from: usize, whole: usize, w: usize, out: &mut [u8], at: usize)
+    requires { ⌜ (from + whole < length (now words)) × (4 * whole ≤ w) × (at + w < 2 ^ 28) ⌝ }
+    ensures { λ _. ⌜ now (out .exit) ≡ put at (itemOf whole w (drop from (now (words .entry)))) (now (out .entry)) ⌝ }
+{
+    let mid = from + whole;
+    fields::put_all(out, at, 4, &words[from..mid]);
+    fields::put_le(out, at + 4 * whole, w - 4 * whole, words[mid] as u64);
+}
+
+// The items of a part, m of them.
+fn put_items(
+    words: &[u32],
+    from: usize,
+    m: usize,
+    whole: usize,
+    w: usize,
+    out: &mut [u8],
+    at: usize,
+)
+    requires { ⌜ (from + (whole + 1) * m ≤ length (now words)) × (4 * whole ≤ w) × (at + w * m < 2 ^ 28) ⌝ }
+    ensures { λ _. ⌜ now (out .exit) ≡ put at (cat (itemsIn whole w m (drop from (now (words .entry))))) (now (out .entry)) ⌝ }
+{
+    let mut item = from;
+    let mut place = at;
+    let mut left = m;
+    while 0 < left {
+        put_item(words, item, whole, w, out, place);
+        item += whole + 1;
+        place += w;
+        left -= 1;
+    }
+}
+
+// A part: its block.
+fn lay_part(
+    out: &mut [u8],
+    l: Layout,
+    words: &[u32],
+    from: usize,
+    m: usize,
+    whole: usize,
+    w: usize,
+) -> Layout
+    requires { ⌜ (from + (whole + 1) * m ≤ length (now words)) × (4 * whole ≤ w) × (behind (l .at) (w * m) < 2 ^ 28) ⌝ }
+    ensures { λ r. ⌜ Laid l (cat (itemsIn whole w m (drop from (now (words .entry)))) ∷ []) r (now (out .entry)) (now (out .exit)) ⌝ }
+{
+    let start = write_blocks::pad(out, l, w * m);
+    put_items(words, from, m, whole, w, out, start);
+    l.alloc(w * m)
+}
+
+// The items of all parts, n of them.
+fn lay_items(out: &mut [u8], l: Layout, words: &[u32], n: usize, whole: usize, w: usize) -> Layout
+    requires { ⌜ ((whole + 1) * n ≤ length (now words)) × (4 * whole ≤ w) × ListRoom (l .at) w n (partSizes w n) ⌝ }
+    ensures { λ r. ⌜ Laid l (partsOf w n (itemsIn whole w n (now (words .entry)))) r (now (out .entry)) (now (out .exit)) ⌝ }
+{
+    let per = PART_SIZE / w;
+    let k = write_blocks::part_count(w, n);
+    let mut next = l;
+    let mut from = 0;
+    let mut left = n;
+    let mut i = 0;
+    while i < k {
+        let m = fields::least(per, left);
+        next = lay_part(out, next, words, from, m, whole, w);
+        from += (whole + 1) * m;
+        left -= m;
+        i += 1;
+    }
+    next
+}
+
+// A list of n items of w bytes that stand in words, `whole` + 1 to an item: header, part table, items of each part, offsets.
+pub fn write_list(
+    out: &mut [u8],
+    l: Layout,
+    vft: u32,
+    words: &[u32],
+    n: usize,
+    whole: usize,
+    w: usize,
+) -> Layout
+    requires { ⌜ ((whole + 1) * n ≤ length (now words)) × (4 * whole ≤ w) × ListRoom (l .at) w n (listSizes w n) ⌝ }
+    ensures { λ r. ⌜ Laid l (listBlocks (l .at) vft w (itemsIn whole w n (now (words .entry)))) r (now (out .entry)) (now (out .exit)) ⌝ }
+{
+    let parts = write_blocks::lay_list_front(out, l, vft, w, n);
+    let offsets = lay_items(out, parts, words, n, whole, w);
+    write_blocks::lay_offsets(out, offsets, w, n)
+}
+
+// The list of the n vertices of the table in work, behind its `buckets` roots of trees.
+pub fn lay_vertices(out: &mut [u8], l: Layout, work: &[u32], buckets: usize, n: usize) -> Layout
+    requires { ⌜ (buckets + 2 * n ≤ length (now work)) × ListRoom (l .at) 6 n (listSizes 6 n) ⌝ }
+    ensures { λ r. ⌜ Laid l (listBlocks (l .at) LIST-VFT-VERTICES 6 (vertexItems (met (now (work .entry)) buckets n))) r (now (out .entry)) (now (out .exit)) ⌝ }
+{
+    write_list(
+        out,
+        l,
+        LIST_VFT_VERTICES,
+        &work[buckets..],
+        n,
+        1,
+        VERTEX_SIZE,
+    )
+}
+
+// The list of the n indices that stand in work from `from` on.
+pub fn lay_indices(out: &mut [u8], l: Layout, work: &[u32], from: usize, n: usize) -> Layout
+    requires { ⌜ (from + n ≤ length (now work)) × ListRoom (l .at) 2 n (listSizes 2 n) ⌝ }
+    ensures { λ r. ⌜ Laid l (listBlocks (l .at) LIST-VFT-INDICES 2 (numberItems 2 (take n (drop from (now (work .entry)))))) r (now (out .entry)) (now (out .exit)) ⌝ }
+{
+    write_list(out, l, LIST_VFT_INDICES, &work[from..], n, 0, INDEX_SIZE)
+}
+
+// The list of the edges of the strip's n polygons, which have `corners` corners, by the area table of `len` ids. Its items are made in work from
+// `base` on.
+pub fn lay_edges(
+    out: &mut [u8],
+    l: Layout,
+    strip: &[u32],
+    n: usize,
+    corners: usize,
+    ids: &[u32],
+    len: usize,
+    work: &mut [u32],
+    base: usize,
+) -> Layout
+    requires { ⌜ (afterPolygons (now strip) 14 n ≤ length (now strip)) × (corners ≡ length (cornersAt (now strip) n)) × (base + 2 * corners ≤ length (now work))
+        × ListRoom (l .at) 8 corners (listSizes 8 corners) ⌝ }
+    ensures { λ r. ⌜ Laid l (listBlocks (l .at) LIST-VFT-EDGES 8 (edgeItems (take len (now (ids .entry))) (cornersAt (now (strip .entry)) n))) r (now (out .entry)) (now (out .exit)) ⌝ }
+    ensures { λ _. ⌜ now (work .exit) ≡ put base (edgeWords (take len (now (ids .entry))) (cornersAt (now (strip .entry)) n)) (now (work .entry)) ⌝ }
+{
+    edges::put_edges(strip, n, ids, len, work, base);
+    write_list(out, l, LIST_VFT_EDGES, &work[base..], corners, 1, EDGE_SIZE)
+}
+
+// The list of the n polygons of a cell with this area id, whose quarter boxes stand in `sides`, three words to each. A record is built in its block.
+pub fn lay_polygons(
+    out: &mut [u8],
+    l: Layout,
+    strip: &[u32],
+    area_id: u32,
+    n: usize,
+    sides: &[u32],
+) -> Layout
+    requires { ⌜ (afterPolygons (now strip) 14 n ≤ length (now strip)) × (now sides ≡ boxes (polygonsAt (now strip) 14 n))
+        × ListRoom (l .at) 48 n (listSizes 48 n) ⌝ }
+    ensures { λ r. ⌜ Laid l (listBlocks (l .at) LIST-VFT-POLYS 48 (polygonItems «area_id» 0 0 0 (polygonsAt (now (strip .entry)) 14 n))) r (now (out .entry)) (now (out .exit)) ⌝ }
+{
+    let parts = write_blocks::lay_list_front(out, l, LIST_VFT_POLYS, POLY_SIZE, n);
+    let offsets = polygons::lay_records(out, parts, strip, area_id, n, sides);
+    write_blocks::lay_offsets(out, offsets, POLY_SIZE, n)
+}

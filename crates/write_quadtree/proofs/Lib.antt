@@ -1,0 +1,5 @@
+pub mod Widths
+pub mod Placing
+pub mod Picks
+pub mod LeafVerdicts
+pub mod Held

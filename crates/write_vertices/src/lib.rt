@@ -1,0 +1,220 @@
+// Equal short triples share a vertex, numbered as first met. A triple is the one number
+// x + 2^16 y + 2^32 z. The table lies in lent words: `buckets` roots of trees, then two words to a vertex. No walk has more than 48 steps.
+ghost use mathlib.Core.Path.{_≡_};
+ghost use Prim.Native.Nat.{_+_, _*_, _/_, _≤_, _<_, _^_, min};
+ghost use lib.ListN.{length, getD};
+ghost use Rattle.write_vertices.specs.Table.{tripleAt, hashOf, met, half, halfAt, childOf, Walked, cleared, linkedWith, added, Table, TableRoom, LookedUp, InWork, triplesOf, NumberedAll};
+
+enum Found {
+    // The vertex with the triple.
+    At(usize),
+    // There is none: the half that would lead to it.
+    End(usize),
+}
+
+pub enum Numbered {
+    // Its number, and how many vertices there are now.
+    Vertex(usize, usize),
+    // It would be a 65,537th.
+    Full,
+}
+
+pub enum All {
+    // How many vertices there are.
+    Count(usize),
+    // The place of a 65,537th.
+    Over(usize),
+    // There is too little work.
+    Short,
+}
+
+// The tree in which a triple stands: a product's low half, spread over the trees. A `%` would cost a division.
+fn hash(triple: u64, buckets: usize) -> usize
+    requires { ⌜ (0 < buckets) × (buckets ≤ 2 ^ 32) ⌝ }
+    ensures { λ r. ⌜ (r ≡ hashOf buckets triple) × (r < buckets) ⌝ }
+{
+    let low = triple % 4294967296;
+    let high = triple / 4294967296;
+    let mixed = (low * 1640531527 + high * 1181783497) % 4294967296;
+    (mixed * (buckets as u64) / 4294967296) as usize
+}
+
+// The triple whose first word is at `at`, where both its words are there.
+fn whole_triple_at(table: &[u32], at: usize) -> u64
+    requires { ⌜ at + 1 < length (now table) ⌝ }
+    ensures { λ r. ⌜ (r ≡ tripleAt (now (table .entry)) at) × (r < 2 ^ 48) ⌝ }
+{
+    let z = table[at + 1] % 65536;
+    (table[at] as u64) + (z as u64) * 4294967296
+}
+
+// The same anywhere: a word past the end counts as 0.
+pub fn triple_at(table: &[u32], at: usize) -> u64
+    ensures { λ r. ⌜ (r ≡ tripleAt (now (table .entry)) at) × (r < 2 ^ 48) ⌝ }
+{
+    if table.len() <= at {
+        return 0;
+    }
+    if table.len() - at < 2 {
+        return table[at] as u64;
+    }
+    whole_triple_at(table, at)
+}
+
+// Half s of all words: the low half of a word where s is even, else its high half.
+fn half_at(table: &[u32], s: usize) -> usize
+    requires { ⌜ s / 2 < length (now table) ⌝ }
+    ensures { λ r. ⌜ r ≡ halfAt (now (table .entry)) s ⌝ }
+{
+    let word = table[s / 2];
+    if s % 2 < 1 {
+        return (word % 65536) as usize;
+    }
+    (word / 65536) as usize
+}
+
+// The half for the child of vertex p to which a walk goes that has `key` left.
+fn child_of(buckets: usize, p: usize, key: u64) -> usize
+    requires { ⌜ (buckets ≤ 2 ^ 32) × (p ≤ 65536) ⌝ }
+    ensures { λ r. ⌜ r ≡ childOf buckets p key ⌝ }
+{
+    if key % 2 < 1 {
+        return 2 * (buckets + 2 * p + 1) + 1;
+    }
+    2 * p + 1
+}
+
+// The vertex with this triple, or the half that would lead to it: down its tree, a bit of the triple a step. Vertex 65,535 stands in none.
+fn find(table: &[u32], buckets: usize, count: usize, triple: u64) -> Found
+    requires { ⌜ Table (now table) buckets count × (triple < 2 ^ 48) ⌝ }
+    ensures { λ r. ⌜ Walked (now (table .entry)) buckets count triple r ⌝ }
+{
+    let mut place = 2 * hash(triple, buckets);
+    let mut p = half_at(table, place);
+    let mut key = triple;
+    while p != 0 {
+        let i = p - 1;
+        if whole_triple_at(table, buckets + 2 * i) == triple {
+            return Found::At(i);
+        }
+        place = child_of(buckets, i, key);
+        p = half_at(table, place);
+        key = key / 2;
+    }
+    if 65535 < count {
+        if triple_at(table, buckets + 131070) == triple {
+            return Found::At(65535);
+        }
+    }
+    Found::End(place)
+}
+
+// Makes `table` one of no vertex: its first `buckets` words are 0, as far as it has them.
+pub fn clear(table: &mut [u32], buckets: usize)
+    ensures { λ _. ⌜ now (table .exit) ≡ cleared (now (table .entry)) buckets ⌝ }
+{
+    let mut i = 0;
+    while i < buckets {
+        if table.len() <= i {
+            return;
+        }
+        table[i] = 0;
+        i += 1;
+    }
+}
+
+// The word with a link in a half that was 0.
+fn linked(word: u32, place: usize, link: usize) -> u32
+    requires { ⌜ (half word place ≡ 0) × (link < 65536) ⌝ }
+    ensures { λ r. ⌜ r ≡ linkedWith word place link ⌝ }
+{
+    if place % 2 < 1 {
+        return word + link as u32;
+    }
+    word + link as u32 * 65536
+}
+
+// Adds a vertex, to which the half `place` then leads.
+fn add(table: &mut [u32], buckets: usize, count: usize, triple: u64, place: usize)
+    requires { ⌜ (buckets + 2 * count + 2 ≤ length (now table)) × (count < 65536) × (triple < 2 ^ 48) × (place / 2 < buckets + 2 * count)
+        × (halfAt (now table) place ≡ 0) ⌝ }
+    ensures { λ _. ⌜ now (table .exit) ≡ added (now (table .entry)) buckets count triple place ⌝ }
+{
+    let word = linked(table[place / 2], place, (count + 1) % 65536);
+    let at = buckets + 2 * count;
+    table[at] = (triple % 4294967296) as u32;
+    table[at + 1] = (triple / 4294967296) as u32;
+    table[place / 2] = word;
+}
+
+// The number of a triple: that of the first equal one, or the next number, which the triple then has.
+// No test could show that the words hold a table, so a caller has to keep `Table`, from `clear` on.
+pub fn vertex_index(table: &mut [u32], buckets: usize, count: usize, triple: u64) -> Numbered
+    requires { ⌜ TableRoom (now table) buckets count triple ⌝ }
+    ensures { λ r. ⌜ LookedUp (now (table .entry)) (now (table .exit)) buckets count triple r ⌝ }
+{
+    let known = find(table, buckets, count, triple);
+    match known {
+        Found::At(i) => Numbered::Vertex(i, count),
+        Found::End(place) => {
+            if count < 65536 {
+                add(table, buckets, count, triple, place);
+                Numbered::Vertex(count, count + 1)
+            } else {
+                Numbered::Full
+            }
+        }
+    }
+}
+
+// The numbers of m triples, first in `work`; the table lies from m on.
+fn number_in(triples: &[u32], m: usize, work: &mut [u32], buckets: usize) -> All
+    requires { ⌜ (0 < buckets) × (buckets ≤ 2 ^ 32) × (2 * m ≤ length (now triples)) × (m + (buckets + 2 * m) ≤ length (now work))
+        × (min m 65536 ≤ buckets) ⌝ }
+    ensures { λ r. ⌜ InWork (met (now (triples .entry)) 0 m) m buckets (now (work .entry)) (now (work .exit)) r ⌝ }
+{
+    clear(&mut work[m..], buckets);
+    let mut n = 0;
+    let mut i = 0;
+    while i < m {
+        let triple = whole_triple_at(triples, 2 * i);
+        let known = vertex_index(&mut work[m..], buckets, n, triple);
+        match known {
+            Numbered::Vertex(number, count) => {
+                work[i] = number as u32;
+                n = count;
+            }
+            Numbered::Full => {
+                return All::Over(i);
+            }
+        }
+        i += 1;
+    }
+    All::Count(n)
+}
+
+// How many trees a table for m triples has: one for each, as far as there can be vertices.
+pub fn tree_count(m: usize) -> usize
+    ensures { λ r. ⌜ r ≡ min m 65536 ⌝ }
+{
+    if m < 65536 {
+        return m;
+    }
+    65536
+}
+
+// The number of each triple, which is given as two words; a last word alone is none. The numbers come first in `work`, the table behind them:
+// four words to a triple are enough.
+pub fn number_all(triples: &[u32], work: &mut [u32]) -> All
+    ensures { λ r. ⌜ NumberedAll (triplesOf (now (triples .entry))) (now (work .entry)) (now (work .exit)) r ⌝ }
+{
+    let m = triples.len() / 2;
+    if work.len() / 4 < m {
+        return All::Short;
+    }
+    if m == 0 {
+        return All::Count(0);
+    }
+    let buckets = tree_count(m);
+    number_in(triples, m, work, buckets)
+}
