@@ -3,7 +3,8 @@ use mathlib.Core.Path.{_≡_}
 use mathlib.Core.List.{List}
 use Prim.Native.Nat.{ℕ}
 use lib.Seq.{sets}
-use Rattle.fields.specs.Bytes.{over, put}
+use Rattle.fields.specs.Bytes.{over}
+use Rattle.fields.specs.Put.{put}
 use Rattle.fields.proofs.Puts.{put-sets}
 
 pub stored-first : (bs xs : List ℕ) → sets xs 0 bs ≡ over bs xs

@@ -4,7 +4,8 @@ use mathlib.Core.List.{[], _∷_}
 use Rattle.fields.specs.Rows.{pack}
 use Rattle.distinct.specs.Distinct.{indexOf, withNew, distinctFrom}
 use Rattle.areas.specs.Areas.{seeded}
-use Rattle.areas.specs.EdgeHalf.{halfWord, noneWord}
+use Rattle.areas.specs.EdgeHalf.{halfWord}
+use Rattle.areas.specs.Decoded.{noneWord}
 
 -- the neighbours wrap
 pub wraps : seeded 4294967295 ≡ 4294967295 ∷ 16383 ∷ 4294967195 ∷ 4294967294 ∷ 0 ∷ 99 ∷ []

@@ -8,12 +8,13 @@ use lib.ListN.{length, getD, take, drop, length-append}
 use lib.Seq.{drop-cons, drop-length, length-take-le}
 use Rattle.fields.specs.Bytes.{over, zeros}
 use Rattle.fields.proofs.Over.{length-over, take-over, over-longer}
-use Rattle.distinct.specs.Distinct.{withNew, upTo, distinctFrom}
+use Rattle.distinct.specs.Distinct.{withNew, distinctFrom}
+use Rattle.distinct.specs.Numbers.{upTo}
 use Rattle.distinct.proofs.Laws.{length-with, up-room}
 use Rattle.distinct.proofs.Final.{with-grows, length-distinct}
-use Rattle.areas.specs.Areas.{wrap, seeds, seeded, entryOf, stored}
+use Rattle.areas.specs.Areas.{wrap, seeds, seeded}
+use Rattle.areas.specs.Tables.{withArea, stored}
 use Rattle.areas.specs.declared.Areas.{Areas}
-use Rattle.areas.specs.declared.Entry.{Entry}
 
 pub length-seeded : (a : ℕ) → length (seeded a) ≤ 6
 length-seeded a = length-distinct [] (seeds a)
@@ -49,12 +50,13 @@ module _ (xs ids : List ℕ) (len i x : ℕ) (g : Seeding xs ids len i) (lt : i 
   longer : length (take len ids) ≤ length (withNew (take len ids) x)
   longer = let w = with-grows (take len ids) x in omega (arith, ap length (w .1) ∙ length-append (take len ids) (w .0))
 
-  pub seeding-turn : (e : Entry) (ids' : List ℕ) → e ≡ entryOf (take len ids) x → ids' ≡ over (upTo 32 (take len ids) x) ids → Seeding xs ids' (e .len) (i + 1)
+  pub seeding-turn : (t : Areas) → t ≡ withArea (record { ids = ids; len = len }) x → Seeding xs (t .ids) (t .len) (i + 1)
   unfolding distinctFrom
-  seeding-turn e ids' ee ei =
+  seeding-turn t et =
       let l = withNew (take len ids) x in
-      let el : e .len ≡ length l = ap (λ (r : Entry). r .len) ee ∙ ap length grown in
-      let front : take (e .len) ids' ≡ l = rw (el, ei, grown) (take-over l ids (omega (arith, length-with (take len ids) x, size, g .few, g .long))) in
+      let el : t .len ≡ length l = ap (λ (r : Areas). r .len) et ∙ ap length grown in
+      let ei : t .ids ≡ over (upTo 32 (take len ids) x) ids = ap (λ (r : Areas). r .ids) et in
+      let front : take (t .len) (t .ids) ≡ l = rw (el, ei, grown) (take-over l ids (omega (arith, length-with (take len ids) x, size, g .few, g .long))) in
       record {
         few = omega (arith, el, length-with (take len ids) x, size, g .few);
         long = rw (ei, length-over) (g .long);
@@ -74,3 +76,8 @@ seeding-done xs ids len i g e few =
 -- a - k in 32 bits
 pub wrap-sub : (k a r : ℕ) → k ≤ 100 → 0 < k → r < 2 ^ 32 → (r + k) % 2 ^ 32 ≡ a → r ≡ wrap (a + (2 ^ 32 - k))
 wrap-sub k a r h z l e = omega arith
+
+-- the table of six numbers that are the seeds
+pub seeds-by-number : (a : ℕ) {w x y z : ℕ} → w ≡ wrap (a + (2 ^ 32 - 100)) → x ≡ wrap (a + (2 ^ 32 - 1)) → y ≡ wrap (a + 1) → z ≡ wrap (a + 100)
+    → stored (distinctFrom [] (a ∷ 16383 ∷ w ∷ x ∷ y ∷ z ∷ [])) (zeros 32) ≡ stored (seeded a) (zeros 32)
+seeds-by-number a e f g h = rw (e, f, g, h)

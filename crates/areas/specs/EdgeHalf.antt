@@ -3,8 +3,7 @@ use Prim.Native.Nat.{ℕ}
 use mathlib.Core.Bool.{cond}
 use mathlib.Core.List.{List, [], _∷_}
 use lib.Dec.{ltb}
-use Rattle.fields.specs.Rows.{pack, field}
-use Rattle.areas.specs.declared.edge.RawEnd.{RawEnd}
+use Rattle.fields.specs.Rows.{pack}
 
 -- area index in bits 0-4, poly 5-18, unk2 19-20, unk3 21-31
 abbrev pub halfRow : ℕ → ℕ → ℕ → ℕ → List (ℕ × ℕ)
@@ -16,14 +15,6 @@ halfWord index poly unk2 unk3 = pack (halfRow index poly unk2 unk3)
 -- the area of NONE, and its poly
 abbrev pub none : ℕ
 none = 16383
-
--- NONE, where the area `none` has this index: unk2 and unk3 are zero
-abbrev pub noneWord : ℕ → ℕ
-noneWord index = halfWord index none 0 0
-
--- the fields of a word
-abbrev pub decodedEnd : ℕ → RawEnd
-decodedEnd raw = record { index = field 0 5 raw; poly = field 5 14 raw; unk2 = field 19 2 raw; unk3 = field 21 11 raw }
 
 -- the area of a read index, when the area at i is `area i`: one not below the area count gives `none`
 abbrev pub areaOf : (ℕ → ℕ) → ℕ → ℕ → ℕ

@@ -1,2 +1,4 @@
 pub mod Areas
+pub mod Tables
 pub mod EdgeHalf
+pub mod Decoded

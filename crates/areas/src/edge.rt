@@ -1,6 +1,7 @@
 // The half of an edge as it stands in the pages: a word of four fields.
 ghost use mathlib.Core.Path.{_≡_};
-ghost use Rattle.areas.specs.EdgeHalf.{halfWord, decodedEnd};
+ghost use Rattle.areas.specs.EdgeHalf.{halfWord};
+ghost use Rattle.areas.specs.Decoded.{decodedEnd};
 
 // The fields of a half as they are read, the area still an index.
 pub struct RawEnd {

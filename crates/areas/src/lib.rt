@@ -3,8 +3,9 @@ ghost use mathlib.Core.Path.{_≡_};
 ghost use Prim.Native.Nat.{min};
 ghost use lib.ListN.{take};
 ghost use Rattle.fields.specs.Bytes.{over, zeros};
-ghost use Rattle.distinct.specs.Distinct.{upTo};
-ghost use Rattle.areas.specs.Areas.{stored, seeded, entryOf, ensured};
+ghost use Rattle.distinct.specs.Numbers.{upTo};
+ghost use Rattle.areas.specs.Areas.{seeded};
+ghost use Rattle.areas.specs.Tables.{stored, Entered, EnsuredIn};
 
 pub mod edge;
 
@@ -47,7 +48,7 @@ fn held(len: usize) -> usize
 
 // The index of an id among the first `len` of `ids`, after which it is added where it is new.
 pub fn ensure_id(ids: &mut [u32; 32], len: usize, id: u32) -> Entry
-    ensures answer { λ r. ⌜ r ≡ entryOf (take len (now (ids .entry))) id ⌝ }
+    ensures answer { λ r. ⌜ Entered (take len (now (ids .entry))) id r ⌝ }
     ensures table { λ _. ⌜ now (ids .exit) ≡ over (upTo 32 (take len (now (ids .entry))) id) (now (ids .entry)) ⌝ }
 {
     let count = held(len);
@@ -71,20 +72,22 @@ pub fn ensure_id(ids: &mut [u32; 32], len: usize, id: u32) -> Entry
     }
 }
 
-// The same on a table that goes in and comes back by value.
+// The table of the first `len` of an array that was lent.
+pub fn areas_of(ids: [u32; 32], len: usize) -> Areas
+    ensures { λ r. ⌜ r ≡ record { ids = ids; len = len } ⌝ }
+{
+    Areas { ids: ids, len: len }
+}
+
+// `ensure_id` on a table that goes in and comes back by value.
 pub fn ensure_area(t: Areas, id: u32) -> Ensured
-    ensures { λ r. ⌜ r ≡ ensured t id ⌝ }
+    ensures { λ r. ⌜ EnsuredIn t id r ⌝ }
 {
     let mut ids = t.ids;
     let e = ensure_id(&mut ids, t.len, id);
     let at = e.at;
-    Ensured {
-        areas: Areas {
-            ids: ids,
-            len: e.len,
-        },
-        at: at,
-    }
+    let areas = areas_of(ids, e.len);
+    Ensured { areas, at }
 }
 
 // The table with which every cell begins.
@@ -99,13 +102,13 @@ pub fn seed_areas(area_id: u32) -> Areas
         std::num::wrapping_add_u32(area_id, 1),
         std::num::wrapping_add_u32(area_id, 100),
     ];
-    let mut ids = [0u32; 32];
-    let mut len = 0;
+    let mut t = areas_of([0u32; 32], 0);
     let mut i = 0;
     while i < 6 {
-        let e = ensure_id(&mut ids, len, seeds[i]);
-        len = e.len;
+        let e = ensure_area(t, seeds[i]);
+        let next = e.areas;
+        t = next;
         i += 1;
     }
-    Areas { ids: ids, len: len }
+    t
 }

@@ -1,8 +1,13 @@
 // The grid of the map's cells: the cell of a position, and a cell's sides.
 ghost use mathlib.Core.Path.{_≡_};
 ghost use Prim.Native.Nat.{_≤_};
+ghost use Rattle.fields.specs.Bytes.{over};
+ghost use Rattle.answers.specs.Words.{numberOf, answerWords};
 ghost use Rattle.strip.specs.Outcome.{shown};
 ghost use Rattle.cell_grid.specs.Grid.{coordinate, cellAt, lowSide, boundsOf, paper, boundsOutcome};
+ghost use Rattle.cell_grid.specs.Entries.{cellWords, boundsWords};
+use answers::accept;
+use answers::refuse;
 use strip::Refusal;
 
 pub const CELL_SIZE: f32 = 150.0;
@@ -87,4 +92,32 @@ pub fn cell_bounds(cx: u32, cy: u32) -> BoundsAnswer
         });
     }
     BoundsAnswer::Bounds(bounds_of(cx, cy))
+}
+
+// `cell_for_position` for C: the two coordinates. It refuses nothing.
+pub fn cell_entry(x: f32, y: f32, answer: &mut [u64; 8]) -> u32
+    ensures number { λ r. ⌜ r ≡ 0 ⌝ }
+    ensures words { λ _. ⌜ now (answer .exit) ≡ over (cellWords (cellAt x y)) (now (answer .entry)) ⌝ }
+{
+    let c = cell_for_position(x, y);
+    accept(answer, &[c.x as u64, c.y as u64])
+}
+
+// `cell_bounds` for C: the four sides as the bits of floats, least x, least y, greatest x, greatest y.
+pub fn bounds_entry(cx: u32, cy: u32, answer: &mut [u64; 8]) -> u32
+    ensures number { λ r. ⌜ r ≡ numberOf (shown (boundsOutcome cx cy)) ⌝ }
+    ensures words { λ _. ⌜ now (answer .exit) ≡ over (answerWords boundsWords (shown (boundsOutcome cx cy))) (now (answer .entry)) ⌝ }
+{
+    match cell_bounds(cx, cy) {
+        BoundsAnswer::Bounds(b) => accept(
+            answer,
+            &[
+                math::num::bits_of_float(b.x0) as u64,
+                math::num::bits_of_float(b.y0) as u64,
+                math::num::bits_of_float(b.x1) as u64,
+                math::num::bits_of_float(b.y1) as u64,
+            ],
+        ),
+        BoundsAnswer::Refused(r) => refuse(answer, r),
+    }
 }

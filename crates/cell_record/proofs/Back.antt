@@ -10,7 +10,8 @@ use Rattle.math.proofs.Finite.{finite-bits}
 use Rattle.strip.specs.Cell.{Vec3, Head}
 use Rattle.strip.specs.Box as Box
 use Rattle.strip.proofs.Box.{FiniteVec, FiniteBox}
-use Rattle.cell_record.specs.Record.{floats, bits, recordOf, headBy}
+use Rattle.cell_record.specs.Record.{bits, recordOf, headBy}
+use Rattle.cell_record.specs.Floats.{floats}
 
 pub finite-number : (x : Float) → finite x ≡ true → T (not (isNan x))
 unfolding isNan

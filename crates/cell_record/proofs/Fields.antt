@@ -9,7 +9,8 @@ use Rattle.strip.specs.Cell.{Head}
 use Rattle.strip.specs.Box.{finiteBox}
 use Rattle.strip.specs.Reading.{word, headAt}
 use Rattle.strip.proofs.Box.{box-finite}
-use Rattle.cell_record.specs.Record.{floats, recordOf, headBy, rootIn}
+use Rattle.cell_record.specs.Record.{recordOf, headBy, rootIn}
+use Rattle.cell_record.specs.Floats.{floats}
 use Rattle.cell_record.specs.declared.CellRecord.{CellRecord}
 use Rattle.cell_record.proofs.Back.{WordBox, head-back}
 

@@ -1,13 +1,10 @@
 -- The cell's record by value and the head of the cell that it stands for: floats there, their bits here. Definitions only.
-use lib.Ieee.{binary32, ofBits, toBits}
+use lib.Ieee.{binary32, toBits}
 use Rattle.math.specs.declared.vec3.Vec3.{Vec3 as Floats}
 use Rattle.quantise.specs.declared.bounds.Aabb.{Aabb}
 use Rattle.strip.specs.Cell.{Vec3, Head}
 use Rattle.cell_record.specs.declared.CellRecord.{CellRecord}
-
--- three floats from their bits, and their bits
-abbrev pub floats : Vec3 → Floats
-floats v = record { x = ofBits binary32 (v .x); y = ofBits binary32 (v .y); z = ofBits binary32 (v .z) }
+use Rattle.cell_record.specs.Floats.{floats}
 
 abbrev pub bits : Floats → Vec3
 bits v = record { x = toBits binary32 (v .x); y = toBits binary32 (v .y); z = toBits binary32 (v .z) }

@@ -1,11 +1,12 @@
 // The record of a cell, by value: what a strip's first record holds, its box as vectors of floats. Writing makes it once from a strip whose box is finite,
 // reading once from header and root; every function that needs the box or a flag takes it, or its boxes.
 ghost use mathlib.Core.Path.{_≡_};
-ghost use Prim.Native.Nat.{_+_, _≤_};
+ghost use Prim.Native.Nat.{_≤_};
 ghost use lib.ListN.{length};
-ghost use Rattle.strip.specs.Reading.{vecAt, headAt};
-ghost use Rattle.quantise.specs.Short.{shorts, coordinates};
-ghost use Rattle.cell_record.specs.Record.{floats, recordOf, rootIn};
+ghost use Rattle.strip.specs.Reading.{headAt};
+ghost use Rattle.quantise.specs.Short.{shorts};
+ghost use Rattle.quantise.specs.Coordinates.{coordinates};
+ghost use Rattle.cell_record.specs.Record.{recordOf, rootIn};
 use math::vec3::Vec3;
 use math::vec3::floats_at;
 use quantise::bounds::Aabb;
@@ -67,13 +68,4 @@ pub fn record_at(strip: &[u32]) -> CellRecord
         bb_max,
         bb_size,
     }
-}
-
-// The shorts of the position whose three words stand at `at`, in a cell's box: of a vertex, of a portal's end, of a point.
-pub fn shorts_at(strip: &[u32], at: usize, bb_min: Vec3, bb_size: Vec3) -> Shorts
-    requires { ⌜ at + 3 ≤ length (now strip) ⌝ }
-    ensures { λ r. ⌜ r ≡ shorts (floats (vecAt (now (strip .entry)) at)) «bb_min» «bb_size» ⌝ }
-{
-    let v = floats_at(strip, at);
-    quantise::short::quantise(v, bb_min, bb_size)
 }

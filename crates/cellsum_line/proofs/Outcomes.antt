@@ -7,8 +7,9 @@ use native.Mathlib.Omega.{arith}
 use lib.Dec.{leb}
 use lib.ListN.{length, drop, getD, List·getD-append, length-append}
 use borrow.Author.Tests.{le-leb, lt-leb}
-use Rattle.fields.specs.Bytes.{put}
-use Rattle.strip.specs.Cell.{Cell, vecWords, headWords, encodeAs, encode}
+use Rattle.fields.specs.Put.{put}
+use Rattle.strip.specs.Cell.{Cell, encode}
+use Rattle.strip.proofs.Plain.{length-encode}
 use Rattle.strip.specs.Outcome.{Outcome, refused, done, refusal, values, shown, left}
 use Rattle.ynv_read.specs.declared.Parsed.{Parsed}
 use Rattle.ynv_read.specs.Reading.{Reading}
@@ -31,8 +32,7 @@ Long (refused number place) = Unit
 Long (done p words) = 14 ≤ length words
 
 long-strip : (c : Cell) → 14 ≤ length (encode c)
-unfolding encodeAs headWords vecWords
-long-strip c = omega arith
+long-strip c = omega (arith, length-encode c)
 
 long-fitted : (n : ℕ) (r : Reading) → Long (fitted n r)
 long-fitted n (Reading.made c sectors) = by (leb (length (encode c)) n)

@@ -5,7 +5,8 @@ use mathlib.Core.Bool.{cond}
 use mathlib.Core.List.{List, [], _∷_, _++_}
 use lib.Dec.{leb}
 use lib.ListN.{length, getD}
-use Rattle.fields.specs.Bytes.{cat, put}
+use Rattle.fields.specs.Bytes.{cat}
+use Rattle.fields.specs.Put.{put}
 use Rattle.strip.specs.Outcome.{Outcome, refused, done}
 use Rattle.decimal.specs.Text.{ascii, decimal}
 use Rattle.ynv_read.specs.declared.Parsed.{Parsed}

@@ -3,13 +3,13 @@ ghost use mathlib.Core.Path.{_≡_};
 ghost use mathlib.Core.List.{[], _∷_};
 ghost use Prim.Native.Nat.{_+_, _<_};
 ghost use lib.ListN.{length};
-ghost use Rattle.fields.specs.Bytes.{put};
+ghost use Rattle.fields.specs.Put.{put};
 ghost use Rattle.decimal.specs.Text.{digit, decimal};
 
 // Stores the text from `at` on, and answers its length.
 pub fn put_text(out: &mut [u8], at: usize, text: &[u8]) -> usize
-    ensures { λ r. ⌜ r ≡ length (now (text .entry)) ⌝ }
-    ensures { λ _. ⌜ now (out .exit) ≡ put at (now (text .entry)) (now (out .entry)) ⌝ }
+    ensures size { λ r. ⌜ r ≡ length (now (text .entry)) ⌝ }
+    ensures stored { λ _. ⌜ now (out .exit) ≡ put at (now (text .entry)) (now (out .entry)) ⌝ }
 {
     let mut to = at;
     let mut i = 0;
@@ -53,8 +53,8 @@ fn put_digit(out: &mut [u8], at: usize, i: usize, d: u64)
 
 // Stores the decimal digits of n from `at` on, the last of them first, and answers how many there are.
 pub fn put_decimal(out: &mut [u8], at: usize, n: u64) -> usize
-    ensures { λ r. ⌜ r ≡ length (decimal n) ⌝ }
-    ensures { λ _. ⌜ now (out .exit) ≡ put at (decimal n) (now (out .entry)) ⌝ }
+    ensures size { λ r. ⌜ r ≡ length (decimal n) ⌝ }
+    ensures stored { λ _. ⌜ now (out .exit) ≡ put at (decimal n) (now (out .entry)) ⌝ }
 {
     let count = decimal_len(n);
     let mut i = count - 1;

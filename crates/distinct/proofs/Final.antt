@@ -10,7 +10,8 @@ use lib.ListN.{length, getD, length-append, List·getD-append}
 use lib.Seq.{getD-at}
 use lib.Dec.{eqb}
 use borrow.Author.Tests.{eqb-true, ltb-true, eq-eqb}
-use Rattle.distinct.specs.Distinct.{indexOf, isIn, withNew, distinctFrom, numbersFrom}
+use Rattle.distinct.specs.Distinct.{indexOf, isIn, withNew, distinctFrom}
+use Rattle.distinct.specs.Numbers.{numbersFrom}
 use Rattle.distinct.proofs.Laws.{with-old, with-fresh, fresh-index, length-with}
 
 -- x is in l

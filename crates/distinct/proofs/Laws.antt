@@ -8,7 +8,8 @@ use lib.ListN.{length, getD, take, length-append}
 use lib.Seq.{getD-take, length-take-le}
 use lib.Dec.{leb, eqb}
 use borrow.Author.Tests.{le-leb, lt-leb, leb-true, ltb-false, eq-eqb, ne-eqb}
-use Rattle.distinct.specs.Distinct.{indexOf, isIn, withNew, upTo, distinctFrom, numbersFrom}
+use Rattle.distinct.specs.Distinct.{indexOf, isIn, withNew, distinctFrom}
+use Rattle.distinct.specs.Numbers.{upTo, numbersFrom}
 
 -- ---- indexOf
 

@@ -8,7 +8,8 @@ use mathlib.Core.List.{List, [], _∷_, _++_, append-assoc, append-nil}
 use lib.ListN.{length, getD, set, take, drop, length-set, take-append-drop}
 use lib.Seq.{drop-cons, take-suc-set, drop-set-lt, drop-length, drop-drop}
 use lib.Dec.{leb}
-use Rattle.distinct.specs.Distinct.{indexOf, withNew, distinctFrom, numbersFrom, nowhere, from, excessFrom}
+use Rattle.distinct.specs.Distinct.{indexOf, withNew, distinctFrom}
+use Rattle.distinct.specs.Numbers.{numbersFrom, nowhere, from, excessFrom}
 
 -- lists that are equal from a on are equal from further on
 pub drop-more : (a e : ℕ) → a ≤ e → (l r : List ℕ) → drop a l ≡ drop a r → drop e l ≡ drop e r

@@ -1,12 +1,13 @@
 -- That a list stands in another at a place: of a block in the pages, a record in a block, a field in a record.
-use mathlib.Core.Path.{_≡_, refl, sym, ap, _∙_}
-use mathlib.Core.List.{List, [], _++_, append-assoc, append-nil}
-use Prim.Native.Nat.{ℕ, _+_, _%_, _^_, _≤_, _<_}
-use native.Mathlib.Nat.{zero-add}
+use mathlib.Core.Path.{_≡_, refl, sym, ap, subst, _∙_}
+use mathlib.Core.List.{List, [], _∷_, _++_, append-assoc, append-nil}
+use Prim.Native.Nat.{ℕ, zero, suc, _+_, _*_, _%_, _^_, _≤_, _<_}
+use native.Mathlib.Nat.{zero-add, add-zero, mul-zero, mul-suc}
 use native.Mathlib.Omega.{arith}
 use lib.ListN.{length, take, drop, getD, length-append, List·getD-append}
 use lib.Seq.{length-take-le, take-at, drop-at, getD-append-add}
-use Rattle.fields.specs.Bytes.{leAt, leBytes, put}
+use Rattle.fields.specs.Bytes.{leAt, leBytes, les}
+use Rattle.fields.specs.Put.{put}
 use Rattle.fields.proofs.Bytes.{same, le-bytes, length-bytes}
 use Rattle.fields.proofs.Puts.{put-eq}
 
@@ -77,3 +78,14 @@ held-field {s} {at} {b} n h e = same n s at b 0 (λ k l. byte k (omega arith))
 
 pub held-value : {s : List ℕ} {at : ℕ} (n v : ℕ) → Holds s at (leBytes n v) → leAt n s at ≡ v % 256 ^ n
 held-value n v h = held-field n h (length-bytes n v) ∙ le-bytes n v
+
+-- number i of a row of numbers
+pub number-in : (s : List ℕ) (at w : ℕ) (xs : List ℕ) (i : ℕ) → i < length xs → Holds s at (les w xs) → leAt w s (at + w * i) ≡ getD xs i 0 % 256 ^ w
+unfolding les
+number-in s at w [] i h held = absurd (omega arith)
+number-in s at w (x ∷ xs) zero h held =
+    rw (mul-zero, add-zero) (held-value w x (held-first (leBytes w x) (les w xs) held))
+number-in s at w (x ∷ xs) (suc i) h held =
+    let rest : Holds s (at + w) (les w xs) = subst (λ (j : ℕ). Holds s (at + j) (les w xs)) (length-bytes w x) (held-second (leBytes w x) (les w xs) held) in
+    let e : at + w * suc i ≡ at + w + w * i = rw (mul-suc w i) (omega arith) in
+    rw e (number-in s (at + w) w xs i (omega arith) rest)

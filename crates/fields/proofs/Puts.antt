@@ -6,9 +6,10 @@ use Prim.Native.Nat.{ℕ, zero, suc, _+_, _-_, _/_, _%_, _^_, _≤_, _<_}
 use native.Mathlib.Nat.{zero-add, add-zero, add-suc, suc-add, not-suc-le-zero, le-of-suc-le-suc}
 use native.Mathlib.Numerals.{add-one}
 use native.Mathlib.Omega.{arith}
-use lib.ListN.{length, length-set, take, drop, set, getD}
-use lib.Seq.{sets, set-out, getD-set-same, getD-set-other}
-use Rattle.fields.specs.Bytes.{over, put, leAt, leBytes, les}
+use lib.ListN.{length, length-set, length-drop, take, drop, set, getD}
+use lib.Seq.{sets, set-out, getD-set-same, getD-set-other, ext-getD, getD-drop, take-all}
+use Rattle.fields.specs.Bytes.{over, leAt, leBytes, les}
+use Rattle.fields.specs.Put.{put}
 use Rattle.fields.proofs.Over.{length-over, over-over, over-eq}
 use Rattle.fields.proofs.Bytes.{same, length-bytes, bytes-join, bytes-mod, le-bytes, les-drop}
 
@@ -112,6 +113,17 @@ pub getD-put-after : (at : ℕ) (bs xs : List ℕ) (i : ℕ) → at + length bs 
 getD-put-after at [] xs i h = rw put-nil
 getD-put-after at (b ∷ bs) xs i h = rw (put-cons at b bs xs) (getD-put-after (suc at) bs (set xs at b) i (omega arith) ∙ getD-set-other xs at i b 0 (λ e. omega arith))
 
+-- what stands behind is as it was
+pub drop-behind : (at : ℕ) (bs xs : List ℕ) (e : ℕ) → at + length bs ≤ e → drop e (put at bs xs) ≡ drop e xs
+drop-behind at bs xs e h =
+    ext-getD 0 (drop e (put at bs xs)) (drop e xs)
+    (rw (length-drop e (put at bs xs), length-drop e xs, length-put at bs xs))
+    (λ j l. getD-drop e (put at bs xs) j 0 ∙ getD-put-after at bs xs (e + j) (omega arith) ∙ sym (getD-drop e xs j 0))
+
+-- the words that are lent from a place on
+pub lent : (from : ℕ) (ws : List ℕ) → take (length ws - from) (drop from ws) ≡ drop from ws
+lent from ws = take-all (length ws - from) (drop from ws) (omega (arith, length-drop from ws))
+
 -- what it stores
 pub stored : (at : ℕ) (bs xs : List ℕ) (k : ℕ) → at + k < length xs → k < length bs → getD (put at bs xs) (at + k) 0 ≡ getD bs k 0
 stored at [] xs k h l = absurd (omega arith)
@@ -143,6 +155,10 @@ put-lowest at (suc n) v xs h =
 -- two halves of n bytes, side by side, are a number of n + n
 pub put-join : (n v at : ℕ) (xs : List ℕ) → put (at + n) (leBytes n (v / 256 ^ n)) (put at (leBytes n (v % 256 ^ n)) xs) ≡ put at (leBytes (n + n) v) xs
 put-join n v at xs = rw (bytes-mod, bytes-join) (put-number at n v (leBytes n (v / 256 ^ n)) xs)
+
+-- so are they where one is stored and then the other
+pub put-halves : (n v at : ℕ) (xs : List ℕ) {half out : List ℕ} → half ≡ put at (leBytes n (v % 256 ^ n)) xs → out ≡ put (at + n) (leBytes n (v / 256 ^ n)) half → out ≡ put at (leBytes (n + n) v) xs
+put-halves n v at xs e f = f ∙ ap (λ (l : List ℕ). put (at + n) (leBytes n (v / 256 ^ n)) l) e ∙ put-join n v at xs
 
 -- it reads back, and a store elsewhere leaves a number as it was
 pub read-back : (n v at : ℕ) (xs : List ℕ) → at + n ≤ length xs → leAt n (put at (leBytes n v) xs) at ≡ v % 256 ^ n

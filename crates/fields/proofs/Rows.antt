@@ -11,7 +11,8 @@ use lib.ListN.{length, length-append}
 use lib.Pow.{pow-pos, pow-add, shr-shr}
 use borrow.Author.Tests.{leb-true}
 use Rattle.fields.specs.Bytes.{leAt, leBytes}
-use Rattle.fields.specs.Rows.{rowBytes, rowSize, pack, field, rowAt}
+use Rattle.fields.specs.Rows.{rowBytes, pack, field}
+use Rattle.fields.specs.RowPlaces.{rowSize, rowAt}
 use Rattle.fields.proofs.Bytes.{length-bytes}
 use Rattle.fields.proofs.Holds.{Holds, all-held, held-in, held-first, held-second, held-value}
 

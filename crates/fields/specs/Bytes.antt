@@ -1,4 +1,4 @@
--- Bytes in a list: little-endian numbers of any width, items of one width, and a run of elements stored at a place. Definitions only.
+-- Bytes in a list: little-endian numbers of any width, items of one width, and elements stored over the first ones. Definitions only.
 use Prim.Native.Nat.{ℕ, zero, suc, _+_, _*_, _/_, _%_}
 use mathlib.Core.List.{List, [], _∷_, _++_}
 use lib.ListN.{getD, take, drop, replicate}
@@ -37,10 +37,3 @@ unfoldable pub over : List ℕ → List ℕ → List ℕ
 over [] xs = xs
 over (b ∷ bs) [] = []
 over (b ∷ bs) (x ∷ xs) = b ∷ over bs xs
-
--- xs with the elements bs stored from index at on, and as long as it was: one that would lie past the end is left out
-unfoldable pub put : ℕ → List ℕ → List ℕ → List ℕ
-unfolding over
-put zero bs xs = over bs xs
-put (suc at) bs [] = []
-put (suc at) bs (x ∷ xs) = x ∷ put at bs xs

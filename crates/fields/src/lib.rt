@@ -1,9 +1,10 @@
 // Little-endian fields of lent bytes, read and stored. Every call is total: a byte past the end reads as 0, and one that would be stored there is left out.
 ghost use mathlib.Core.Path.{_≡_};
 ghost use mathlib.Core.List.{_++_};
-ghost use Prim.Native.Nat.{_+_, _≤_, min};
+ghost use Prim.Native.Nat.{_+_, _*_, _≤_, min};
 ghost use lib.ListN.{length};
-ghost use Rattle.fields.specs.Bytes.{leAt, leBytes, les, put};
+ghost use Rattle.fields.specs.Bytes.{leAt, leBytes, les};
+ghost use Rattle.fields.specs.Put.{put};
 
 pub mod sizes;
 
@@ -198,12 +199,32 @@ fn put_word(b: &mut [u8], off: usize, n: usize, w: u32)
     put_le(b, off, n, w as u64);
 }
 
-// The n low bytes of each of ws, one after the other.
+// Words of 4 bytes, one after the other, where there is room for all of them.
+fn store_words(b: &mut [u8], off: usize, ws: &[u32])
+    requires { ⌜ off + 4 * length (now ws) ≤ length (now b) ⌝ }
+    ensures { λ _. ⌜ now (b .exit) ≡ put off (les 4 (now (ws .entry))) (now (b .entry)) ⌝ }
+{
+    let mut at = off;
+    let mut i = 0;
+    while i < ws.len() {
+        store_u32(b, at, ws[i]);
+        at += 4;
+        i += 1;
+    }
+}
+
+// The n low bytes of each of ws, one after the other. Records are words of 4 bytes and have room, so room is looked at once for all of them.
 pub fn put_all(b: &mut [u8], off: usize, n: usize, ws: &[u32])
     ensures { λ _. ⌜ now (b .exit) ≡ put off (les n (now (ws .entry))) (now (b .entry)) ⌝ }
 {
     if b.len() <= off {
         return;
+    }
+    if n == 4 {
+        if ws.len() <= (b.len() - off) / 4 {
+            store_words(b, off, ws);
+            return;
+        }
     }
     let mut at = off;
     let mut i = 0;

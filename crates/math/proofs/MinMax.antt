@@ -6,7 +6,8 @@ use Prim.Native.Nat.{zero, suc}
 use lib.Dec.{T}
 use lib.Ieee.{Float, nan, inf, fin, Format, ne, isNan, fits}
 use lib.Ieee.Compare.{differs-from-itself}
-use Rattle.math.specs.MinMax.{Picked, plain, chosen}
+use Rattle.math.specs.MinMax.{chosen}
+use Rattle.math.specs.Picked.{Picked, plain}
 use Rattle.math.proofs.Whole.{is-nan, same-no-nan}
 use Rattle.math.proofs.Order.{Order}
 

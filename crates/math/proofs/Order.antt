@@ -13,7 +13,8 @@ use lib.Ieee.{Float, nan, inf, fin, Format, prec, low, top, hid, size, up, down,
 use lib.Ieee.Bits.{ofBits-toBits}
 use lib.Ieee.Fits.{and-i, and-l, and-r, eq→eqb, up-pos, down-pos}
 use lib.Ieee.Nearest.{div-same}
-use Rattle.math.specs.MinMax.{ge, gt, plain}
+use Rattle.math.specs.MinMax.{gt}
+use Rattle.math.specs.Picked.{ge, plain}
 
 -- `before` is strict, and `under` the same with equality
 pub record Order (before under : Float → Float → Bool) : Type 0 where

@@ -1,2 +1,3 @@
 pub mod MinMax
+pub mod Picked
 pub mod Floats

@@ -3,7 +3,7 @@
 ghost use mathlib.Core.Path.{_≡_};
 ghost use lib.Ieee as Ieee;
 ghost use lib.Ieee.{binary32};
-ghost use Rattle.math.specs.MinMax.{IsMin, IsMax};
+ghost use Rattle.math.specs.Picked.{IsMin, IsMax};
 
 // The float whose bits are b. Every NaN pattern gives a NaN, where `f32::from_bits` is undefined.
 pub fn float_of_bits(b: u32) -> f32

@@ -3,7 +3,7 @@ ghost use mathlib.Core.Path.{_≡_};
 ghost use Prim.Native.Nat.{_+_, _≤_};
 ghost use lib.ListN.{length};
 ghost use Rattle.math.specs.Floats.{floatsAt};
-ghost use Rattle.math.specs.MinMax.{IsMin, IsMax};
+ghost use Rattle.math.specs.Picked.{IsMin, IsMax};
 use super::num::f32_max;
 use super::num::f32_min;
 use super::num::float_of_bits;

@@ -8,11 +8,13 @@ use native.Mathlib.Nat.{mul-le-mul}
 use lib.Dec.{eqb, ltb}
 use Rattle.quantise.proofs.Ops.{ltb-same}
 use Rattle.strip.specs.Cell.{Vec3, NavPoly}
-use Rattle.strip.specs.Reading.{vecAt, itemsAt, vecsAt, polyAt, polygonOf, polygonAt, polygonsAt}
+use Rattle.strip.specs.Reading.{vecAt, itemsAt, vecsAt, polyAt, polygonOf, polygonAt}
+use Rattle.strip.specs.Rows.{polygonsAt}
 use Rattle.strip.specs.declared.Poly.{Poly}
 use Rattle.strip.proofs.Steps.{items-turn, items-done, polygons-turn}
 use Rattle.picking.specs.declared.Spot.{Spot}
-use Rattle.picking.specs.Picking.{crossed, one, crossings, lastOf, inside, found, none, firstFrom}
+use Rattle.strip.specs.Tests.{one}
+use Rattle.picking.specs.Picking.{crossed, crossings, lastOf, inside, found, none, firstFrom}
 
 pub short-product : (a b : ℕ) → a < 2 ^ 16 → b < 2 ^ 16 → a * b < 2 ^ 32
 short-product a b h k = omega (arith, mul-le-mul {n₁ = a} {m₁ = b} {n₂ = 65535} {m₂ = 65535} (omega arith) (omega arith))

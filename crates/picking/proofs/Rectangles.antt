@@ -11,7 +11,8 @@ use borrow.Author.Tests.{ltb-true, ltb-false, leb-true, leb-false, lt-ltb, le-lt
 use Rattle.quantise.proofs.Ops.{ltb-same}
 use Rattle.strip.specs.Cell.{NavPoly, Head}
 use Rattle.picking.specs.declared.Spot.{Spot}
-use Rattle.picking.specs.Picking.{spotOf, leftOf, crossed, one, crossings, lastOf, inside, contains}
+use Rattle.strip.specs.Tests.{one}
+use Rattle.picking.specs.Picking.{spotOf, leftOf, crossed, crossings, lastOf, inside, contains}
 use Rattle.picking.proofs.Whole.{not-crossed}
 use Rattle.picking.proofs.Sides.{either-way}
 

@@ -11,10 +11,12 @@ use lib.Dec.{leb}
 use lib.Ieee.{binary32, ofBits}
 use borrow.Author.Tests.{le-ltb, le-leb, leb-true, leb-false}
 use Rattle.quantise.proofs.Capped.{short-lt}
-use Rattle.strip.specs.Cell.{All, NavPoly, Head}
+use Rattle.strip.specs.Cell.{NavPoly, Head}
+use Rattle.strip.specs.Fits.{All}
 use Rattle.strip.proofs.Alls.{all-images}
 use Rattle.picking.specs.declared.Spot.{Spot}
-use Rattle.picking.specs.Picking.{spotOf, leftOf, crossed, one, crossings, lastOf, inside, contains}
+use Rattle.strip.specs.Tests.{one}
+use Rattle.picking.specs.Picking.{spotOf, leftOf, crossed, crossings, lastOf, inside, contains}
 use Rattle.picking.proofs.Whole.{not-crossed}
 
 -- a side is crossed or not whichever way it goes

@@ -10,7 +10,8 @@ use lib.ListN.{length}
 use lib.Dec.{ltb}
 use lib.Ieee.{Float, binary32, ofBits}
 use borrow.Author.Tests.{ltb-true, ltb-false}
-use Rattle.strip.specs.Cell.{All, Vec3, NavPoly, Head, Cell}
+use Rattle.strip.specs.Cell.{Vec3, NavPoly, Head, Cell}
+use Rattle.strip.specs.Fits.{All}
 use Rattle.strip.specs.Box.{finiteBox}
 use Rattle.strip.specs.Scan.{ok, scan}
 use Rattle.strip.specs.Outcome.{Paper, refusal, values, shown}

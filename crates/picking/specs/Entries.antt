@@ -1,14 +1,14 @@
 -- The words that the values of the two calls make for C. Definitions only.
 use Prim.Native.Nat.{ℕ}
-use mathlib.Core.List.{List}
+use mathlib.Core.List.{List, [], _∷_}
 use Rattle.answers.specs.Words.{filled}
 use Rattle.picking.specs.declared.Spot.{Spot}
 use Rattle.picking.specs.Picking.{Found, found, none}
 
 -- whether there is a polygon, and its number
 abbrev pub foundWords : Found → List ℕ
-foundWords (found n) = filled 1 n 0 0 0
-foundWords none = filled 0 0 0 0 0
+foundWords (found n) = filled (1 ∷ n ∷ [])
+foundWords none = filled (0 ∷ [])
 
 abbrev pub spotWords : Spot → List ℕ
-spotWords s = filled (s .x) (s .y) 0 0 0
+spotWords s = filled (s .x ∷ s .y ∷ [])

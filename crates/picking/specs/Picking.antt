@@ -1,16 +1,15 @@
 -- What lies under the cursor (document 02, No. 1): the lowest-numbered polygon that contains a spot, by the even-odd rule on shorts; and the
 -- spot of a position. Definitions only.
 use Prim.Native.Nat.{ℕ, _+_, _-_, _*_, _%_}
-use mathlib.Core.Bool.{Bool, true, false, cond}
+use mathlib.Core.Bool.{Bool, false, cond}
 use mathlib.Core.List.{List, [], _∷_, map}
 use lib.Dec.{eqb, leb, ltb}
 use lib.Ieee.{Float, binary32, ofBits}
 use Rattle.quantise.specs.Short.{short}
 use Rattle.strip.specs.Cell.{Vec3, NavPoly, Head, Cell}
-use Rattle.strip.specs.Box.{finiteBox}
-use Rattle.strip.specs.Scan.{scan}
-use Rattle.strip.specs.Outcome.{Outcome, refused, done, Paper, values, refusalOf}
-use Rattle.strip.specs.Check.{onCell}
+use Rattle.strip.specs.Tests.{one}
+use Rattle.strip.specs.Outcome.{Outcome, Paper, values, refusalOf}
+use Rattle.strip.specs.Boxed.{checked}
 use Rattle.picking.specs.declared.Spot.{Spot}
 use Rattle.picking.specs.declared.PickAnswer.{PickAnswer}
 use Rattle.picking.specs.declared.PickAnswer.the-variants.{Poly, Nothing, Refused}
@@ -39,10 +38,6 @@ crossed s a b =
     cond (leb (a .y) (s .y))
     (cond (leb (b .y) (s .y)) false (leftOf s a b))
     (cond (leb (b .y) (s .y)) (leftOf s b a) false)
-
-abbrev pub one : Bool → ℕ
-one true = 1
-one false = 0
 
 -- how many sides are crossed of those from `from` to the first vertex, and on from vertex to vertex
 unfoldable pub crossings : (spot from : Spot) → List Spot → ℕ
@@ -75,14 +70,7 @@ firstFrom test k (a ∷ rest) = cond (test a) (found k) (firstFrom test (k + 1) 
 abbrev pub lowest : Spot → Cell → Found
 lowest s c = firstFrom (contains (c .head) s) 0 (c .polys)
 
--- "Checks: 3, then 10": what a call says of the cell of a strip, or the refusal
-abbrev pub onBox : {A : Type 0} → (Cell → A) → Cell → Outcome A
-onBox f c = cond (finiteBox (c .head)) (done (f c) []) (refused 10 0)
-
-abbrev pub checked : {A : Type 0} → (Cell → A) → List ℕ → Outcome A
-checked f strip = onCell (onBox f) (scan strip)
-
--- what the two calls have to decide, and what each case of their answers says
+-- "Checks: 3, then 10": what the two calls have to decide, and what each case of their answers says
 abbrev pub pickOutcome : List ℕ → Spot → Outcome Found
 pickOutcome strip s = checked (lowest s) strip
 

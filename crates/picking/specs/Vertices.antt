@@ -5,12 +5,9 @@ use lib.Ieee.{binary32, ofBits}
 use Rattle.quantise.specs.Short.{short}
 use Rattle.strip.specs.Cell.{Vec3}
 use Rattle.strip.specs.Reading.{word}
-use Rattle.strip.specs.Outcome.{Paper, values, refusalOf}
 use Rattle.picking.specs.declared.Spot.{Spot}
 use Rattle.picking.specs.declared.Axis.{Axis}
 use Rattle.picking.specs.declared.Vertex.{Vertex}
-use Rattle.picking.specs.declared.CellAnswer.{CellAnswer}
-use Rattle.picking.specs.declared.CellAnswer.the-variants as CellAnswer
 
 -- the short of a coordinate's bits on an axis
 abbrev pub shortOn : Axis → ℕ → ℕ
@@ -26,8 +23,3 @@ spotOn x y v = record { x = shortOn x (v .x); y = shortOn y (v .y) }
 
 abbrev pub vertexSpot : List ℕ → Axis → Vertex → Spot
 vertexSpot strip x v = record { x = shortOn x (word strip (v .at)); y = v .y }
-
--- how many polygons there are, or the refusal
-abbrev pub cellPaper : CellAnswer → Paper ℕ
-cellPaper (CellAnswer.Polys n) = values n
-cellPaper (CellAnswer.Refused r) = refusalOf r

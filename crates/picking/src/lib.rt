@@ -5,13 +5,15 @@ ghost use Prim.Native.Nat.{_+_, _*_, _^_, _≤_, _<_};
 ghost use lib.ListN.{length};
 ghost use Rattle.quantise.specs.Short.{short};
 ghost use Rattle.fields.specs.Bytes.{over};
-ghost use Rattle.strip.specs.Reading.{word, vecsAt, polygonOf, polygonsAt, afterPolygons, headAt};
+ghost use Rattle.strip.specs.Reading.{word, vecsAt, polygonOf, headAt};
+ghost use Rattle.strip.specs.Rows.{polygonsAt, afterPolygons};
+ghost use Rattle.strip.specs.Tests as Tests;
 ghost use Rattle.strip.specs.Outcome.{values, shown};
 ghost use Rattle.answers.specs.Words.{numberOf, answerWords};
 ghost use Rattle.picking.specs.Picking as Picking;
-ghost use Rattle.picking.specs.Picking.{leftOf, inside, firstFrom, checked, pickOutcome, spotOutcome, pickPaper, spotPaper};
+ghost use Rattle.picking.specs.Picking.{leftOf, inside, firstFrom, pickOutcome, spotOutcome, pickPaper, spotPaper};
 ghost use Rattle.picking.specs.Entries.{foundWords, spotWords};
-ghost use Rattle.picking.specs.Vertices.{shortOn, axisAt, spotOn, vertexSpot, cellPaper};
+ghost use Rattle.picking.specs.Vertices.{shortOn, axisAt, spotOn, vertexSpot};
 use answers::accept;
 use answers::refuse;
 use math::num::float_of_bits;
@@ -19,6 +21,7 @@ use quantise::short::quantise_axis;
 use strip::Poly;
 use strip::Refusal;
 use strip::StripAnswer;
+use strip::cells::check_cell;
 
 // A place in the cell's plane, in shorts.
 pub struct Spot {
@@ -128,7 +131,7 @@ fn crossed(strip: &[u32], s: Spot, a: Vertex, b: Vertex, x: Axis) -> bool
 
 // A test as a number to add up. Adding was faster than branching on it where a polygon's sides lie now left, now right of the spot.
 fn one(b: bool) -> usize
-    ensures { λ r. ⌜ (r ≡ Picking.one b) × (r ≤ 1) ⌝ }
+    ensures { λ r. ⌜ (r ≡ Tests.one b) × (r ≤ 1) ⌝ }
 {
     if b { 1 } else { 0 }
 }
@@ -198,37 +201,16 @@ fn first_containing(strip: &[u32], n: usize, s: Spot) -> PickAnswer
     PickAnswer::Nothing
 }
 
-// How many polygons the cell of a strip has, or why the strip is refused.
-enum CellAnswer {
-    Polys(usize),
-    Refused(Refusal),
-}
-
-// Refusals 3, then 10.
-fn check_cell(strip: &[u32]) -> CellAnswer
-    ensures { λ r. ⌜ cellPaper r ≡ shown (checked (λ c. length (c .polys)) (now (strip .entry))) ⌝ }
-{
-    match strip::check_strip(strip) {
-        StripAnswer::WellFormed(n) => {
-            if !strip::finite_box(strip) {
-                return CellAnswer::Refused(Refusal {
-                    number: 10,
-                    place: 0,
-                });
-            }
-            CellAnswer::Polys(n.polys)
-        }
-        StripAnswer::Refused(r) => CellAnswer::Refused(r),
-    }
-}
-
 // The lowest-numbered polygon that contains the spot (x, y), none, or refusal 3 or 10.
 pub fn pick_poly(strip: &[u32], x: u16, y: u16) -> PickAnswer
     ensures { λ r. ⌜ pickPaper r ≡ shown (pickOutcome (now (strip .entry)) (record { x = x; y = y })) ⌝ }
 {
     match check_cell(strip) {
-        CellAnswer::Polys(n) => first_containing(strip, n, Spot { x, y }),
-        CellAnswer::Refused(r) => PickAnswer::Refused(r),
+        StripAnswer::WellFormed(n) => {
+            let polys = n.polys;
+            first_containing(strip, polys, Spot { x, y })
+        }
+        StripAnswer::Refused(r) => PickAnswer::Refused(r),
     }
 }
 
@@ -237,7 +219,7 @@ pub fn spot_for_position(strip: &[u32], x: f32, y: f32) -> SpotAnswer
     ensures { λ r. ⌜ spotPaper r ≡ shown (spotOutcome (now (strip .entry)) x y) ⌝ }
 {
     match check_cell(strip) {
-        CellAnswer::Polys(_) => {
+        StripAnswer::WellFormed(_) => {
             let across = axis_at(strip, 0);
             let up = axis_at(strip, 1);
             SpotAnswer::At(Spot {
@@ -245,29 +227,29 @@ pub fn spot_for_position(strip: &[u32], x: f32, y: f32) -> SpotAnswer
                 y: short_on(y, up),
             })
         }
-        CellAnswer::Refused(r) => SpotAnswer::Refused(r),
+        StripAnswer::Refused(r) => SpotAnswer::Refused(r),
     }
 }
 
 // `pick_poly` for C: 1 and the polygon's number, or 0 where there is none.
 pub fn pick_entry(strip: &[u32], x: u16, y: u16, answer: &mut [u64; 8]) -> u32
-    ensures { λ r. ⌜ r ≡ numberOf (shown (pickOutcome (now (strip .entry)) (record { x = x; y = y }))) ⌝ }
-    ensures { λ _. ⌜ now (answer .exit) ≡ over (answerWords foundWords (shown (pickOutcome (now (strip .entry)) (record { x = x; y = y })))) (now (answer .entry)) ⌝ }
+    ensures number { λ r. ⌜ r ≡ numberOf (shown (pickOutcome (now (strip .entry)) (record { x = x; y = y }))) ⌝ }
+    ensures words { λ _. ⌜ now (answer .exit) ≡ over (answerWords foundWords (shown (pickOutcome (now (strip .entry)) (record { x = x; y = y })))) (now (answer .entry)) ⌝ }
 {
     match pick_poly(strip, x, y) {
-        PickAnswer::Poly(n) => accept(answer, 1, n as u64, 0, 0, 0),
-        PickAnswer::Nothing => accept(answer, 0, 0, 0, 0, 0),
+        PickAnswer::Poly(n) => accept(answer, &[1, n as u64]),
+        PickAnswer::Nothing => accept(answer, &[0]),
         PickAnswer::Refused(r) => refuse(answer, r),
     }
 }
 
 // `spot_for_position` for C: the two shorts.
 pub fn spot_entry(strip: &[u32], x: f32, y: f32, answer: &mut [u64; 8]) -> u32
-    ensures { λ r. ⌜ r ≡ numberOf (shown (spotOutcome (now (strip .entry)) x y)) ⌝ }
-    ensures { λ _. ⌜ now (answer .exit) ≡ over (answerWords spotWords (shown (spotOutcome (now (strip .entry)) x y))) (now (answer .entry)) ⌝ }
+    ensures number { λ r. ⌜ r ≡ numberOf (shown (spotOutcome (now (strip .entry)) x y)) ⌝ }
+    ensures words { λ _. ⌜ now (answer .exit) ≡ over (answerWords spotWords (shown (spotOutcome (now (strip .entry)) x y))) (now (answer .entry)) ⌝ }
 {
     match spot_for_position(strip, x, y) {
-        SpotAnswer::At(s) => accept(answer, s.x as u64, s.y as u64, 0, 0, 0),
+        SpotAnswer::At(s) => accept(answer, &[s.x as u64, s.y as u64]),
         SpotAnswer::Refused(r) => refuse(answer, r),
     }
 }

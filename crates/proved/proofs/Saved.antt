@@ -1,18 +1,19 @@
 -- P12 of the writer: what saving an empty cell answers, whatever its content and area, and the vehicle's total in the pages. Assumes nothing.
 use Prim.Native.Nat.{ℕ, _/_, _%_, _^_, _≤_}
 use native.Mathlib.Omega.{arith}
-use mathlib.Core.Path.{_≡_, refl, _∙_}
+use mathlib.Core.Path.{_≡_, refl, sym, ap, _∙_}
 use mathlib.Core.Bool.{false}
 use mathlib.Core.List.{List}
 use lib.Dec.{ltb}
 use lib.ListN.{length}
 use borrow.Author.Tests.{le-ltb}
 use Rattle.fields.specs.Bytes.{leAt}
-use Rattle.strip.specs.Cell.{Vec3}
+use Rattle.strip.specs.Cell.{Vec3, plain}
 use Rattle.strip.specs.Box.{finiteBox}
 use Rattle.strip.specs.Scan.{Scanned, scan}
 use Rattle.strip.specs.Outcome.{shown, left}
-use Rattle.strip.proofs.Exact.{scan-fits}
+use Rattle.strip.proofs.Readback.{scan-encode}
+use Rattle.strip.proofs.Plain.{encode-plain}
 use Rattle.write_pages.specs.Items.{gather}
 use Rattle.write_pages.specs.Sectors.{leafCounts, treeOf, grown, leafIds, pointsOf}
 use Rattle.write_pages.specs.Pages.{links, sectors, pages}
@@ -27,7 +28,9 @@ origin = record { x = 0; y = 0; z = 0 }
 
 scanned : (content area : ℕ) → scan (emptyStrip content area) ≡ Scanned.ok (empty content area origin origin origin)
 unfolding computed
-scanned content area = scan-fits (emptyStrip content area) (empty content area origin origin origin) .1 (record { polys = tt; portals = tt; points = tt }, refl)
+scanned content area =
+    let c = empty content area origin origin origin in
+    ap scan (sym (encode-plain c)) ∙ scan-encode plain c (record { polys = tt; portals = tt; points = tt })
 
 -- the checks of that cell decide
 decided : (content area out : ℕ) → serializeOutcome (emptyStrip content area) 60 out ≡ cellOutcome writtenOf 15 60 out (empty content area origin origin origin)

@@ -9,7 +9,8 @@ use lib.Ieee.{Float, nan, fin}
 use Rattle.quantise.specs.Short.{short}
 use Rattle.quantise.specs.Quarter.{quarterFloor, quarterCeil}
 use Rattle.areas.specs.Areas.{seeded}
-use Rattle.areas.specs.EdgeHalf.{halfWord, noneWord}
+use Rattle.areas.specs.EdgeHalf.{halfWord}
+use Rattle.areas.specs.Decoded.{noneWord}
 use Rattle.write_blocks.specs.Layout.{placeOf}
 use Rattle.strip.specs.Cell.{Vec3, Cell}
 use Rattle.strip.specs.Outcome.{Paper, values, refusal}

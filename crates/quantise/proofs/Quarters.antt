@@ -15,9 +15,10 @@ use lib.Ieee.{Float, nan, inf, fin, binary32, binary64, up, down, lt, neg, mul, 
 use lib.Ieee.Fits.{down-pos}
 use lib.Ieee.Exact.{HasValue}
 use lib.Ieee.Back.{round-whole}
-use Rattle.quantise.specs.Quarter.{rounded, wholeNumber, saturated, side, int16}
+use Rattle.quantise.specs.Quarter.{rounded, wholeNumber, saturated, side}
+use Rattle.quantise.specs.Int16.{int16}
 use Rattle.quantise.specs.Steps.{quarters}
-use Rattle.math.specs.MinMax.{plain}
+use Rattle.math.specs.Picked.{plain}
 use Rattle.math.proofs.Whole.{cut-value, cut-negative, lt-true, lt-false, not-below}
 use Rattle.quantise.proofs.Scaled.{within, scaled}
 

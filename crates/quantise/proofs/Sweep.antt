@@ -10,13 +10,15 @@ use lib.IntN.{pos, negsuc}
 use lib.ListN.{getD, length}
 use lib.Ieee.{Float, nan, binary32, ofBits, fits, lt, isNan}
 use lib.Ieee.Bits.{ofBits-fits}
-use Rattle.math.specs.MinMax.{Picked, IsMin, IsMax, chosen, lesser, greater, plain}
+use Rattle.math.specs.MinMax.{chosen, lesser, greater}
+use Rattle.math.specs.Picked.{Picked, IsMin, IsMax, plain}
 use Rattle.math.specs.declared.vec3.Vec3.{Vec3}
 use Rattle.math.specs.Floats.{floatsAt}
 use Rattle.math.proofs.Order.{Order, less, more}
 use Rattle.math.proofs.MinMax.{picked-fits, agree-first, first-plain}
 use Rattle.quantise.specs.Quarter.{side, quarterFloor, quarterCeil, quarterBox}
-use Rattle.quantise.specs.Bounds.{greatest, lowest, everyThird, held, Run, done, turn, Bounding, fold, leastSide, greatestSide, quarterBounds}
+use Rattle.quantise.specs.Bounds.{greatest, lowest, fold, leastSide, greatestSide}
+use Rattle.quantise.specs.Bounding.{everyThird, held, Run, done, turn, Bounding, quarterBounds}
 use Rattle.quantise.specs.declared.bounds.Aabb.{Aabb}
 use Rattle.quantise.proofs.Quarters.{side-plain}
 

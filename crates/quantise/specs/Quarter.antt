@@ -1,7 +1,6 @@
 -- Document 01, module 3: the quarter box, over the exact value of a float. Definitions only.
 use Prim.Native.Nat.{ℕ, _+_, _-_, _*_, _/_, min}
 use mathlib.Core.Bool.{Bool, true, false, cond}
-use lib.Dec.{ltb}
 use lib.IntN.{ℤ, pos, negsuc, negℤ}
 use lib.Ieee.{Float, nan, inf, fin, up, down}
 use Rattle.math.specs.declared.vec3.Vec3.{Vec3}
@@ -49,7 +48,3 @@ quarterBox min max = record {
 abbrev pub bits16 : ℤ → ℕ
 bits16 (pos n) = n
 bits16 (negsuc n) = 65535 - n
-
--- and back
-abbrev pub int16 : ℕ → ℤ
-int16 n = cond (ltb n 32768) (pos n) (negsuc (65535 - n))

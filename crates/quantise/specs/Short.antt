@@ -56,6 +56,3 @@ coordinate q lo extent = add binary32 lo (mul binary32 (div binary32 (ofInt bina
 -- by axis, lo from bb_min and extent from bb_size
 abbrev pub shorts : Vec3 → Vec3 → Vec3 → Shorts
 shorts v lo size = record { x = short (v .x) (lo .x) (size .x); y = short (v .y) (lo .y) (size .y); z = short (v .z) (lo .z) (size .z) }
-
-abbrev pub coordinates : Shorts → Vec3 → Vec3 → Vec3
-coordinates q lo size = record { x = coordinate (q .x) (lo .x) (size .x); y = coordinate (q .y) (lo .y) (size .y); z = coordinate (q .z) (lo .z) (size .z) }

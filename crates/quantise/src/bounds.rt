@@ -2,7 +2,7 @@
 ghost use mathlib.Core.Path.{_≡_};
 ghost use Prim.Native.Nat.{_+_, _-_, _*_, _/_, _≤_, min};
 ghost use lib.ListN.{length};
-ghost use Rattle.quantise.specs.Bounds.{held, Bounding, quarterBounds};
+ghost use Rattle.quantise.specs.Bounding.{held, Bounding, quarterBounds};
 use super::quarter::QuarterBox;
 use math::vec3::Vec3;
 use math::vec3::floats_at;

@@ -2,7 +2,8 @@
 ghost use mathlib.Core.Path.{_≡_};
 ghost use Prim.Native.Nat.{_%_, _<_};
 ghost use lib.IntN.{pos, negℤ};
-ghost use Rattle.quantise.specs.Quarter.{side, saturated, quarterFloor, quarterCeil, quarterBox, bits16, int16};
+ghost use Rattle.quantise.specs.Quarter.{side, saturated, quarterFloor, quarterCeil, quarterBox, bits16};
+ghost use Rattle.quantise.specs.Int16.{int16};
 ghost use Rattle.quantise.specs.Steps.{quarters};
 use math::vec3::Vec3;
 

@@ -2,7 +2,8 @@
 ghost use mathlib.Core.Path.{_≡_};
 ghost use Prim.Native.Nat.{_*_, _^_, _<_};
 ghost use Rattle.quantise.specs.Short as Short;
-ghost use Rattle.quantise.specs.Short.{clamped, nearestWhole, magnitude, least, short, coordinate, shorts, coordinates};
+ghost use Rattle.quantise.specs.Short.{clamped, nearestWhole, magnitude, least, short, coordinate, shorts};
+ghost use Rattle.quantise.specs.Coordinates.{coordinates};
 ghost use Rattle.quantise.specs.Steps.{roundedU16};
 ghost use lib.Ieee.{lt};
 use math::vec3::Vec3;

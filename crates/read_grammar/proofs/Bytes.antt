@@ -8,7 +8,7 @@ use lib.Dec.{leb}
 use lib.ListN.{length, take, drop}
 use Rattle.fields.specs.Bytes.{leAt, cut}
 use Rattle.resource.specs.Section.{inGraphics, inSystem, part, resolved}
-use Rattle.strip.specs.Cell.{All}
+use Rattle.strip.specs.Fits.{All}
 use Rattle.read_grammar.specs.Parts.{Good, Array}
 use Rattle.read_grammar.specs.Trees.{Data, no-data, data-at, Trees}
 use Rattle.read_grammar.specs.Lists.{Parts, no-part, skipped, part as one-part, Items, empty, some}

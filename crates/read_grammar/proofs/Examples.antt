@@ -8,7 +8,8 @@ use lib.ListN.{length}
 use Rattle.fields.specs.Bytes.{leAt, leBytes, cat, cut}
 use Rattle.fields.specs.Rows.{rowBytes, pack}
 use Rattle.resource.specs.Section.{part, resolved}
-use Rattle.strip.specs.Cell.{vecWords, headWords, each, encodeAs}
+use Rattle.strip.specs.Cell.{vecWords, headWords, each}
+use Rattle.strip.proofs.Plain.{encode-plain}
 use Rattle.strip.specs.Box.{finiteBox}
 use Rattle.read_grammar.specs.Parts.{Good, Array}
 use Rattle.read_grammar.specs.Trees.{Data, data-at, subsTo, Trees, Tree}
@@ -90,5 +91,5 @@ module _ (graphics : List ℕ) where
 
   -- P12's vehicle derives its strip, whatever the graphics section
   pub p12-derives : Derives vehiclePages graphics vehicleStrip
-  unfolding vehicleCell encodeAs headWords vecWords each pack
-  p12-derives = record { sectors = 1; cell = vehicleCell; makes = p12-makes; strip = refl }
+  unfolding vehicleCell headWords vecWords each pack
+  p12-derives = record { sectors = 1; cell = vehicleCell; makes = p12-makes; strip = sym (encode-plain vehicleCell) }

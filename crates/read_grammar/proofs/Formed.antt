@@ -21,11 +21,12 @@ use Rattle.quantise.specs.Short.{coordinate}
 use Rattle.quantise.proofs.Numbers.{coordinate-number}
 use Rattle.areas.specs.EdgeHalf as EdgeHalf
 use Rattle.resource.specs.Section.{resolved}
-use Rattle.strip.specs.Cell.{Vec3, NavPoly, NavPortal, NavPoint, Head, Cell, All, HalfFits, EdgeFits, PolygonFits, PortalFits, PointFits, Fits}
+use Rattle.strip.specs.Cell.{Vec3, NavPoly, NavPortal, NavPoint, Head, Cell, plain}
+use Rattle.strip.specs.Fits.{All, HalfFits, EdgeFits, PolygonFits, PortalFits, PointFits, Fits}
 use Rattle.strip.specs.Box as Box
 use Rattle.strip.specs.Scan.{Scanned, scan}
 use Rattle.strip.proofs.Box.{FiniteVec, box-finite}
-use Rattle.strip.proofs.Exact.{scan-fits}
+use Rattle.strip.proofs.Readback.{scan-encode}
 use Rattle.read_grammar.specs.Polygons.{halfOf, edgeOf, vertexOf, linksAt, linkRun, countOf, startOf, runOf, PolygonOf}
 use Rattle.read_grammar.specs.Derives.{areaOf, axis, backOf, portalOf, pointOf, Makes, Derives}
 use Rattle.read_grammar.specs.Formed.{Bytes, AllNumbers, Ends, Positions, Shaped}
@@ -211,4 +212,4 @@ module _ (system graphics : List ℕ) (sb : Bytes system) (gb : Bytes graphics) 
     }
 
   pub derived-scans : {w : List ℕ} (d : Derives system graphics w) → scan w ≡ Scanned.ok (d .cell)
-  derived-scans {w} d = scan-fits w (d .cell) .1 (makes-fits (d .makes), sym (d .strip))
+  derived-scans d = ap scan (d .strip) ∙ scan-encode plain (d .cell) (makes-fits (d .makes))

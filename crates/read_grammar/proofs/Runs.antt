@@ -1,6 +1,6 @@
 -- What follows of two lists taken one by one (`Each`). Assumes nothing.
 use mathlib.Core.List.{List}
-use Rattle.strip.specs.Cell.{All}
+use Rattle.strip.specs.Fits.{All}
 use Rattle.read_grammar.specs.Polygons.{Each, none, more}
 
 module _ {A B : Type 0} {R : A → B → Type 0} where

@@ -5,7 +5,8 @@ use mathlib.Core.Bool.{false}
 use mathlib.Core.List.{List}
 use lib.Ieee.{binary32, ofBits, isNan}
 use lib.ListN.{length, getD}
-use Rattle.strip.specs.Cell.{Vec3, NavPoly, NavPortal, Cell, All}
+use Rattle.strip.specs.Cell.{Vec3, NavPoly, NavPortal, Cell}
+use Rattle.strip.specs.Fits.{All}
 
 -- the bytes of a `&[u8]`
 abbrev pub Bytes : List ℕ → Type 0

@@ -8,7 +8,8 @@ use lib.Dec.{leb}
 use Rattle.fields.specs.Bytes.{leAt, cut}
 use Rattle.fields.specs.Rows.{field}
 use Rattle.resource.specs.Section.{resolved}
-use Rattle.strip.specs.Cell.{Vec3, NavEdgeEnd, NavEdge, NavPoly, All}
+use Rattle.strip.specs.Cell.{Vec3, NavEdgeEnd, NavEdge, NavPoly}
+use Rattle.strip.specs.Fits.{All}
 
 -- an edge's half: area index in bits 0-4, poly 5-18, unk2 19-20, unk3 21-31
 unfoldable pub halfOf : (ℕ → ℕ) → ℕ → NavEdgeEnd

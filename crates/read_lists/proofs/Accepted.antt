@@ -12,7 +12,8 @@ use Rattle.fields.specs.Bytes.{leAt}
 use Rattle.read_lists.specs.declared.ListAnswer.{ListAnswer}
 use Rattle.read_lists.specs.declared.ListAnswer.the-variants.{Items}
 use Rattle.strip.specs.Outcome.{Paper, values, refusal}
-use Rattle.read_lists.specs.Lists.{before, total, readableAt, goodTo, allGood, header, tableOf, listed, paper, Few, Readable}
+use Rattle.read_lists.specs.Lists.{before, total, readableAt, goodTo, allGood, header, tableOf, listed}
+use Rattle.read_lists.specs.Listed.{paper, Few, Readable}
 use Rattle.resource.proofs.Parts.{null-empty}
 
 pub record Accepted (system graphics : List ℕ) (size va : ℕ) : Type 0 where

@@ -17,7 +17,8 @@ use Rattle.fields.proofs.Bytes.{same}
 use Rattle.resource.specs.Section.{resolved, good}
 use Rattle.resource.proofs.Parts.{good-length, bad-empty, short-bad, full-good}
 use Rattle.read_lists.specs.declared.Cursor.{Cursor}
-use Rattle.read_lists.specs.Lists.{item, countAt, addressAt, parts, before, total, readableAt, partBytes, partGood, bytesTo, goodTo, allGood, listBytes, Readable}
+use Rattle.read_lists.specs.Lists.{item, countAt, addressAt, parts, before, total, readableAt, partBytes, partGood, bytesTo, goodTo, allGood, listBytes}
+use Rattle.read_lists.specs.Listed.{Readable}
 use Rattle.read_lists.specs.Cursors.{AtPart, Holds}
 
 -- ---- parts that are there
@@ -205,18 +206,18 @@ module _ (system graphics : List ℕ) (size : ℕ) (table : List ℕ) (r : Reada
         ap length is-part ∙ length-part system graphics size table (c .part) (part-good system graphics size table (c .part) (parts table) (h .inside) (r .good))
         ∙ ap (λ (x : ℕ). size * x) (sym (h .stands .count))
 
-    pub offset-inside : size * (i - c .first) ≤ length p
-    offset-inside = let a = h .high in let d : i - c .first ≤ c .count = omega arith in let m = mul-le-mul-left size d in omega (arith, m, length-of)
+    module _ {at : ℕ} (here : at ≡ size * (i - c .first)) where
+      pub offset-inside : at ≤ length p
+      offset-inside = let a = h .high in let d : i - c .first ≤ c .count = omega arith in let m = mul-le-mul-left size d in omega (arith, here, m, length-of)
 
-    -- the end of the part from item i on
-    pub run-cut : take (length p - size * (i - c .first)) (drop (size * (i - c .first)) p)
-        ≡ take (size * (c .first + c .count - i)) (drop (size * i) (listBytes system graphics size table))
-    unfolding listBytes
-    run-cut =
-        let s = h .stands in
-        let lo : before table (c .part) ≤ i = rw (s .first) at (h .low) in
-        let hi : i ≤ before table (c .part) + countAt table (c .part) = let a = rw (s .first, s .count) at (h .high) in omega arith in
-        part-to-end p (size * (i - c .first)) ∙ rw (s .first, s .count, is-part) (sym (run-in system graphics size table (c .part) (parts table) i (h .inside) (r .good) lo hi))
+      -- the end of the part from item i on
+      pub run-cut : take (length p - at) (drop at p) ≡ take (size * (c .first + c .count - i)) (drop (size * i) (listBytes system graphics size table))
+      unfolding listBytes
+      run-cut =
+          let s = h .stands in
+          let lo : before table (c .part) ≤ i = rw (s .first) at (h .low) in
+          let hi : i ≤ before table (c .part) + countAt table (c .part) = let a = rw (s .first, s .count) at (h .high) in omega arith in
+          rw here (part-to-end p (size * (i - c .first)) ∙ rw (s .first, s .count, is-part) (sym (run-in system graphics size table (c .part) (parts table) i (h .inside) (r .good) lo hi)))
 
   -- a run from item i on is as long as it is said to be
   module _ {q : List ℕ} (e : q ≡ take (size * (c .first + c .count - i)) (drop (size * i) (listBytes system graphics size table))) where

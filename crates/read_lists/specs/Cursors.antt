@@ -3,7 +3,7 @@ use Prim.Native.Nat.{ℕ, _+_, _≤_, _<_}
 use denote.Ref.{RefT}
 use mathlib.Core.Path.{_≡_}
 use mathlib.Core.List.{List}
-use Rattle.resource.specs.Section.{resolvedAt}
+use Rattle.resource.specs.Places.{resolvedAt}
 use Rattle.read_lists.specs.declared.Cursor.{Cursor}
 use Rattle.read_lists.specs.Lists.{addressAt, countAt, parts, before}
 

@@ -1,15 +1,12 @@
 -- A list as it is decided on: the bytes that its parts hold, and the refusals 35 and 36. Definitions only.
-use Prim.Native.Nat.{ℕ, zero, suc, _+_, _*_, _/_, _^_, _<_}
-use mathlib.Core.Path.{_≡_}
+use Prim.Native.Nat.{ℕ, zero, suc, _+_, _*_, _/_}
 use mathlib.Core.Bool.{Bool, true, cond, _&&_, _||_}
 use mathlib.Core.List.{List, [], _++_}
 use lib.Dec.{eqb}
 use lib.ListN.{length, take, drop}
 use Rattle.fields.specs.Bytes.{leAt}
 use Rattle.resource.specs.Section.{good, resolved}
-use Rattle.strip.specs.Outcome.{Paper, values, refusal, refusalOf}
-use Rattle.read_lists.specs.declared.ListAnswer.{ListAnswer}
-use Rattle.read_lists.specs.declared.ListAnswer.the-variants.{Items, Refused}
+use Rattle.strip.specs.Outcome.{Paper, values, refusal}
 use Rattle.fields.specs.Sizes.{LIST-SIZE}
 
 -- item i of a list of bytes, size bytes to an item
@@ -85,19 +82,3 @@ module _ (system graphics : List ℕ) (size : ℕ) where
       (refusal 35 place))
       (refusal 35 place))
       (refusal 35 place))
-
--- what each case of the answer says
-abbrev pub paper : ListAnswer → Paper ℕ
-paper (Items n) = values n
-paper (Refused r) = refusalOf r
-
--- an item count is of 32 bits
-abbrev pub Few : ListAnswer → Type 0
-Few (Items n) = n < 2 ^ 32
-Few (Refused r) = Unit {0}
-
--- A list that was accepted: its parts are good, and its items few enough for 32 bits. Its items are of fewer than 65,536 bytes.
-pub record Readable (system graphics : List ℕ) (size : ℕ) (table : List ℕ) : Type 0 where
-  pub small : size < 65536
-  pub good : allGood system graphics size table ≡ true
-  pub few : total table < 2 ^ 32

@@ -2,7 +2,8 @@
 ghost use mathlib.Core.Path.{_≡_};
 ghost use Prim.Native.Nat.{_+_, _-_, _*_, _^_, _≤_, _<_};
 ghost use lib.ListN.{take, drop};
-ghost use Rattle.read_lists.specs.Lists.{parts, before, total, tableOf, listBytes, listed, paper, Few, Readable};
+ghost use Rattle.read_lists.specs.Lists.{parts, before, total, tableOf, listBytes, listed};
+ghost use Rattle.read_lists.specs.Listed.{paper, Few, Readable};
 ghost use Rattle.read_lists.specs.Cursors.{AtPart, Holds, runAt};
 use fields::sizes::LIST_PART_SIZE;
 use fields::sizes::LIST_SIZE;

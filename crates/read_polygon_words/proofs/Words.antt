@@ -10,13 +10,14 @@ use lib.Dec.{leb, ltb}
 use lib.ListN.{length, take, drop, getD, set, length-take, length-drop, List·getD-map, drop-of-length-le}
 use lib.Seq.{drop-cons, getD-take, getD-drop}
 use borrow.Author.Tests.{leb-true, ltb-true, le-leb, lt-leb, lt-ltb, le-ltb}
-use Rattle.fields.specs.Bytes.{leAt, put, cut}
+use Rattle.fields.specs.Bytes.{leAt, cut}
+use Rattle.fields.specs.Put.{put}
 use Rattle.fields.specs.Rows.{pack}
 use Rattle.fields.proofs.Bytes.{past}
 use Rattle.fields.proofs.Puts.{put-next, put-one, put-append, put-cons, put-nil}
 use Rattle.resource.specs.Section.{resolved}
 use Rattle.areas.specs.declared.edge.RawEnd.{RawEnd}
-use Rattle.areas.specs.EdgeHalf.{decodedEnd}
+use Rattle.areas.specs.Decoded.{decodedEnd}
 use Rattle.strip.specs.Cell.{Vec3, NavEdgeEnd, NavEdge, vecWords, halfWords, edgeWords}
 use Rattle.read_grammar.specs.Polygons.{halfOf, edgeOf, linkRun, linksAt, countOf}
 use Rattle.read_grammar.specs.Derives.{areaOf}
@@ -24,7 +25,8 @@ use Rattle.read_lists.specs.Lists.{item}
 use Rattle.read_lists.proofs.Lists.{item-field}
 use Rattle.fields.proofs.Cuts.{cut-length, cut-left}
 use Rattle.read_lists.proofs.Cuts.{cut-item}
-use Rattle.read_polygon_words.specs.Words.{linksOf, linkStart, linksNamed, linkCount, frontOf, allBelow}
+use Rattle.read_polygon_words.specs.Words.{linkStart, linksNamed, linkCount, allBelow}
+use Rattle.read_polygon_words.specs.Front.{linksOf, frontOf}
 
 -- ---- the grammar's words
 

@@ -1,23 +1,23 @@
 -- Pass one accepts polygons exactly when the grammar makes them, and counts their words.
-use Prim.Native.Nat.{ℕ, _+_, _≤_, _<_}
-use native.Mathlib.Omega.{arith}
+use Prim.Native.Nat.{ℕ, _+_, _<_}
 use mathlib.Core.Path.{_≡_, refl, sym, ap, _∙_}
-use mathlib.Core.Bool.{Bool, true, false, cond, _&&_}
+use mathlib.Core.Bool.{true}
 use mathlib.Core.List.{List, [], _∷_, map}
-use mathlib.Core.Logic.{_⊎_, inl, inr}
-use lib.Dec.{leb, ltb}
+use lib.Dec.{ltb}
 use lib.ListN.{length, length-append}
 use borrow.Author.Tests.{ltb-true, lt-ltb, le-leb}
 use Rattle.fields.specs.Bytes.{leAt}
-use Rattle.strip.specs.Cell.{NavPoly, polygonWords, each, All}
+use Rattle.strip.specs.Cell.{NavPoly, polygonWords, each}
+use Rattle.strip.specs.Fits.{All}
 use Rattle.strip.specs.declared.Refusal.{Refusal}
 use Rattle.read_grammar.specs.Polygons.{countOf, startOf, runOf, Each, none, more}
 use Rattle.read_polygon_words.specs.Words.{allBelow}
-use Rattle.read_polygons.specs.declared.Limits.{Limits}
-use Rattle.strip.specs.Outcome.{Paper, values, refusal, refusalOf}
-use Rattle.read_polygons.specs.Polygons.{Source, Makes, limitsOf, polygonMade, sizeOf, tallyOf, addWords, tallyFrom}
-use Rattle.read_polygons.proofs.Runs.{and-true}
-use Rattle.read_polygons.proofs.Writes.{never, then-words, accepted, polygon-size}
+use Rattle.strip.specs.Outcome.{values, refusalOf}
+use Rattle.read_polygons.specs.Polygons.{Source, Makes, limitsOf, polygonMade}
+use Rattle.read_polygon_tally.specs.Tally.{tallyOf, tallyFrom}
+use Rattle.read_polygon_words.proofs.Below.{and-true}
+use Rattle.read_polygon_tally.proofs.Tallies.{never, then-words, accepted}
+use Rattle.read_polygons.proofs.Writes.{polygon-size}
 
 -- ---- indices
 
@@ -95,26 +95,3 @@ module _ (s : Source) where
   -- polygons that pass one refuses are made by nobody
   pub refused-none : (p : ℕ) {bs : List (List ℕ)} {ps : List NavPoly} {r : Refusal} → tallyFrom (limitsOf s) (s .indices) p bs ≡ refusalOf r → Each (Makes s) bs ps → ⊥
   refused-none p e m = never (sym e ∙ made-tally p m .0)
-
--- a refusal's number, and its place: the polygon
-module _ (l : Limits) (indices : List (List ℕ)) where
-  one-refused : (p : ℕ) (b : List ℕ) {r : Refusal} → tallyOf l indices p b ≡ refusalOf r → ((r .number ≡ 37) ⊎ (r .number ≡ 38)) × (r .place ≡ p)
-  unfolding tallyOf
-  one-refused p b {r} e = by (leb (startOf b + countOf b) (l .indices) && leb (startOf b + countOf b) (l .edges)) (allBelow (l .vertices) (runOf b indices)) e
-    where
-      by : (x y : Bool) → cond x (cond y (values (sizeOf (l .links) b)) (refusal 38 p)) (refusal 37 p) ≡ refusalOf r
-          → ((r .number ≡ 37) ⊎ (r .number ≡ 38)) × (r .place ≡ p)
-      by false y e = (inl (cc), cc)
-      by true false e = (inr (cc), cc)
-      by true true e = absurd (never (sym e))
-
-  pub tally-refused : (p : ℕ) (bs : List (List ℕ)) {r : Refusal} → tallyFrom l indices p bs ≡ refusalOf r → ((r .number ≡ 37) ⊎ (r .number ≡ 38)) × (p ≤ r .place) × (r .place < p + length bs)
-  unfolding tallyFrom
-  tally-refused p [] e = absurd (never (sym e))
-  tally-refused p (b ∷ bs) {r} e = by (tallyOf l indices p b) (tallyFrom l indices (p + 1) bs) refl (λ h. tally-refused (p + 1) bs {r = r} h) e
-    where
-      by : (t u : Paper ℕ) → tallyOf l indices p b ≡ t → (u ≡ refusalOf r → ((r .number ≡ 37) ⊎ (r .number ≡ 38)) × (p + 1 ≤ r .place) × (r .place < p + 1 + length bs)) → addWords t u ≡ refusalOf r
-          → ((r .number ≡ 37) ⊎ (r .number ≡ 38)) × (p ≤ r .place) × (r .place < p + length (b ∷ bs))
-      by (refusal number place) u f g h = let (n, at) = one-refused p b {r = r} (f ∙ h) in (n, omega arith, omega arith)
-      by (values a) (refusal number place) f g h = let (n, lo, hi) = g h in (n, omega arith, omega arith)
-      by (values a) (values c) f g h = absurd (never (sym h))

@@ -1,26 +1,29 @@
 -- Pass two over polygons in order: what is left of them, after one or after a run.
 use Prim.Native.Nat.{ℕ, _+_, _≤_}
-use native.Mathlib.Nat.{add-zero}
 use native.Mathlib.Omega.{arith}
 use mathlib.Core.Path.{_≡_, refl, sym, ap, _∙_}
 use mathlib.Core.Bool.{true}
 use mathlib.Core.List.{List, [], _∷_, _++_, map, append-nil}
 use lib.ListN.{length, length-append}
-use Rattle.fields.specs.Bytes.{put}
+use Rattle.fields.specs.Put.{put}
 use Rattle.fields.proofs.Puts.{length-put, put-next, put-nil}
 use Rattle.math.specs.declared.vec3.Vec3.{Vec3 as Floats}
 use Rattle.strip.specs.Cell.{polygonWords, each}
 use Rattle.read_grammar.specs.Polygons.{countOf, startOf, runOf}
 use Rattle.read_records.proofs.Items.{each-append}
-use Rattle.read_polygon_words.specs.Words.{linksOf, allBelow}
-use Rattle.read_polygons.specs.declared.Cursors.{Cursors}
+use Rattle.read_polygon_words.specs.Words.{allBelow}
+use Rattle.read_polygon_words.specs.Front.{linksOf}
+use Rattle.read_polygon_sides.specs.declared.Cursors.{Cursors}
 use Rattle.read_polygons.specs.declared.PolygonCursor.{PolygonCursor}
-use Rattle.strip.specs.Outcome.{Paper, values, refusal, refusalOf}
-use Rattle.read_polygons.specs.Polygons.{Source, limitsOf, polygonMade, sizeOf, tallyOf, tallyFrom}
-use Rattle.read_polygons.specs.Passes.{itemsIn, sourceOf, ListsOpen, Inside, Put, Passed}
-use Rattle.read_polygons.proofs.Runs.{map-append}
-use Rattle.read_polygons.proofs.Tallies.{tally-append}
-use Rattle.read_polygons.proofs.Writes.{then-words, accepted, inside}
+use Rattle.strip.specs.Outcome.{values}
+use Rattle.read_polygons.specs.Polygons.{Source, limitsOf, polygonMade}
+use Rattle.read_polygon_tally.specs.Tally.{sizeOf, tallyOf, tallyFrom}
+use Rattle.read_list_set.specs.Items.{itemsIn}
+use Rattle.read_polygons.specs.Passes.{sourceOf, Put, Passed}
+use Rattle.read_polygon_sides.specs.Sides.{ListsOpen, Inside}
+use Rattle.read_list_set.proofs.Runs.{map-append}
+use Rattle.read_polygon_tally.proofs.Tallies.{tally-append, then-words, accepted}
+use Rattle.read_polygons.proofs.Writes.{inside}
 use Rattle.read_polygons.proofs.Exact.{tally-made, made-tally}
 
 -- ---- what passed, in front and behind

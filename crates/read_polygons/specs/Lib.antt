@@ -1,3 +1,2 @@
 pub mod Polygons
 pub mod Passes
-pub mod Listed

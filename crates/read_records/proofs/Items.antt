@@ -5,8 +5,9 @@ use native.Mathlib.Numerals.{add-one}
 use native.Mathlib.Omega.{arith}
 use mathlib.Core.Path.{_≡_, refl}
 use mathlib.Core.List.{List, [], _∷_, _++_, map, append-assoc}
-use lib.ListN.{length, take, drop, length-append}
-use Rattle.fields.specs.Bytes.{put, cut}
+use lib.ListN.{length, take, drop}
+use Rattle.fields.specs.Bytes.{cut}
+use Rattle.fields.specs.Put.{put}
 use Rattle.fields.proofs.Cuts.{cut-left}
 use Rattle.fields.proofs.Puts.{put-next, put-nil}
 use Rattle.strip.specs.Cell.{each}
@@ -15,11 +16,6 @@ pub each-append : {A : Type 0} (f : A → List ℕ) (xs ys : List A) → each f 
 unfolding each
 each-append f [] ys = refl
 each-append f (x ∷ xs) ys = rw (each-append f xs ys, append-assoc)
-
-pub length-each : {A : Type 0} (f : A → List ℕ) (n : ℕ) → ((a : A) → length (f a) ≡ n) → (xs : List A) → length (each f xs) ≡ n * length xs
-unfolding each
-length-each f n h [] = rw mul-zero
-length-each f n h (x ∷ xs) = rw (length-append, h x, length-each f n h xs, mul-suc) (omega arith)
 
 -- items of n words each, written one after the other: at the start, after an item, at the end
 module _ {A : Type 0} (words : A → List ℕ) (n : ℕ) (h : (a : A) → length (words a) ≡ n) (f : List ℕ → A) (w m : ℕ) (bs : List ℕ) (at : ℕ) where

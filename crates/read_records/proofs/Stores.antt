@@ -3,11 +3,10 @@ use mathlib.Core.Path.{_≡_, refl}
 use mathlib.Core.List.{List, [], _∷_, _++_}
 use Prim.Native.Nat.{ℕ, _+_, _*_, _/_, _%_, _^_, _<_}
 use native.Mathlib.Omega.{arith}
-use lib.ListN.{length}
-use Rattle.fields.specs.Bytes.{put}
+use Rattle.fields.specs.Put.{put}
 use Rattle.fields.specs.Rows.{pack, field}
 use Rattle.fields.proofs.Puts.{put-next}
-use Rattle.strip.specs.Cell.{Vec3, NavPortal, vecWords, headWords, portalWords}
+use Rattle.strip.specs.Cell.{Vec3, vecWords, headWords, portalWords}
 use Rattle.cell_record.specs.Record.{bits, headBy}
 use Rattle.cell_record.specs.declared.CellRecord.{CellRecord}
 use Rattle.read_grammar.specs.Derives.{portalOf}
@@ -37,10 +36,6 @@ portal-stored back b at from to xs e f =
     let p = vecWords (portalOf back b .from) in
     let q = vecWords (portalOf back b .to) in
     rw (e, f, put-next 2 at front p xs refl, put-next 5 at (front ++ p) q xs refl, put-next 8 at ((front ++ p) ++ q) (backWords b) xs refl)
-
-pub portal-length : (p : NavPortal) → length (portalWords p) ≡ 11
-unfolding portalWords vecWords
-portal-length p = refl
 
 -- ---- words that are put together
 

@@ -3,7 +3,7 @@ use Prim.Native.Nat.{ℕ, _+_}
 use mathlib.Core.List.{List}
 use Rattle.fields.specs.Bytes.{leAt}
 use Rattle.math.specs.declared.vec3.Vec3 as Floats
-use Rattle.quantise.specs.Short.{coordinates}
+use Rattle.quantise.specs.Coordinates.{coordinates}
 use Rattle.quantise.specs.declared.short.Shorts.{Shorts}
 use Rattle.strip.specs.Cell.{Vec3}
 use Rattle.cell_record.specs.Record.{bits}

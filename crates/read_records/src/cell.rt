@@ -2,9 +2,10 @@
 ghost use mathlib.Core.Path.{_≡_};
 ghost use Prim.Native.Nat.{_+_, _≤_};
 ghost use lib.ListN.{length};
-ghost use Rattle.fields.specs.Bytes.{put};
+ghost use Rattle.fields.specs.Put.{put};
 ghost use Rattle.strip.specs.Cell.{headWords};
-ghost use Rattle.cell_record.specs.Record.{floats, recordOf, headBy};
+ghost use Rattle.cell_record.specs.Record.{recordOf, headBy};
+ghost use Rattle.cell_record.specs.Floats.{floats};
 ghost use Rattle.read_grammar.specs.Derives.{vecOf, headOf};
 ghost use Rattle.read_records.specs.Words.{valueWords};
 use super::words::put_vec;

@@ -3,7 +3,7 @@ ghost use mathlib.Core.Path.{_≡_};
 ghost use mathlib.Core.List.{[], _∷_};
 ghost use Prim.Native.Nat.{_+_, _≤_};
 ghost use lib.ListN.{length};
-ghost use Rattle.fields.specs.Bytes.{put};
+ghost use Rattle.fields.specs.Put.{put};
 ghost use Rattle.strip.specs.Cell.{vecWords};
 ghost use Rattle.cell_record.specs.Record.{bits};
 ghost use Rattle.read_records.specs.Back.{shortsAt, backBy};

@@ -17,7 +17,7 @@ use Rattle.read_grammar.specs.Parts.{Array}
 use Rattle.read_grammar.specs.Trees.{Data}
 use Rattle.read_grammar.proofs.Parts.{good-found, found-good}
 use Rattle.fields.proofs.Cuts.{cut-length}
-use Rattle.read_sectors.specs.declared.Found.the-variants.{Points, Bad}
+use Rattle.strip.specs.Outcome.{refusal, values}
 use Rattle.read_sectors.specs.Sector.{dataOf, countOf, pointsOf, goodData}
 use Rattle.read_sectors.specs.Answer.{foundOf}
 
@@ -31,7 +31,7 @@ module _ (system graphics s : List ℕ) {va : ℕ} (eva : va ≡ leAt 8 s 0x2C) 
   unfolding goodData pointsOf countOf dataOf cut
   without-data z = rw (← eva, z, null-empty system graphics 32, past 2 [] 0x1A (omega arith)) (refl, refl)
 
-  pub find-none : va ≡ 0 → Points 0 ≡ foundOf (goodData system graphics s) (pointsOf system graphics s)
+  pub find-none : va ≡ 0 → values 0 ≡ foundOf (goodData system graphics s) (pointsOf system graphics s)
   find-none z = let (a, b) = without-data z in rw (a, b)
 
   module _ {d : List ℕ} (ed : d ≡ resolved system graphics va 32) {n : ℕ} (en : n ≡ leAt 2 d 0x1A) where
@@ -50,30 +50,30 @@ module _ (system graphics s : List ℕ) {va : ℕ} (eva : va ≡ leAt 8 s 0x2C) 
     data-is b e some = rw (← eva, ← ed, ← en, or-more va _ some, e)
 
   module _ (some : va ≡ 0 → ⊥) {d : List ℕ} (ed : d ≡ resolved system graphics va 32) where
-    pub find-bad-data : length d < 32 → Bad ≡ foundOf (goodData system graphics s) (pointsOf system graphics s)
+    pub find-bad-data : length d < 32 → refusal 34 0 ≡ foundOf (goodData system graphics s) (pointsOf system graphics s)
     find-bad-data h = rw (data-is ed refl false (short-bad system graphics va 32 (rw ed at h)) some)
 
     module _ (long : 32 ≤ length d) {n : ℕ} (en : n ≡ leAt 2 d 0x1A) where
       data-good : goodData system graphics s ≡ (eqb n 0 || good system graphics (leAt 8 d 0x10) (8 * n))
       data-good = data-is ed en true (full-good system graphics va 32 (omega arith) (rw ed at long)) some
 
-      pub find-no-points : n ≡ 0 → Points 0 ≡ foundOf (goodData system graphics s) (pointsOf system graphics s)
+      pub find-no-points : n ≡ 0 → values 0 ≡ foundOf (goodData system graphics s) (pointsOf system graphics s)
       unfolding cut
       find-no-points z = rw (data-good, points-are ed en, z)
 
-      module _ (more : n ≡ 0 → ⊥) {pv : ℕ} (ep : pv ≡ leAt 8 d 0x10) {p : List ℕ} (eq : p ≡ resolved system graphics pv (8 * n)) where
-        pub find-bad-points : length p < 8 * n → Bad ≡ foundOf (goodData system graphics s) (pointsOf system graphics s)
-        find-bad-points h = rw (data-good, or-more n _ more, ← ep, short-bad system graphics pv (8 * n) (rw eq at h))
+      module _ (more : n ≡ 0 → ⊥) {pv : ℕ} (ep : pv ≡ leAt 8 d 0x10) {m : ℕ} (em : m ≡ 8 * n) {p : List ℕ} (eq : p ≡ resolved system graphics pv m) where
+        pub find-bad-points : length p < m → refusal 34 0 ≡ foundOf (goodData system graphics s) (pointsOf system graphics s)
+        find-bad-points h = rw (data-good, or-more n _ more, ← ep, short-bad system graphics pv (8 * n) (rw (eq, em) at h))
 
-        pub find-points : 8 * n ≤ length p → Points n ≡ foundOf (goodData system graphics s) (pointsOf system graphics s)
+        pub find-points : m ≤ length p → values n ≡ foundOf (goodData system graphics s) (pointsOf system graphics s)
         find-points h =
-            rw (data-good, or-more n _ more, ← ep, full-good system graphics pv (8 * n) (omega (arith, pos-of-ne-zero more)) (rw eq at h), points-are ed en)
-            (ap Points (sym (cut-length 8 n (resolved system graphics (leAt 8 d 0x10) (8 * n)))))
+            rw (data-good, or-more n _ more, ← ep, full-good system graphics pv (8 * n) (omega (arith, pos-of-ne-zero more)) (rw (eq, em) at h), points-are ed en)
+            (ap values (sym (cut-length 8 n (resolved system graphics (leAt 8 d 0x10) (8 * n)))))
 
   -- where data and points are good, the fields are there
   module _ (g : goodData system graphics s ≡ true) where
     module _ {d : List ℕ} (ed : d ≡ resolved system graphics va 32) {n : ℕ} (en : n ≡ leAt 2 d 0x1A) where
-      module _ (some : va ≡ 0 → ⊥) (more : n ≡ 0 → ⊥) {pv : ℕ} (ep : pv ≡ leAt 8 d 0x10) {p : List ℕ} (eq : p ≡ resolved system graphics pv (8 * n)) where
+      module _ (some : va ≡ 0 → ⊥) (more : n ≡ 0 → ⊥) {pv : ℕ} (ep : pv ≡ leAt 8 d 0x10) {m : ℕ} (em : m ≡ 8 * n) {p : List ℕ} (eq : p ≡ resolved system graphics pv m) where
         points-good : good system graphics pv (8 * n) ≡ true
         points-good =
             let h = both (good system graphics va 32) (eqb n 0 || good system graphics (leAt 8 d 0x10) (8 * n)) (sym (data-is ed en (good system graphics va 32) refl some) ∙ g) .1 in
@@ -81,8 +81,8 @@ module _ (system graphics s : List ℕ) {va : ℕ} (eva : va ≡ leAt 8 s 0x2C) 
 
         pub points-there : (8 * n ≤ length p) × (pointsOf system graphics s ≡ cut 8 n p) × (length (pointsOf system graphics s) ≡ n)
         points-there =
-            let e : pointsOf system graphics s ≡ cut 8 n p = rw (points-are ed en, ← ep, ← eq) in
-            (rw eq (omega (arith, good-length system graphics pv (8 * n) points-good)), e, rw e (cut-length 8 n p))
+            let e : pointsOf system graphics s ≡ cut 8 n p = rw (points-are ed en, ← ep, ← em, ← eq) in
+            (rw (eq, em) (omega (arith, good-length system graphics pv (8 * n) points-good)), e, rw e (cut-length 8 n p))
 
 -- ---- by the grammar
 

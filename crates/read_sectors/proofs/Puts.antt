@@ -6,7 +6,8 @@ use mathlib.Core.Path.{_≡_, refl, sym, _∙_}
 use mathlib.Core.Bool.{Bool, true, false}
 use mathlib.Core.List.{List, [], _∷_, _++_, append-nil}
 use lib.ListN.{length, length-append}
-use Rattle.fields.specs.Bytes.{leAt, put}
+use Rattle.fields.specs.Bytes.{leAt}
+use Rattle.fields.specs.Put.{put}
 use Rattle.resource.specs.Section.{good, resolved}
 use Rattle.read_grammar.specs.Trees.{subsTo}
 use Rattle.read_sectors.specs.declared.TreeCursor.{TreeCursor}

@@ -4,7 +4,7 @@ use mathlib.Core.Path.{_≡_}
 use mathlib.Core.List.{List}
 use Rattle.fields.specs.Bytes.{leAt}
 use Rattle.fields.proofs.Bytes.{le-lt}
-use Rattle.strip.specs.Cell.{All}
+use Rattle.strip.specs.Fits.{All}
 use Rattle.strip.proofs.Alls.{all-imply}
 use Rattle.read_grammar.specs.Formed.{Bytes}
 use Rattle.read_grammar.proofs.Bytes.{bytes-trees}

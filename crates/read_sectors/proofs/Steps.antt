@@ -3,13 +3,14 @@ use Prim.Native.Nat.{ℕ, zero, suc, _+_, _-_, _*_, _≤_, _<_}
 use native.Mathlib.Numerals.{sub-one}
 use native.Mathlib.Nat.{add-assoc, add-zero, le-refl}
 use native.Mathlib.Omega.{arith}
-use mathlib.Core.Path.{_≡_, refl, sym, subst, _∙_}
+use mathlib.Core.Path.{_≡_, refl, ap, sym, subst, _∙_}
 use mathlib.Core.Bool.{Bool, true, false}
 use mathlib.Core.List.{List, [], _∷_, _++_, append-nil}
 use lib.ListN.{length, length-append}
 use Rattle.fields.specs.Bytes.{leAt}
 use Rattle.resource.specs.Section.{good, resolved}
 use Rattle.resource.proofs.Parts.{short-bad, full-good}
+use Rattle.strip.specs.Outcome.{Paper, refusal, values}
 use Rattle.read_grammar.specs.Trees.{keep, subsTo}
 use Rattle.read_sectors.specs.declared.Walk.{Walk}
 use Rattle.read_sectors.specs.declared.Walk.the-variants.{Done, Refused}
@@ -18,7 +19,7 @@ use Rattle.read_sectors.specs.declared.Found.the-variants.{Points, Bad}
 use Rattle.read_sectors.specs.Sector.{pointsOf, goodData}
 use Rattle.read_sectors.specs.Walk.{Walked, also, checked, sectorAt, walk}
 use Rattle.read_sectors.specs.Walk.Walked.{done, refused}
-use Rattle.read_sectors.specs.Answer.{walkAnswer, Counted, Within, foundOf, Few}
+use Rattle.read_sectors.specs.Answer.{walkPaper, walkAnswer, Counted, Within, foundPaper, foundOf, Few}
 use Rattle.read_sectors.proofs.Exact.{onward, walk-append, walk-none, never}
 
 counted-also : (p : ℕ) (ps : List (List ℕ)) (w : Walked) → walkAnswer p (also ps w) ≡ walkAnswer (p + length ps) w
@@ -41,11 +42,11 @@ subs-skip s i h e z = rw (subs-step s i h, ← e, z)
 pub subs-at : (s : List ℕ) (i : ℕ) {va : ℕ} → (i ≡ 0 → ⊥) → va ≡ leAt 8 s (0x34 + 8 * (i - 1)) → (va ≡ 0 → ⊥) → subsTo s i ≡ va ∷ subsTo s (i - 1)
 subs-at s i {va} h e z = rw (subs-step s i h, ← e) (keep-more va (subsTo s (i - 1)) z)
 
-found-bad : (b : Bool) (ps : List (List ℕ)) → foundOf b ps ≡ Bad → b ≡ false
+found-bad : (b : Bool) (ps : List (List ℕ)) → foundOf b ps ≡ refusal 34 0 → b ≡ false
 found-bad true ps e = cc
 found-bad false ps e = refl
 
-found-good : (b : Bool) (ps : List (List ℕ)) {n : ℕ} → foundOf b ps ≡ Points n → (b ≡ true) × (length ps ≡ n)
+found-good : (b : Bool) (ps : List (List ℕ)) {n : ℕ} → foundOf b ps ≡ values n → (b ≡ true) × (length ps ≡ n)
 found-good true ps e = (refl, cc)
 found-good false ps e = (cc, cc)
 
@@ -60,10 +61,10 @@ within-more l k p q (Done m o) g h w = omega arith
 within-more l k p q (Refused e) g h w = tt
 
 module _ (system graphics : List ℕ) where
-  -- the code's walk goes on over t from the answer r
-  abbrev resume : Walk → List ℕ → Walk
-  resume (Done l q) t = walkAnswer q (walk system graphics l t)
-  resume (Refused e) t = Refused e
+  -- the walk goes on over t from what was said so far
+  abbrev resume : Paper (ℕ × ℕ) → List ℕ → Paper (ℕ × ℕ)
+  resume (values s) t = walkAnswer (s .1) (walk system graphics (s .0) t)
+  resume (refusal number place) t = refusal number place
 
   counted-onward : (p : ℕ) (w : Walked) (t : List ℕ) → walkAnswer p (onward system graphics w t) ≡ resume (walkAnswer p w) t
   counted-onward p (done l ps) t = counted-also p ps (walk system graphics l t)
@@ -92,18 +93,18 @@ module _ (system graphics : List ℕ) where
     pub bad-sector : length s < 96 → Counted (walk system graphics left (va ∷ [])) left points (Refused 32)
     bad-sector h = record { is = rw (walk-step left va [] some, short-bad system graphics va 96 (rw es at h)); within = tt }
 
-    module _ (long : 96 ≤ length s) {b : Found} (eb : b ≡ foundOf (goodData system graphics s) (pointsOf system graphics s)) where
+    module _ (long : 96 ≤ length s) {b : Found} (eb : foundPaper b ≡ foundOf (goodData system graphics s) (pointsOf system graphics s)) where
       pub bad-data : b ≡ Bad → Counted (walk system graphics left (va ∷ [])) left points (Refused 34)
       unfolding sectorAt
       bad-data h =
-          let f = found-bad (goodData system graphics s) (pointsOf system graphics s) (sym eb ∙ h) in
+          let f = found-bad (goodData system graphics s) (pointsOf system graphics s) (sym eb ∙ ap foundPaper h) in
           record { is = rw (walk-step left va [] some, full-good system graphics va 96 (omega arith) (rw es at long), ← es, f); within = tt }
 
       pub into : {n : ℕ} {r : Walk} → b ≡ Points n → n ≤ 65535 → Counted (walk system graphics (left - 1) (subsTo s 4)) (left - 1) (points + n) r
           → Counted (walk system graphics left (va ∷ [])) left points r
       unfolding sectorAt
       into {n} {r} h few k =
-          let (f, g) = found-good (goodData system graphics s) (pointsOf system graphics s) (sym eb ∙ h) in
+          let (f, g) = found-good (goodData system graphics s) (pointsOf system graphics s) (sym eb ∙ ap foundPaper h) in
           record {
             is = rw (walk-step left va [] some, full-good system graphics va 96 (omega arith) (rw es at long), ← es, f, append-nil, counted-also, g) (k .is);
             within = within-more left (left - 1) points (points + n) r (omega arith) (omega arith) (k .within);
@@ -120,7 +121,7 @@ module _ (system graphics : List ℕ) where
 
       module _ (there : va ≡ 0 → ⊥) {v : Walk} (k : Counted (walk system graphics left (va ∷ [])) left points v) where
         -- the whole walk goes on from the answer on va
-        from-va : walkAnswer points (walk system graphics left (subsTo s i)) ≡ resume v (subsTo s (i - 1))
+        from-va : walkAnswer points (walk system graphics left (subsTo s i)) ≡ resume (walkPaper v) (subsTo s (i - 1))
         from-va = rw (subs-at s i some ev there, k .is) (counted-append points left (va ∷ []) (subsTo s (i - 1)))
 
         pub stop : {e : ℕ} → v ≡ Refused e → Counted (walk system graphics left (subsTo s i)) left points (Refused e)

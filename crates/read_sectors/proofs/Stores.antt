@@ -6,12 +6,13 @@ use native.Mathlib.Omega.{arith}
 use mathlib.Core.Path.{_≡_, refl, sym, ap, _∙_}
 use mathlib.Core.List.{List, [], _∷_, _++_, map, append-assoc}
 use lib.ListN.{length, length-map, set}
-use Rattle.fields.specs.Bytes.{leAt, put}
+use Rattle.fields.specs.Bytes.{leAt}
+use Rattle.fields.specs.Put.{put}
 use Rattle.fields.specs.Rows.{pack}
 use Rattle.fields.proofs.Puts.{put-nil, put-cons, put-next}
-use Rattle.strip.specs.Cell.{Vec3, NavPoint, vecWords, each, pointWords}
+use Rattle.strip.specs.Cell.{Vec3, vecWords, each, pointWords}
+use Rattle.strip.proofs.Plain.{length-each, point-length}
 use Rattle.read_grammar.specs.Derives.{pointOf}
-use Rattle.read_records.proofs.Items.{length-each}
 use Rattle.read_sectors.specs.Write.{asShorts, pointsWords}
 
 -- the words of a point, stored one after the other
@@ -24,14 +25,10 @@ unfolding pack
 first-word a k h l = omega arith
 
 -- a point, its position as its shorts
-pub point-put : (at : ℕ) (b s : List ℕ) {a k x y z : ℕ} → a ≡ leAt 1 b 6 → k ≡ leAt 1 b 7 → x ≡ leAt 2 b 0 → y ≡ leAt 2 b 2 → z ≡ leAt 2 b 4 → a < 256 → k < 256
-    → set (set (set (set s at (0x4000_0000 + a + 0x100 * k)) (at + 1) x) (at + 2) y) (at + 3) z ≡ put at (pointWords (pointOf asShorts b)) s
+pub point-put : (at : ℕ) (b s : List ℕ) {w a k x y z : ℕ} → w ≡ 0x4000_0000 + a + 0x100 * k → a ≡ leAt 1 b 6 → k ≡ leAt 1 b 7 → x ≡ leAt 2 b 0 → y ≡ leAt 2 b 2 → z ≡ leAt 2 b 4 → a < 256 → k < 256
+    → set (set (set (set s at w) (at + 1) x) (at + 2) y) (at + 3) z ≡ put at (pointWords (pointOf asShorts b)) s
 unfolding pointWords pointOf vecWords asShorts
-point-put at b s {a} {k} ea ek ex ey ez h l = four-put at _ _ _ _ s ∙ rw (← ea, ← ek, ← ex, ← ey, ← ez, first-word a k h l)
-
-pub point-length : (p : NavPoint) → length (pointWords p) ≡ 4
-unfolding pointWords vecWords
-point-length p = refl
+point-put at b s {a = a} {k = k} ew ea ek ex ey ez h l = four-put at _ _ _ _ s ∙ rw (ew, ← ea, ← ek, ← ex, ← ey, ← ez, first-word a k h l)
 
 module _ (back : ℕ → ℕ → ℕ → Vec3) where
   -- one point, and those after it

@@ -4,20 +4,29 @@ use native.Mathlib.Nat.{mod-eq-of-lt}
 use native.Mathlib.Omega.{arith}
 use mathlib.Core.Path.{_≡_, sym, ap, _∙_}
 use mathlib.Core.List.{List, [], _∷_, _++_}
-use lib.ListN.{length}
-use Rattle.fields.specs.Bytes.{leAt, over, put}
+use lib.ListN.{length, getD}
+use Rattle.fields.specs.Bytes.{leAt, over}
+use Rattle.fields.specs.Put.{put}
 use Rattle.fields.proofs.Puts.{length-put, put-next, put-inside, stored}
 use Rattle.math.specs.declared.vec3.Vec3 as Floats
-use Rattle.strip.specs.Cell.{All, vecWords, pointWords}
+use Rattle.strip.specs.Cell.{vecWords, pointWords}
+use Rattle.strip.specs.Fits.{All}
 use Rattle.read_grammar.specs.Derives.{pointOf}
 use Rattle.read_records.specs.Back.{backBy}
 use Rattle.read_sectors.specs.Walk.{Walked}
 use Rattle.read_sectors.specs.declared.TreeCursor.{TreeCursor}
 use Rattle.read_sectors.specs.Write.{asShorts, pointsWords, pointsIn, HasRoom, Written, turnedAt, turned}
 use Rattle.read_sectors.proofs.Shorts.{Shorts}
-use Rattle.read_sectors.proofs.Stores.{words-cons, words-next, put-none, point-length}
+use Rattle.read_sectors.proofs.Stores.{words-cons, words-next, put-none}
+use Rattle.strip.proofs.Plain.{point-length}
 
 module _ (bb-min bb-size : Floats.Vec3) where
+  -- by the places that are read and the one that is stored at
+  pub turned-by-places : (at : ℕ) (s : List ℕ) {x y z to : ℕ} → x ≡ at + 1 → y ≡ at + 2 → z ≡ at + 3 → to ≡ at + 1
+      → put to (vecWords (backBy bb-min bb-size (getD s x 0 % 65536) (getD s y 0 % 65536) (getD s z 0 % 65536))) s ≡ turnedAt bb-min bb-size at s
+  unfolding turnedAt
+  turned-by-places at s ex ey ez et = rw (ex, ey, ez, et)
+
   -- the record at a place, whatever follows it
   record-turned : (at h x y z : ℕ) (rest old : List ℕ) → at + 4 ≤ length old
       → turnedAt bb-min bb-size at (put at (h ∷ x ∷ y ∷ z ∷ rest) old)

@@ -5,7 +5,7 @@ use mathlib.Core.Bool.{Bool, true, false, cond}
 use mathlib.Core.List.{List, [], _∷_}
 use lib.Dec.{eqb}
 use lib.ListN.{length}
-use Rattle.strip.specs.Outcome.{Outcome, Paper, values, refusalOf}
+use Rattle.strip.specs.Outcome.{Outcome, Paper, refusal, values, refusalOf}
 use Rattle.strip.specs.Outcome as Outcome
 use Rattle.read_sectors.specs.declared.Tree.{Tree}
 use Rattle.read_sectors.specs.declared.TreeAnswer.{TreeAnswer}
@@ -36,10 +36,15 @@ abbrev pub Small : TreeAnswer → Type 0
 Small (TreeAnswer.Tree t) = t .points ≤ 65535 * 4096
 Small (TreeAnswer.Refused r) = Unit {0}
 
--- a walk's answer, where so many points were walkAnswer before it
-abbrev pub walkAnswer : ℕ → Walked → Walk
-walkAnswer points (done l ps) = Done l (points + length ps)
-walkAnswer points (refused number) = Refused number
+-- `visit_sector`, `visit_subs`: what each case says, the visits left and the points counted so far, or a refusal, which has the place 0
+abbrev pub walkPaper : Walk → Paper (ℕ × ℕ)
+walkPaper (Done left points) = values (left, points)
+walkPaper (Refused number) = refusal number 0
+
+-- and what a walk has to say, where so many points were counted before it
+abbrev pub walkAnswer : ℕ → Walked → Paper (ℕ × ℕ)
+walkAnswer points (done l ps) = values (l, points + length ps)
+walkAnswer points (refused number) = refusal number 0
 
 -- visits are only spent, and each counts at most 65,535 points
 abbrev pub Within : ℕ → ℕ → Walk → Type 0
@@ -47,13 +52,17 @@ Within left points (Done l p) = (l ≤ left) × (p + 65535 * l ≤ points + 6553
 Within left points (Refused number) = Unit {0}
 
 pub record Counted (w : Walked) (left points : ℕ) (r : Walk) : Type 0 where
-  pub is : r ≡ walkAnswer points w
+  pub is : walkPaper r ≡ walkAnswer points w
   pub within : Within left points r
 
--- the answer on a sector's data and points
-abbrev pub foundOf : Bool → List (List ℕ) → Found
-foundOf false ps = Bad
-foundOf true ps = Points (length ps)
+-- `find_points`: what each case says, and what a sector's data and points have to: how many points there are, or 34
+abbrev pub foundPaper : Found → Paper ℕ
+foundPaper (Points n) = values n
+foundPaper Bad = refusal 34 0
+
+abbrev pub foundOf : Bool → List (List ℕ) → Paper ℕ
+foundOf false ps = refusal 34 0
+foundOf true ps = values (length ps)
 
 abbrev pub Few : Found → Type 0
 Few (Points n) = n ≤ 65535

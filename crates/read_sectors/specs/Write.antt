@@ -3,7 +3,7 @@ use Prim.Native.Nat.{ℕ, zero, suc, _+_, _*_, _%_, _≤_}
 use mathlib.Core.Path.{_≡_}
 use mathlib.Core.List.{List, [], _∷_, map}
 use lib.ListN.{length, getD}
-use Rattle.fields.specs.Bytes.{put}
+use Rattle.fields.specs.Put.{put}
 use Rattle.math.specs.declared.vec3.Vec3 as Floats
 use Rattle.strip.specs.Cell.{Vec3, each, vecWords, pointWords}
 use Rattle.read_grammar.specs.Derives.{pointOf}

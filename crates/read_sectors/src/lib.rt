@@ -4,7 +4,8 @@ ghost use mathlib.Core.Bool.{true};
 ghost use mathlib.Core.List.{[], _∷_};
 ghost use Prim.Native.Nat.{_+_, _*_, _^_, _≤_, _<_};
 ghost use lib.ListN.{length};
-ghost use Rattle.fields.specs.Bytes.{leAt, put, cut};
+ghost use Rattle.fields.specs.Bytes.{leAt, cut};
+ghost use Rattle.fields.specs.Put.{put};
 ghost use Rattle.strip.specs.Outcome.{shown};
 ghost use Rattle.strip.specs.Cell.{pointWords};
 ghost use Rattle.read_grammar.specs.Trees.{subsTo};
@@ -12,7 +13,7 @@ ghost use Rattle.read_grammar.specs.Derives.{pointOf};
 ghost use Rattle.read_records.specs.Back.{backIn};
 ghost use Rattle.read_sectors.specs.Sector.{goodData, pointsOf};
 ghost use Rattle.read_sectors.specs.Walk.{walk};
-ghost use Rattle.read_sectors.specs.Answer.{paper, treeOutcome, foundOf, Few, Small, Counted};
+ghost use Rattle.read_sectors.specs.Answer.{paper, treeOutcome, foundPaper, foundOf, Few, Small, Counted};
 ghost use Rattle.read_sectors.specs.Write.{asShorts, pointsWords, pointsIn, HasRoom, Written, turnedAt, turned};
 use cell_record::CellRecord;
 use fields::sizes::POINT_SIZE;
@@ -52,7 +53,7 @@ enum Walk {
 
 // How many points a sector has, by its data's address, 0x2C, and the data's count and address of points, 0x1A and 0x10.
 fn find_points<'a>(system: &'a [u8], graphics: &'a [u8], sector: &'a [u8]) -> Found
-    ensures { λ r. ⌜ (r ≡ foundOf (goodData (now (system .entry)) (now (graphics .entry)) (now (sector .entry))) (pointsOf (now (system .entry)) (now (graphics .entry)) (now (sector .entry)))) × Few r ⌝ }
+    ensures { λ r. ⌜ (foundPaper r ≡ foundOf (goodData (now (system .entry)) (now (graphics .entry)) (now (sector .entry))) (pointsOf (now (system .entry)) (now (graphics .entry)) (now (sector .entry)))) × Few r ⌝ }
 {
     let va = u64_le(sector, 0x2C);
     if va == 0 {
@@ -194,8 +195,8 @@ fn put_sector_points<'a>(
 ) -> usize
     requires { ⌜ goodData (now system) (now graphics) (now sector) ≡ true ⌝ }
     requires { ⌜ at + 4 * length (pointsOf (now system) (now graphics) (now sector)) ≤ length (now strip) ⌝ }
-    ensures { λ r. ⌜ r ≡ at + 4 * length (pointsOf (now (system .entry)) (now (graphics .entry)) (now (sector .entry))) ⌝ }
-    ensures { λ _. ⌜ now (strip .exit) ≡ put at (pointsWords asShorts (pointsOf (now (system .entry)) (now (graphics .entry)) (now (sector .entry)))) (now (strip .entry)) ⌝ }
+    ensures next { λ r. ⌜ r ≡ at + 4 * length (pointsOf (now (system .entry)) (now (graphics .entry)) (now (sector .entry))) ⌝ }
+    ensures content { λ _. ⌜ now (strip .exit) ≡ put at (pointsWords asShorts (pointsOf (now (system .entry)) (now (graphics .entry)) (now (sector .entry)))) (now (strip .entry)) ⌝ }
 {
     let va = u64_le(sector, 0x2C);
     if va == 0 {

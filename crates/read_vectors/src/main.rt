@@ -1,68 +1,26 @@
 // Replays the oracle's list of pages, which stands on standard input, against the reader, and prints how many records of each number agree.
-// The list is made of 32-bit little-endian words. A record is the word 7; the bytes of the system section and of the graphics section; the
-// words of the strip lent; the number, 0 for an accepted cell; the cell's words, polygons, portals, points and sectors, or the place and
-// zeros; the two sections, each padded to whole words; and the words of an accepted cell. The first word that isn't 7 ends the list.
+// What stands in the list is said in `read_replay`.
 ghost use mathlib.Core.Path.{_≡_};
 ghost use mathlib.Core.Bool.{true};
-ghost use Prim.Native.Nat.{ℕ, _+_, _*_, _^_, _≤_, _<_};
-ghost use lib.ListN.{length, getD};
-ghost use Rattle.strip.specs.Outcome.{refusalOf, shown};
+ghost use Prim.Native.Nat.{_+_, _≤_, _<_};
+ghost use lib.ListN.{length};
+ghost use Rattle.strip.specs.Outcome.{shown};
 ghost use Rattle.ynv_read.specs.Parse.{paper};
 ghost use Rattle.replay.specs.Tallies.{Tallied, Step};
-ghost use Rattle.read_vectors.specs.Agreement.{expected, expectedCounts, toldWord, untouchedWords, toldWords, outcomeOf, stripOf, Agrees, recordOf, Asked, TallyOf, Stands};
+ghost use Rattle.read_replay.specs.Agreement.{untouchedWords, outcomeOf, stripOf, Agrees, Asked, TallyOf, Stands};
 use fields::u32_le;
+use read_replay::Record;
+use read_replay::answer_agrees;
+use read_replay::record_at;
+use read_replay::words_agree;
 use replay::Tally;
-use replay::end_of;
-use replay::padded;
+use replay::asked;
 use replay::print;
 use replay::print_first;
 use replay::print_number;
 use replay::print_tally;
 use replay::tallied;
-use strip::Refusal;
 use ynv_read::ParseAnswer;
-use ynv_read::Parsed;
-
-// Where the sections of a record begin and end, its strip begins, and the next record.
-struct Record {
-    system: usize,
-    system_end: usize,
-    graphics: usize,
-    graphics_end: usize,
-    strip: usize,
-    next: usize,
-}
-
-// The words of the strip that stand in the record at a place: none where it is refused.
-fn strip_words(bytes: &[u8], at: usize) -> usize
-    requires { ⌜ at + 40 ≤ length (now bytes) ⌝ }
-    ensures { λ r. ⌜ (r ≡ toldWords (now (bytes .entry)) at) × (r < 2 ^ 32) ⌝ }
-{
-    if u32_le(bytes, at + 16) == 0 {
-        return u32_le(bytes, at + 20) as usize;
-    }
-    0
-}
-
-fn record_at(bytes: &[u8], at: usize) -> Record
-    requires { ⌜ at + 40 ≤ length (now bytes) ⌝ }
-    ensures { λ r. ⌜ (r ≡ recordOf (now (bytes .entry)) at) × Stands at r (length (now (bytes .entry))) ⌝ }
-{
-    let n = bytes.len();
-    let system = at + 40;
-    let first = u32_le(bytes, at + 4);
-    let graphics = end_of(n, system, padded(first));
-    let second = u32_le(bytes, at + 8);
-    let strip = end_of(n, graphics, padded(second));
-    Record {
-        system,
-        system_end: end_of(n, system, first as usize),
-        graphics,
-        graphics_end: end_of(n, graphics, second as usize),
-        strip,
-        next: end_of(n, strip, 4 * strip_words(bytes, at)),
-    }
-}
 
 // Reads the sections of a record into as much of the strip as the record says.
 fn read_record(bytes: &[u8], at: usize, r: Record, strip: &mut [u32]) -> ParseAnswer
@@ -80,81 +38,6 @@ fn read_record(bytes: &[u8], at: usize, r: Record, strip: &mut [u32]) -> ParseAn
         &bytes[graphics..graphics_end],
         &mut strip[..lent],
     )
-}
-
-fn counts_agree(bytes: &[u8], at: usize, p: Parsed) -> bool
-    requires { ⌜ at + 40 ≤ length (now bytes) ⌝ }
-    ensures { λ r. ⌜ (r ≡ true → p ≡ expectedCounts (now (bytes .entry)) at) ⌝ }
-{
-    if p.words != u32_le(bytes, at + 20) as usize {
-        return false;
-    }
-    if p.polys != u32_le(bytes, at + 24) as usize {
-        return false;
-    }
-    if p.portals != u32_le(bytes, at + 28) as usize {
-        return false;
-    }
-    if p.points != u32_le(bytes, at + 32) as usize {
-        return false;
-    }
-    p.sectors == u32_le(bytes, at + 36) as usize
-}
-
-fn refusal_agrees(bytes: &[u8], at: usize, r: Refusal) -> bool
-    requires { ⌜ at + 40 ≤ length (now bytes) ⌝ }
-    ensures { λ s. ⌜ (s ≡ true → refusalOf r ≡ expected (now (bytes .entry)) at) ⌝ }
-{
-    let number = u32_le(bytes, at + 16);
-    if number == 0 {
-        return false;
-    }
-    if r.number != number {
-        return false;
-    }
-    r.place == u32_le(bytes, at + 20) as usize
-}
-
-// Whether an answer is what the record says.
-fn answer_agrees(bytes: &[u8], at: usize, a: ParseAnswer) -> bool
-    requires { ⌜ at + 40 ≤ length (now bytes) ⌝ }
-    ensures { λ r. ⌜ (r ≡ true → paper a ≡ expected (now (bytes .entry)) at) ⌝ }
-{
-    match a {
-        ParseAnswer::Parsed(p) => {
-            if u32_le(bytes, at + 16) == 0 {
-                return counts_agree(bytes, at, p);
-            }
-            false
-        }
-        ParseAnswer::Refused(r) => refusal_agrees(bytes, at, r),
-    }
-}
-
-// Word k of a strip that has these words in front, and behind them what it had before.
-fn told_word(words: &[u8], k: usize) -> u32
-    requires { ⌜ k < 512 ⌝ }
-    ensures { λ r. ⌜ r ≡ toldWord (now (words .entry)) k ⌝ }
-{
-    if 4 * k < words.len() {
-        return u32_le(words, 4 * k);
-    }
-    0xD1D1_D1D1
-}
-
-fn words_agree(words: &[u8], strip: &[u32; 512]) -> bool
-    ensures { λ r. ⌜ (r ≡ true → ((k : ℕ) → k < 512 → getD (now (strip .entry)) k 0 ≡ toldWord (now (words .entry)) k)) ⌝ }
-{
-    let mut k = 0;
-    while k < 512 {
-        let expected = told_word(words, k);
-        let found = strip[k];
-        if found != expected {
-            return false;
-        }
-        k += 1;
-    }
-    true
 }
 
 // What the strip holds before a record's sections are read into it.
@@ -184,14 +67,10 @@ fn with_record(bytes: &[u8], at: usize, r: Record, t: Tally, low: u32, high: u32
     requires { ⌜ (at + 40 ≤ length (now bytes)) × Stands at r (length (now bytes)) × Tallied (length (now bytes)) at t ⌝ }
     ensures { λ s. ⌜ Step (Asked (now (bytes .entry)) low high at) (Agrees (now (bytes .entry)) at r) t at s × Tallied (length (now (bytes .entry))) (at + 1) s ⌝ }
 {
-    let number = u32_le(bytes, at + 16);
-    if number < low {
-        return t;
+    if asked(u32_le(bytes, at + 16), low, high) {
+        return tallied(t, bytes.len(), at, agrees(bytes, at, r));
     }
-    if high < number {
-        return t;
-    }
-    tallied(t, bytes.len(), at, agrees(bytes, at, r))
+    t
 }
 
 // Of the records whose number is from low to high.

@@ -3,7 +3,9 @@ use mathlib.Core.List.{List, [], _∷_, _++_}
 use Prim.Native.Nat.{ℕ, _^_, _<_}
 use native.Mathlib.Omega.{arith}
 use Rattle.strip.proofs.Alls.{all-apart}
-use Rattle.strip.specs.Cell.{Vec3, NavEdge, NavPoly, NavPortal, Head, Cell, All, each, vecWords, halfWords, edgeWords, polygonWords, polygonWordsAs, portalWords, pointWords, headWords, endWords, encodeAs, PolygonFits, PortalFits, PointFits, InRange}
+use Rattle.strip.proofs.Plain.{encode-plain}
+use Rattle.strip.specs.Cell.{Vec3, NavEdge, NavPoly, NavPortal, Head, Cell, each, vecWords, halfWords, edgeWords, polygonWords, polygonWordsAs, portalWords, pointWords, headWords, endWords}
+use Rattle.strip.specs.Fits.{All, PolygonFits, PortalFits, PointFits, InRange}
 
 pub record WordVec (v : Vec3) : Type 0 where
   pub x : v .x < 2 ^ 32
@@ -90,13 +92,12 @@ head-formed h k =
     }
 
 pub formed : (c : Cell) → InRange c → Formed c
-unfolding encodeAs
 formed c r =
     let a = headWords (c .head) in
     let b = each polygonWords (c .polys) in
     let d = each portalWords (c .portals) in
     let e = each pointWords (c .points) in
-    let w₁ = all-apart Word (((a ++ b) ++ d) ++ e) endWords (r .words) in
+    let w₁ = all-apart Word (((a ++ b) ++ d) ++ e) endWords (rw (encode-plain c) at (r .words)) in
     let w₂ = all-apart Word ((a ++ b) ++ d) e (w₁ .0) in
     let w₃ = all-apart Word (a ++ b) d (w₂ .0) in
     let w₄ = all-apart Word a b (w₃ .0) in

@@ -6,26 +6,17 @@ use native.Mathlib.Nat.{zero-add, add-zero, mul-zero, mul-suc, mod-eq-of-lt}
 use native.Mathlib.Omega.{arith}
 use lib.ListN.{length, getD}
 use borrow.Author.Tests.{lt-ltb}
-use Rattle.fields.specs.Bytes.{leAt, leBytes, les}
-use Rattle.fields.specs.Rows.{rowBytes, rowAt}
-use Rattle.fields.proofs.Bytes.{length-bytes, length-les}
-use Rattle.fields.proofs.Holds.{Holds, all-held, held-first, held-second, held-value}
+use Rattle.fields.specs.Bytes.{leAt, les}
+use Rattle.fields.specs.Rows.{rowBytes}
+use Rattle.fields.specs.RowPlaces.{rowAt}
+use Rattle.fields.proofs.Bytes.{length-les}
+use Rattle.fields.proofs.Holds.{Holds, all-held, held-first, held-second, number-in}
 use Rattle.fields.proofs.Rows.{length-rows, field-in}
-use Rattle.strip.specs.Cell.{Head, All}
+use Rattle.strip.specs.Cell.{Head}
+use Rattle.strip.specs.Fits.{All}
 use Rattle.read_grammar.specs.Derives.{areaOf}
 use Rattle.write_pages.specs.Pages.{padded, Places, Counts, headerFirst, headerLast, headerBytes}
 use Rattle.write_pages.proofs.Sizes.{length-padded}
-
--- number i of a row of numbers
-pub number-in : (s : List ℕ) (at w : ℕ) (xs : List ℕ) (i : ℕ) → i < length xs → Holds s at (les w xs) → leAt w s (at + w * i) ≡ getD xs i 0 % 256 ^ w
-unfolding les
-number-in s at w [] i h held = absurd (omega arith)
-number-in s at w (x ∷ xs) zero h held =
-    rw (mul-zero, add-zero) (held-value w x (held-first (leBytes w x) (les w xs) held))
-number-in s at w (x ∷ xs) (suc i) h held =
-    let rest : Holds s (at + w) (les w xs) = subst (λ (j : ℕ). Holds s (at + j) (les w xs)) (length-bytes w x) (held-second (leBytes w x) (les w xs) held) in
-    let e : at + w * suc i ≡ at + w + w * i = rw (mul-suc w i) (omega arith) in
-    rw e (number-in s (at + w) w xs i (omega arith) rest)
 
 getD-padded : (n : ℕ) (l : List ℕ) (i : ℕ) → i < n → i < length l → getD (padded n l) i 0 ≡ getD l i 0
 unfolding padded

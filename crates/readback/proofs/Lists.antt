@@ -13,14 +13,15 @@ use Rattle.fields.proofs.Bytes.{cat-append}
 use Rattle.fields.proofs.Holds.{Holds, all-held, held-more, held-first, held-second, held-end}
 use Rattle.fields.proofs.Rows.{length-rows, field-in, field-back}
 use Rattle.write_blocks.specs.Layout.{placeOf, behind, address}
-use Rattle.write_blocks.specs.Lists.{perPart, partCount, partCounts, chunks, Wide, offsetsAddress, tableAt, partsFrom, itemsEnd, listRow, partRow, tableBytes, frontBlocks, offsetBlocks, listBlocks}
+use Rattle.write_blocks.specs.Lists.{perPart, partCount, partCounts, chunks, offsetsAddress, tableAt, partsFrom, itemsEnd, listRow, partRow, tableBytes, frontBlocks, offsetBlocks, listBlocks}
+use Rattle.write_blocks.specs.ListRoom.{Wide}
 use Rattle.write_blocks.proofs.Lists.{cut-back, length-cat, wide-take, wide-drop, table-length}
 use Rattle.write_blocks.proofs.Standing.{Stand, stand-first}
 use Rattle.read_grammar.specs.Parts.{Good, Array}
 use Rattle.read_grammar.specs.Lists.{Table, no-table, table, Parts, no-part, skipped, part, ListAt, Items, some}
 use Rattle.read_grammar.proofs.Parts.{held-good}
-use Rattle.write_pages.specs.Optional.{blockOf, addressOf}
-use Rattle.write_pages.proofs.Optional.{address-some}
+use Rattle.write_blocks.specs.Optional.{blockOf, addressOf}
+use Rattle.write_blocks.proofs.Optional.{address-some}
 
 -- ---- a block where there is something
 
@@ -157,13 +158,3 @@ module _ (P tail graphics : List ℕ) (few : length P < 2 ^ 28) where
     pub items-back : (end vft : ℕ) (items : List (List ℕ)) → Wide w items → length items + per ≤ 2 ^ 32
         → Stand P end (listBlocks end vft w items) → Items (P ++ tail) graphics w (address (placeOf end 48)) items
     items-back end vft items h small blocks = let far : 0 < address (placeOf end 48) = omega arith in some far (list-back end vft items h small blocks)
-
--- a list's header ends within the pages
-pub list-place : (P : List ℕ) (end vft w : ℕ) (items : List (List ℕ)) → Stand P end (listBlocks end vft w items) → placeOf end 48 + 48 ≤ length P
-unfolding listBlocks frontBlocks
-list-place P end vft w items blocks =
-    let n : ℕ = length items in
-    let k : ℕ = partCount w n in
-    let row = listRow vft n (address (tableAt end k)) (offsetsAddress (itemsEnd end w n) k) k in
-    let e : length (rowBytes row) ≡ 48 = length-rows row in
-    subst (λ (j : ℕ). placeOf end j + j ≤ length P) e (held-end (blocks .0))

@@ -13,7 +13,8 @@ use Rattle.fields.proofs.Rows.{field-back, pack-lt, bits-back}
 use Rattle.math.specs.declared.vec3.Vec3.{Vec3 as Floats}
 use Rattle.quantise.specs.Short.{shorts}
 use Rattle.quantise.proofs.Capped.{short-lt}
-use Rattle.strip.specs.Cell.{Vec3, NavEdgeEnd, NavEdge, NavPoly, Head, All}
+use Rattle.strip.specs.Cell.{Vec3, NavEdgeEnd, NavEdge, NavPoly, Head}
+use Rattle.strip.specs.Fits.{All}
 use Rattle.distinct.specs.Distinct.{indexOf}
 use Rattle.distinct.proofs.Final.{In, found}
 use Rattle.areas.specs.declared.edge.RawEnd.{RawEnd}

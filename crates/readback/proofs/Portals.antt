@@ -14,18 +14,19 @@ use Rattle.fields.proofs.Rows.{field-back, pack-lt, bits-back}
 use Rattle.quantise.specs.Short.{shorts}
 use Rattle.quantise.proofs.Capped.{short-lt}
 use Rattle.resource.proofs.Parts.{null-empty}
-use Rattle.strip.specs.Cell.{Vec3, NavPortal, NavPoint, Head, All, PointFits}
+use Rattle.strip.specs.Cell.{Vec3, NavPortal, NavPoint, Head}
+use Rattle.strip.specs.Fits.{All, PointFits}
 use Rattle.write_blocks.specs.Layout.{placeOf}
 use Rattle.write_blocks.proofs.Standing.{Stand}
 use Rattle.read_grammar.specs.Polygons.{linksAt}
 use Rattle.read_grammar.specs.Derives.{backOf, portalOf, pointOf}
 use Rattle.write_pages.specs.Items.{floats}
-use Rattle.write_pages.specs.Optional.{blockOf, addressOf}
+use Rattle.write_blocks.specs.Optional.{blockOf, addressOf}
 use Rattle.write_pages.specs.Sectors.{pointRow, pointItems}
 use Rattle.write_pages.specs.Pages.{portalRow, portalItems}
 use Rattle.write_pages.specs.Reread.{positionAgain, portalAgain, pointAgain}
 use Rattle.readback.proofs.Formed.{FinePortal}
-use Rattle.write_pages.proofs.Optional.{address-some}
+use Rattle.write_blocks.proofs.Optional.{address-some}
 use Rattle.readback.proofs.Lists.{good, block-held}
 use Rattle.readback.proofs.Polygons.{lo, extent, position-back}
 

@@ -17,7 +17,8 @@ use Rattle.math.specs.declared.vec3.Vec3.{Vec3 as Floats}
 use Rattle.math.proofs.Finite.{finite-bits}
 use Rattle.quantise.specs.declared.quarter.QuarterBox.{QuarterBox}
 use Rattle.quantise.specs.declared.bounds.Aabb.{Aabb}
-use Rattle.strip.specs.Cell.{Vec3, NavPoint, Head, Cell, All}
+use Rattle.strip.specs.Cell.{Vec3, NavPoint, Head, Cell}
+use Rattle.strip.specs.Fits.{All}
 use Rattle.strip.specs.Box as Box
 use Rattle.strip.proofs.Box.{FiniteVec, FiniteBox}
 use Rattle.write_blocks.specs.Layout.{placeOf, address}
@@ -25,7 +26,8 @@ use Rattle.write_blocks.proofs.Standing.{Stand}
 use Rattle.read_grammar.specs.Derives.{vecOf}
 use Rattle.strip.proofs.Alls.{all-append}
 use Rattle.write_pages.specs.Items.{floats}
-use Rattle.write_pages.specs.Sectors.{Sector, sectorCount, sub0, sub1, sub2, sub3, depthBy, depthOf, rootBox, leaves, leafOf, pointsOf, grown, treeOf, preorder, sectorRow, dataFrom, from0, from1, from2, from3, sectorAddress, leafBlocks, treeBlocks}
+use Rattle.write_pages.specs.Sectors.{Sector, sub0, sub1, sub2, sub3, depthBy, depthOf, rootBox, leaves, leafOf, pointsOf, grown, treeOf, sectorRow, dataFrom, from0, from1, from2, from3, sectorAddress, leafBlocks, treeBlocks}
+use Rattle.write_pages.specs.Preorder.{sectorCount, preorder}
 use Rattle.write_pages.specs.Sectors.Sector.{leaf, node}
 use Rattle.write_pages.specs.Pages.{sectors}
 use Rattle.readback.proofs.Formed.{WordVec}

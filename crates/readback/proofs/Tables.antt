@@ -4,7 +4,8 @@ use mathlib.Core.Bool.{Bool, true, false}
 use mathlib.Core.List.{List, [], _∷_, _++_}
 use Prim.Native.Nat.{ℕ, _^_, _<_}
 use native.Mathlib.Omega.{arith}
-use Rattle.strip.specs.Cell.{NavEdge, NavPoly, All}
+use Rattle.strip.specs.Cell.{NavEdge, NavPoly}
+use Rattle.strip.specs.Fits.{All}
 use Rattle.distinct.specs.Distinct.{isIn, withNew, distinctFrom}
 use Rattle.distinct.proofs.Laws.{with-old, with-fresh}
 use Rattle.distinct.proofs.Final.{In, with-in, still-in}

@@ -4,13 +4,14 @@ use mathlib.Core.Path.{_≡_}
 use mathlib.Core.List.{List, _++_}
 use Prim.Native.Nat.{ℕ}
 use lib.ListN.{length}
-use Rattle.strip.specs.Cell.{Cell, Words, InRange, encode}
+use Rattle.strip.specs.Cell.{Cell, encode}
+use Rattle.strip.specs.Fits.{Words, InRange}
 use Rattle.strip.specs.Scan.{Scanned, scan}
 use Rattle.strip.proofs.Exact.{scan-exact}
 use Rattle.read_grammar.specs.Polygons.{Each}
 use Rattle.read_grammar.specs.Derives.{Derives}
 use Rattle.read_grammar.proofs.Unique.{makes-one, derives-one}
-use Rattle.write_pages.specs.Sectors.{sectorCount}
+use Rattle.write_pages.specs.Preorder.{sectorCount}
 use Rattle.write_pages.specs.Pages.{sectors, pages}
 use Rattle.write_pages.specs.Checks.{fine, cellVerdict}
 use Rattle.write_pages.specs.Reread.{reread}

@@ -12,22 +12,20 @@ use Rattle.fields.proofs.Holds.{Holds, held-end}
 use Rattle.fields.proofs.Rows.{length-rows, field-back}
 use Rattle.math.specs.declared.vec3.Vec3.{Vec3 as Floats}
 use Rattle.quantise.specs.declared.bounds.Aabb.{Aabb}
-use Rattle.strip.specs.Cell.{NavPoint, All}
-use Rattle.write_blocks.specs.Layout.{placeOf, behind, endOf, address, lengths}
-use Rattle.write_blocks.proofs.Standing.{Stand, stand-first, stand-second}
+use Rattle.strip.specs.Cell.{NavPoint}
+use Rattle.strip.specs.Fits.{All}
+use Rattle.write_blocks.specs.Layout.{placeOf, behind, address}
+use Rattle.write_blocks.proofs.Standing.{Stand, stand-first, stand-behind}
 use Rattle.read_grammar.specs.Parts.{Good, Array}
 use Rattle.read_grammar.specs.Trees.{Data, no-data, data-at, keep, subsTo, Trees, Tree}
-use Rattle.write_pages.specs.Optional.{blockOf, sizeOf, addressOf}
-use Rattle.write_pages.specs.Sectors.{Sector, sectorCount, pointCount, leafCounts, preorder, sectorRow, dataRow, sizes, idsFrom, pointsFrom, dataFrom, from0, from1, from2, from3, sectorAddress, pointRow, pointItems, leafBlocks, treeBlocks}
+use Rattle.write_blocks.specs.Optional.{blockOf, sizeOf, addressOf}
+use Rattle.write_pages.specs.Sectors.{Sector, pointCount, leafCounts, sectorRow, dataRow, sizes, idsFrom, pointsFrom, dataFrom, from0, from1, from2, from3, sectorAddress, pointRow, pointItems, leafBlocks, treeBlocks}
+use Rattle.write_pages.specs.Preorder.{sectorCount, preorder}
 use Rattle.write_pages.specs.Sectors.Sector.{leaf, node}
 use Rattle.write_pages.specs.Accepted.{FewIn}
 use Rattle.strip.proofs.Alls.{all-apart}
 use Rattle.write_pages.proofs.Sizes.{point-count, block-size, length-points, wide-points, tree-lengths}
 use Rattle.readback.proofs.Lists.{good, array-back, address-small}
-
--- behind blocks of these sizes
-pub stand-behind : (P : List ℕ) (end : ℕ) (bs cs : List (List ℕ)) (ns : List ℕ) → lengths bs ≡ ns → Stand P end (bs ++ cs) → Stand P (endOf end ns) cs
-stand-behind P end bs cs ns e h = subst (λ (l : List ℕ). Stand P (endOf end l) cs) e (stand-second P end bs cs h)
 
 -- a first block of n bytes
 pub first-held : (P : List ℕ) (end n : ℕ) (b : List ℕ) → length b ≡ n → Holds P (placeOf end (length b)) b → Holds P (placeOf end n) b

@@ -7,19 +7,21 @@ use lib.ListN.{length, getD}
 use Rattle.fields.specs.Bytes.{leAt, les, cat}
 use Rattle.fields.proofs.Bytes.{length-les}
 use Rattle.fields.proofs.Holds.{Holds, all-held, held-end}
-use Rattle.strip.specs.Cell.{Cell, All, PointFits, encode, InRange}
+use Rattle.strip.specs.Cell.{Cell, encode}
+use Rattle.strip.specs.Fits.{All, PointFits, InRange}
 use Rattle.strip.proofs.Box.{FiniteBox, box-finite}
 use Rattle.areas.specs.Areas.{seeded}
 use Rattle.write_blocks.specs.Layout.{placeOf, address}
 use Rattle.write_blocks.specs.Lists.{listSizes, listBlocks}
-use Rattle.write_blocks.proofs.Standing.{Stand, stand, stand-first}
+use Rattle.write_blocks.proofs.Standing.{Stand, stand, stand-first, stand-behind, list-place}
 use Rattle.read_grammar.specs.Parts.{Array}
 use Rattle.read_grammar.specs.Polygons.{linksAt}
 use Rattle.read_grammar.specs.Derives.{areaOf, vecOf, headOf, Makes, Derives}
 use Rattle.write_pages.specs.Items.{triples, named, vertexItems, indexItems, edgeItems, polygonItems, linksOf}
-use Rattle.write_pages.specs.Optional.{blockOf, sizeOf, addressOf}
+use Rattle.write_blocks.specs.Optional.{blockOf, sizeOf, addressOf}
 use Rattle.write_pages.specs.Sectors as Sectors
-use Rattle.write_pages.specs.Sectors.{sectorCount, preorder, treeBlocks, pointItems}
+use Rattle.write_pages.specs.Sectors.{treeBlocks, pointItems}
+use Rattle.write_pages.specs.Preorder.{sectorCount, preorder}
 use Rattle.write_pages.specs.Pages.{Places, Counts, portalItems, allCorners, loOf, extentOf, vertices, areas, links, sectors, counts, endHeader, endVertices, endIndices, endEdges, endPolygons, endSectors, endPortals, placesOf, headerBytes, header, blocks, pages}
 use Rattle.write_pages.specs.Reread.{reread}
 use Rattle.write_pages.specs.Accepted.{Accepted}
@@ -27,12 +29,12 @@ use Rattle.write_pages.proofs.Sizes as Sizes
 use Rattle.write_pages.proofs.Sizes.{length-vertices, length-indices, length-edges, list-size, wide-vertices, wide-indices, wide-edges, wide-polygons, wide-portals, length-polygons, length-portals, header-length, block-size, tree-lengths}
 use Rattle.write_pages.proofs.Placed.{pages-short, few-corners}
 use Rattle.readback.proofs.Formed.{Formed, formed}
-use Rattle.readback.proofs.Lists.{good, items-back, list-place, array-back, address-small}
+use Rattle.readback.proofs.Lists.{good, items-back, array-back, address-small}
 use Rattle.readback.proofs.Header as back
 use Rattle.readback.proofs.Polygons.{Known, all-known, polygons-back}
 use Rattle.readback.proofs.Portals.{portals-back, points-back, link-table}
 use Rattle.readback.proofs.Tables.{all-in, area-words, link-shorts}
-use Rattle.readback.proofs.Trees.{stand-behind, first-held, first-behind, tree-back}
+use Rattle.readback.proofs.Trees.{first-held, first-behind, tree-back}
 use Rattle.readback.proofs.Root.{boxAt, Root, tree-root, sectors-count, sectors-points, root-min, root-max}
 use Rattle.fields.specs.Sizes.{LIST-VFT-EDGES, LIST-VFT-INDICES, LIST-VFT-POLYS, LIST-VFT-VERTICES}
 

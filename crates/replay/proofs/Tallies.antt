@@ -36,3 +36,11 @@ module _ (Stands Asked Agrees : ℕ → Type 0) (next : ℕ → ℕ) (n : ℕ) w
   pub all-agree : (at : ℕ) (t : Tally) → Passed Stands Asked Agrees next n at t → t .agreed ≡ t .seen → AllAgree Stands Asked Agrees next at (t .seen)
   all-agree at t at-first e = no-record
   all-agree at t (more at' s t' p here q) e = all-step at' s t' p (λ g. all-agree at' s p g) here q e
+
+-- a record more is passed, which stands where its parts r do
+module _ {R : Type 0} (Stands Asked : ℕ → Type 0) (Agrees : ℕ → R → Type 0) (recordOf : ℕ → R) (next : R → ℕ) (n : ℕ) where
+  pub one-record : (at : ℕ) (r : R) (s t : Tally) → Passed Stands Asked (λ (k : ℕ). Agrees k (recordOf k)) (λ (k : ℕ). next (recordOf k)) n at s → Stands at → r ≡ recordOf at → Step (Asked at) (Agrees at r) s at t
+      → Passed Stands Asked (λ (k : ℕ). Agrees k (recordOf k)) (λ (k : ℕ). next (recordOf k)) n (next r) t
+  one-record at r s t p here e q =
+      let q' : Step (Asked at) (Agrees at (recordOf at)) s at t = rw e at q in
+      rw e (more at s t p here q')

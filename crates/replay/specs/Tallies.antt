@@ -20,6 +20,10 @@ pub record Tallied (n at : ℕ) (t : Tally) : Type 0 where
   pub shown : t .first ≤ n
   pub all : t .first ≡ n → t .agreed ≡ t .seen
 
+-- a number that is asked for
+abbrev pub Within : (low high number : ℕ) → Type 0
+Within low high number = (low ≤ number) × (number ≤ high)
+
 -- what the record at a place makes of a tally: nothing where it isn't asked for, and it is told to agree only where it does
 pub data Step (Asked Agrees : Type 0) (t : Tally) (at : ℕ) : Tally → Type 0 where
   left-out : (Asked → ⊥) → Step Asked Agrees t at t

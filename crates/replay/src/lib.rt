@@ -1,9 +1,11 @@
 // What the programs that replay the oracle's lists share: where the parts of a record end, the tally of the records, and the lines that are printed.
 ghost use mathlib.Core.Path.{_≡_};
+ghost use mathlib.Core.Bool.{true, false};
 ghost use Prim.Native.Nat.{_+_, _≤_, _<_};
 ghost use Rattle.replay.specs.Ends.{recordEnd, padded};
-ghost use Rattle.replay.specs.Tallies.{Tallied, counting};
+ghost use Rattle.replay.specs.Tallies.{Tallied, Within, counting};
 use fields::least;
+use strip::Refusal;
 
 // Where `count` bytes from `from` on end, of n in all. What the list lacks is left out.
 pub fn end_of(n: usize, from: usize, count: usize) -> usize
@@ -44,6 +46,32 @@ pub fn tallied(t: Tally, n: usize, at: usize, agreed: bool) -> Tally
         agreed: t.agreed,
         first: least(t.first, at),
     }
+}
+
+// Whether a number is from low to high.
+pub fn asked(number: u32, low: u32, high: u32) -> bool
+    ensures { λ r. ⌜ (r ≡ true → Within low high number) × (r ≡ false → Within low high number → ⊥) ⌝ }
+{
+    if number < low {
+        return false;
+    }
+    if high < number {
+        return false;
+    }
+    true
+}
+
+// Whether a refusal is the one that a record tells by its number and place. The number 0 tells none.
+pub fn refusal_agrees(r: Refusal, number: u32, place: u32) -> bool
+    ensures { λ s. ⌜ (s ≡ true → (number ≡ 0 → ⊥) × (r .number ≡ number) × (r .place ≡ place)) ⌝ }
+{
+    if number == 0 {
+        return false;
+    }
+    if r.number != number {
+        return false;
+    }
+    r.place == place as usize
 }
 
 pub fn print(text: &[u8]) {

@@ -5,7 +5,8 @@ use mathlib.Core.Bool.{true, cond}
 use mathlib.Core.List.{List}
 use denote.Ref.{RefT, now}
 use lib.Dec.{eqb}
-use Rattle.resource.specs.Section.{good, resolved, resolvedAt}
+use Rattle.resource.specs.Section.{good, resolved}
+use Rattle.resource.specs.Places.{resolvedAt}
 use Rattle.res_reader.specs.declared.Pointer.{Pointer}
 use Rattle.res_reader.specs.declared.Pointer.the-variants.{Null, Good, NotGood}
 

@@ -4,7 +4,8 @@ use mathlib.Core.Path.{_≡_, refl}
 use mathlib.Core.Bool.{Bool, true, false, cond, false≢true}
 use mathlib.Core.List.{List, []}
 use denote.Ref.{RefT, now}
-use Rattle.resource.specs.Section.{inGraphics, inSystem, located, within, part, good, resolved, placeIn, resolvedAt}
+use Rattle.resource.specs.Section.{inGraphics, inSystem, within, part, good, resolved}
+use Rattle.resource.specs.Places.{located, placeIn, resolvedAt}
 use Rattle.resource.specs.declared.Located.{Located}
 use Rattle.resource.specs.declared.Located.the-variants.{Graphics, System, Nowhere}
 

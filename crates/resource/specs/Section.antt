@@ -1,12 +1,9 @@
--- Which part of the two lent sections an address and a length name, when it is good, and where it stands in memory. Definitions only.
+-- Which part of the two lent sections an address and a length name, and when it is good. Definitions only.
 use Prim.Native.Nat.{ℕ, _+_, _-_, _/_, _%_, _^_}
 use mathlib.Core.Bool.{Bool, false, cond, _&&_}
 use mathlib.Core.List.{List, []}
-use denote.Ref.{RefT}
 use lib.Dec.{leb, eqb}
 use lib.ListN.{length, take, drop}
-use Rattle.resource.specs.declared.Located.{Located}
-use Rattle.resource.specs.declared.Located.the-variants.{Graphics, System, Nowhere}
 
 -- bit k of n is set
 abbrev pub bitSet : ℕ → ℕ → Bool
@@ -18,10 +15,6 @@ inGraphics va = bitSet 29 va && bitSet 30 va
 
 abbrev pub inSystem : ℕ → Bool
 inSystem va = bitSet 28 va && bitSet 30 va
-
--- the section that an address names, with the offset there
-unfoldable pub located : ℕ → Located
-located va = cond (inGraphics va) (Graphics (va - 0x60000000)) (cond (inSystem va) (System (va - 0x50000000)) Nowhere)
 
 -- the len bytes from off on are all inside a section
 abbrev pub within : List ℕ → ℕ → ℕ → Bool
@@ -42,12 +35,3 @@ unfoldable pub resolved : List ℕ → List ℕ → ℕ → ℕ → List ℕ
 resolved system graphics va len =
     cond (inGraphics va) (part graphics (va - 0x60000000) len)
     (cond (inSystem va) (part system (va - 0x50000000) len) [])
-
--- where byte off of a lent section stands: its block of memory, and the offset there
-abbrev pub placeIn : RefT (List ℕ) → ℕ → ℕ × ℕ
-placeIn s off = (s .ptr .0, off + s .ptr .1)
-
--- where the byte that an address names stands
-unfoldable pub resolvedAt : RefT (List ℕ) → RefT (List ℕ) → ℕ → ℕ × ℕ
-resolvedAt system graphics va =
-    cond (inGraphics va) (placeIn graphics (va - 0x60000000)) (placeIn system (va - 0x50000000))

@@ -1,7 +1,8 @@
 // The two lent sections of a resource, system and graphics, and the lookup of a part of them by address.
 ghost use mathlib.Core.Path.{_≡_};
 ghost use mathlib.Core.Bool.{true};
-ghost use Rattle.resource.specs.Section.{located, within, part, good, resolved, placeIn, resolvedAt};
+ghost use Rattle.resource.specs.Section.{within, part, good, resolved};
+ghost use Rattle.resource.specs.Places.{located, placeIn, resolvedAt};
 
 pub const SYSTEM_BASE: u64 = 0x5000_0000;
 

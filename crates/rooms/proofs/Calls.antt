@@ -6,15 +6,16 @@ use mathlib.Core.List.{List, _++_}
 use mathlib.Core.Logic.{_⊎_, inl, inr, ⊎-elim}
 use lib.ListN.{length, take, drop, length-append}
 use lib.Seq.{take-append-add}
-use Rattle.strip.specs.Cell.{Cell, Words, InRange, encode}
+use Rattle.strip.specs.Cell.{Cell, encode}
+use Rattle.strip.specs.Fits.{Words, InRange}
 use Rattle.strip.specs.Scan.{Scanned, ok, fault, scan}
 use Rattle.strip.specs.Outcome.{Outcome, values, refusal, shown, left}
 use Rattle.strip.specs.Outcome as Outcome
 use Rattle.strip.specs.Check.{onCell}
 use Rattle.strip.proofs.Exact.{scan-exact, scan-fits}
-use Rattle.strip.proofs.Faults.{scan-fault}
+use Rattle.strip.proofs.Faults.{scan-fault, refused-three}
 use Rattle.ynv_read.specs.Parse.{countsOf, parseOutcome}
-use Rattle.write_pages.specs.Sectors.{sectorCount}
+use Rattle.write_pages.specs.Preorder.{sectorCount}
 use Rattle.write_pages.specs.Pages.{sectors, pages}
 use Rattle.write_pages.specs.Checks.{Verdict, fine, refused, onVerdict, cellVerdict, cellOutcome}
 use Rattle.write_pages.specs.Reread.{reread}
@@ -54,7 +55,7 @@ module _ (strip : List ℕ) (work out : ℕ) (work-lent : 4 * length strip ≤ w
 
       by : (s : Scanned) → scan strip ≡ s → shown (onCell (cellOutcome writtenOf (length strip) work out) s) ≡ refusal number place → (number ≡ 3) ⊎ (10 ≤ number)
       by (ok c) e h = inr (on c e (cellVerdict (length strip) work out c) refl h)
-      by (fault m p) e h = let same : m ≡ number = cc in inl (omega (arith, scan-fault strip m p .0 e .0))
+      by (fault m p) e h = let same : m ≡ number = cc in inl (omega (arith, refused-three (scan-fault strip m p .0 e)))
 
   pub never-too-short : (place : ℕ) → shown (serializeOutcome strip work out) ≡ refusal 2 place → ⊥
   never-too-short place said = ⊎-elim (λ e. omega arith) (λ h. omega arith) (writing-enough 2 place said)

@@ -13,13 +13,13 @@ use Rattle.quantise.specs.declared.quarter.QuarterBox.{QuarterBox}
 use Rattle.quantise.specs.declared.bounds.Aabb.{Aabb}
 use Rattle.strip.specs.Cell.{NavPoint}
 use Rattle.write_blocks.specs.Layout.{aligned, placeOf, behind, endOf}
+use Rattle.write_blocks.specs.Laid.{sumOf}
 use Rattle.write_blocks.specs.Lists.{perPart, partCount, partCounts, sizes, partSizes, offsetSizes, listSizes}
-use Rattle.write_pages.specs.Optional.{sizeOf}
+use Rattle.write_blocks.specs.Optional.{sizeOf}
 use Rattle.write_pages.specs.Sectors as Sectors
 use Rattle.write_pages.specs.Sectors.{Sector, quarters, grown, pointCount, byteCount, sub0, sub1, sub2, sub3}
 use Rattle.write_pages.specs.Sectors.Sector.{leaf, node}
-use Rattle.write_header.specs.Ends.{sumOf}
-use Rattle.write_header.proofs.Behind.{sum-append}
+use Rattle.write_blocks.proofs.Layouts.{sum-append}
 
 -- ---- one block
 

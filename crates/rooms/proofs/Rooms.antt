@@ -9,7 +9,7 @@ use Rattle.strip.specs.Cell.{Cell, encode}
 use Rattle.distinct.proofs.Final.{length-distinct}
 use Rattle.write_blocks.specs.Lists.{partCount, listSizes}
 use Rattle.write_pages.specs.Items.{Corner, boxOf, triples}
-use Rattle.write_pages.specs.Optional.{sizeOf}
+use Rattle.write_blocks.specs.Optional.{sizeOf}
 use Rattle.write_pages.specs.Sectors as Sectors
 use Rattle.write_pages.specs.Sectors.{leafIds, treeOf, pointCount, depthBy, depthOf, rootBox}
 use Rattle.write_pages.specs.Pages as Pages
@@ -20,9 +20,9 @@ use Rattle.write_pages.proofs.Placed.{few-corners, at-most-200, pages-placed}
 use Rattle.write_pages.proofs.Sizes.{pages-length}
 use Rattle.write_quadtree.proofs.Picks.{ids-few}
 use Rattle.write_sectors.proofs.Cell.{few-points, cell-leaves}
-use Rattle.write_header.specs.Ends.{sumOf}
-use Rattle.write_header.proofs.Behind.{end-sum, sum-append}
-use Rattle.write_header.proofs.Cells.{sum-some, sum-tree}
+use Rattle.write_blocks.specs.Laid.{sumOf}
+use Rattle.write_blocks.proofs.Layouts.{end-sum, sum-append}
+use Rattle.write_ends.proofs.Cells.{sum-some, sum-tree}
 use Rattle.rooms.specs.Rooms.{pagesRoom, stripRoom}
 use Rattle.rooms.proofs.Ends.{most, end-most, most-append, most-some, list-most, list-sum, treeMost, tree-most, points-bytes}
 use Rattle.write_pages.proofs.Stored.{stored-at-most}

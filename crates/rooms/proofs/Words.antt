@@ -5,14 +5,12 @@ use mathlib.Core.List.{List, [], _∷_, _++_, map}
 use native.Mathlib.Omega.{arith}
 use lib.ListN.{length, length-append, length-map}
 use Rattle.math.specs.declared.vec3.Vec3.{Vec3 as Floats}
-use Rattle.strip.specs.Cell.{NavPoly, Cell, vecWords, edgeWords, each, headWords, polygonHeadAs, polygonWordsAs, polygonWords, portalWords, pointWords, endWords, encodeAs, encode}
-use Rattle.read_records.proofs.Items.{length-each}
-use Rattle.read_records.proofs.Stores.{portal-length}
-use Rattle.read_sectors.proofs.Stores.{point-length}
+use Rattle.strip.specs.Cell.{NavPoly, Cell, vecWords, edgeWords, each, polygonHeadAs, polygonWordsAs, polygonWords, plain, encode}
+use Rattle.strip.proofs.Plain.{length-each, length-encode}
 use Rattle.read_polygon_words.proofs.Words.{vec-three, edge-six}
-use Rattle.ynv_read.proofs.Lengths.{head-length}
 use Rattle.write_pages.specs.Items.{gather, cornersIn, corners, linksOf}
-use Rattle.write_pages.specs.Sectors.{preorder, pointCount}
+use Rattle.write_pages.specs.Sectors.{pointCount}
+use Rattle.write_pages.specs.Preorder.{preorder}
 use Rattle.write_pages.specs.Pages.{allCorners, loOf, extentOf, links, sectors}
 use Rattle.write_pages.specs.Reread.{edgeAgain, positionAgain, polygonAgain, portalAgain, pointAgain, reread}
 use Rattle.write_pages.specs.Accepted.{AllChecked}
@@ -24,7 +22,7 @@ use Rattle.write_pages.proofs.Stored.{length-preorder}
 polygon-words : (p : NavPoly) → length (polygonWords p) ≡ 4 + length (p .links) + 3 * length (p .vertices) + 6 * length (p .edges)
 unfolding polygonWordsAs
 polygon-words p =
-    let front = polygonHeadAs 2 p ∷ p .flags0 ∷ p .flags1 ∷ p .flags2 ∷ p .links in
+    let front = polygonHeadAs plain p ∷ p .flags0 ∷ p .flags1 ∷ p .flags2 ∷ p .links in
     let vs = each vecWords (p .vertices) in
     omega (arith, length-append (front ++ vs) (each edgeWords (p .edges)), length-append front vs, length-each vecWords 3 vec-three (p .vertices), length-each edgeWords 6 edge-six (p .edges))
 
@@ -65,20 +63,11 @@ gather-made f g make same (p ∷ ps) =
 
 -- ---- the whole
 
-encode-words : (c : Cell) → length (encode c) ≡ 15 + length (each polygonWords (c .polys)) + 11 * length (c .portals) + 4 * length (c .points)
-unfolding encodeAs
-encode-words c =
-    let h = headWords (c .head) in
-    let p = each polygonWords (c .polys) in
-    let q = each portalWords (c .portals) in
-    let t = each pointWords (c .points) in
-    omega (arith, length-append (h ++ p ++ q ++ t) endWords, length-append (h ++ p ++ q) t, length-append (h ++ p) q, length-append h p, head-length (c .head), length-each portalWords 11 portal-length (c .portals), length-each pointWords 4 point-length (c .points))
-
 module _ (c : Cell) where
   -- edges may be missing
   pub words-least : 15 + 4 * length (c .polys) + length (links c) + 3 * length (allCorners c) + 11 * length (c .portals) + 4 * length (c .points) ≤ length (encode c)
   unfolding links
-  words-least = omega (arith, encode-words c, polygons-words (loOf c) (extentOf c) (c .polys))
+  words-least = omega (arith, length-encode c, polygons-words (loOf c) (extentOf c) (c .polys))
 
   -- and are there when the cell is read again; points that were dropped are not
   pub words-again : length (encode (reread c))
@@ -96,7 +85,7 @@ module _ (c : Cell) where
       gather-made (λ p. p .edges) (cornersIn bb-min bb-size) again (λ p. length-map (cornersIn bb-min bb-size p) (λ k. edgeAgain (k .edge))) (c .polys) in
       omega (
         arith,
-        encode-words (reread c),
+        length-encode (reread c),
         polygons-words bb-min bb-size (map again (c .polys)),
         length-map (c .polys) again,
         length-map (c .portals) (portalAgain bb-min bb-size),

@@ -1,14 +1,15 @@
 -- The cell that is read again fits a strip where the cell that was saved does, so that its words scan to it. Assumes nothing.
 use native.Mathlib.Omega.{arith}
-use mathlib.Core.Path.{_≡_, refl, _∙_}
+use mathlib.Core.Path.{_≡_, _∙_}
 use lib.ListN.{length-map}
 use Rattle.math.specs.declared.vec3.Vec3.{Vec3 as Floats}
-use Rattle.strip.specs.Cell.{NavEdgeEnd, NavEdge, NavPoly, NavPortal, NavPoint, Cell, HalfFits, EdgeFits, PolygonFits, PortalFits, PointFits, Fits, encode}
+use Rattle.strip.specs.Cell.{NavEdgeEnd, NavEdge, NavPoly, NavPortal, NavPoint, Cell, plain, encode}
+use Rattle.strip.specs.Fits.{HalfFits, EdgeFits, PolygonFits, PortalFits, PointFits, Fits}
 use Rattle.strip.specs.Scan.{Scanned, scan}
-use Rattle.strip.proofs.Exact.{scan-fits}
+use Rattle.strip.proofs.Readback.{scan-encode}
 use Rattle.strip.proofs.Alls.{all-map, all-images}
 use Rattle.write_pages.specs.Items.{cornersIn}
-use Rattle.write_pages.specs.Sectors.{preorder}
+use Rattle.write_pages.specs.Preorder.{preorder}
 use Rattle.write_pages.specs.Pages.{loOf, extentOf, sectors}
 use Rattle.write_pages.specs.Reread.{halfAgain, edgeAgain, positionAgain, polygonAgain, portalAgain, pointAgain, reread}
 use Rattle.write_pages.proofs.Placed.{length-corners}
@@ -62,4 +63,4 @@ reread-fits c f = record {
 }
 
 pub reread-scans : (c : Cell) → Fits c → scan (encode (reread c)) ≡ Scanned.ok (reread c)
-reread-scans c f = scan-fits (encode (reread c)) (reread c) .1 (reread-fits c f, refl)
+reread-scans c f = scan-encode plain (reread c) (reread-fits c f)

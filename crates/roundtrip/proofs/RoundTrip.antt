@@ -12,7 +12,8 @@ use lib.Dec.{leb}
 use lib.ListN.{length, take, drop}
 use lib.Seq.{take-append-seam}
 use borrow.Author.Tests.{leb-true, leb-false}
-use Rattle.strip.specs.Cell.{NavPortal, Cell, Words, InRange, encode}
+use Rattle.strip.specs.Cell.{NavPortal, Cell, encode}
+use Rattle.strip.specs.Fits.{Words, InRange}
 use Rattle.strip.specs.Outcome.{Outcome, values, refusal, shown, left}
 use Rattle.strip.specs.Outcome as Outcome
 use Rattle.strip.proofs.Exact.{scan-exact}
@@ -21,7 +22,7 @@ use Rattle.read_grammar.specs.Derives.{Derives}
 use Rattle.ynv_read.specs.declared.Parsed.{Parsed}
 use Rattle.ynv_read.specs.Parse.{countsOf}
 use Rattle.ynv_read.proofs.Theorems.{accepted-exactly as read-exactly, too-short-exactly}
-use Rattle.write_pages.specs.Sectors.{sectorCount, preorder}
+use Rattle.write_pages.specs.Preorder.{sectorCount, preorder}
 use Rattle.write_pages.specs.Pages.{loOf, extentOf, sectors, pages}
 use Rattle.write_pages.specs.Checks.{refused}
 use Rattle.write_pages.specs.Reread.{portalAgain, pointAgain, reread}

@@ -10,7 +10,7 @@ use Rattle.strip.specs.Outcome.{Outcome, values, refusal, shown, left}
 use Rattle.read_grammar.specs.Polygons.{Each}
 use Rattle.ynv_read.specs.declared.Parsed.{Parsed}
 use Rattle.ynv_read.specs.Parse.{countsOf, parseOutcome}
-use Rattle.write_pages.specs.Sectors.{sectorCount, preorder}
+use Rattle.write_pages.specs.Preorder.{sectorCount, preorder}
 use Rattle.write_pages.specs.Pages.{sectors, pages}
 use Rattle.write_pages.specs.Reread.{reread}
 use Rattle.readback.specs.Kept.{PolygonKept}

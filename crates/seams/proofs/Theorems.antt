@@ -7,15 +7,15 @@ use native.Mathlib.Omega.{arith}
 use Rattle.strip.specs.Scan.{Scanned, ok, fault, scan}
 use Rattle.strip.specs.Outcome.{refused}
 use Rattle.strip.specs.Check.{onCell}
-use Rattle.strip.proofs.Faults.{Fault, scan-fault}
+use Rattle.strip.proofs.Faults.{Refused, scan-fault}
 use Rattle.seams.specs.Seams.{touch, seamed, seamOutcome}
 
 refused-on : (s : List ℕ) (number place : ℕ) (d : Scanned) → scan s ≡ d → onCell seamed d ≡ refused number place → scan s ≡ fault number place
 refused-on s number place (ok c) e h = let z : _≡_ {A = ℕ} 0 1 = cc in absurd (omega arith)
 refused-on s number place (fault n p) e h = let k : fault n p ≡ fault number place = cc in e ∙ k
 
-pub refused-three : (s : List ℕ) (number place : ℕ) → seamOutcome s ≡ refused number place → (number ≡ 3) × Fault s place
-refused-three s number place h = scan-fault s number place .0 (refused-on s number place (scan s) refl h)
+pub refused-named : (s : List ℕ) (number place : ℕ) → seamOutcome s ≡ refused number place → Refused s number place
+refused-named s number place h = scan-fault s number place .0 (refused-on s number place (scan s) refl h)
 
 -- the next area and the next row touch; nothing wraps
 next-row : touch 99 199 ≡ true

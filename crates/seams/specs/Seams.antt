@@ -1,9 +1,10 @@
 -- The seam count: the halves of all of a strip's edges, surplus ones too, whose area differs from the cell's by 1 or 100 as whole numbers. Definitions only.
 use Prim.Native.Nat.{ℕ, _+_, _-_}
 use mathlib.Core.List.{List, [], _∷_}
-use mathlib.Core.Bool.{Bool, true, false, _||_}
+use mathlib.Core.Bool.{Bool, _||_}
 use lib.Dec.{eqb}
 use Rattle.strip.specs.Cell.{Cell, NavEdgeEnd, NavEdge, NavPoly}
+use Rattle.strip.specs.Tests.{one}
 use Rattle.strip.specs.Scan.{scan}
 use Rattle.strip.specs.Outcome.{Outcome, done, Paper, values, refusalOf}
 use Rattle.strip.specs.Check.{onCell}
@@ -21,10 +22,6 @@ touch a b = eqb (apart a b) 1 || eqb (apart a b) 100
 -- which halves are counted in the cell of an area
 unfoldable pub counted : ℕ → NavEdgeEnd → Bool
 counted own h = touch own (h .area)
-
-abbrev pub one : Bool → ℕ
-one true = 1
-one false = 0
 
 -- how many halves pass a test, of edges and of polygons
 unfoldable pub edgeCount : (NavEdgeEnd → Bool) → List NavEdge → ℕ

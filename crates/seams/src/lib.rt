@@ -2,10 +2,17 @@
 ghost use mathlib.Core.Path.{_≡_};
 ghost use Prim.Native.Nat.{_+_, _*_, _≤_};
 ghost use lib.ListN.{length};
-ghost use Rattle.strip.specs.Reading.{halfAt, edgesAt, polygonsAt, afterPolygons};
+ghost use Rattle.fields.specs.Bytes.{over};
+ghost use Rattle.answers.specs.Words.{numberOf, answerWords};
+ghost use Rattle.strip.specs.Reading.{halfAt, edgesAt};
+ghost use Rattle.strip.specs.Rows.{polygonsAt, afterPolygons};
+ghost use Rattle.strip.specs.Tests.{one};
 ghost use Rattle.strip.specs.Outcome.{shown};
 ghost use Rattle.seams.specs.Seams as Seams;
-ghost use Rattle.seams.specs.Seams.{one, counted, edgeCount, halfCount, paper, seamOutcome};
+ghost use Rattle.seams.specs.Seams.{counted, edgeCount, halfCount, paper, seamOutcome};
+ghost use Rattle.seams.specs.Entries.{seamWords};
+use answers::accept;
+use answers::refuse;
 use strip::Refusal;
 use strip::StripAnswer;
 
@@ -75,5 +82,16 @@ pub fn count_seams(strip: &[u32]) -> SeamAnswer
             SeamAnswer::Count(poly_seams(strip, polys, strip[2]))
         }
         StripAnswer::Refused(r) => SeamAnswer::Refused(r),
+    }
+}
+
+// `count_seams` for C: the count.
+pub fn seams_entry(strip: &[u32], answer: &mut [u64; 8]) -> u32
+    ensures number { λ r. ⌜ r ≡ numberOf (shown (seamOutcome (now (strip .entry)))) ⌝ }
+    ensures words { λ _. ⌜ now (answer .exit) ≡ over (answerWords seamWords (shown (seamOutcome (now (strip .entry))))) (now (answer .entry)) ⌝ }
+{
+    match count_seams(strip) {
+        SeamAnswer::Count(n) => accept(answer, &[n]),
+        SeamAnswer::Refused(r) => refuse(answer, r),
     }
 }

@@ -2,7 +2,7 @@
 use mathlib.Core.List.{List, [], _∷_, _++_, map}
 use Prim.Native.Nat.{ℕ, zero, suc}
 use lib.ListN.{take, drop, getD}
-use Rattle.strip.specs.Cell.{All}
+use Rattle.strip.specs.Fits.{All}
 
 module _ {A : Type 0} (P : A → Type 0) where
   pub all-take : (n : ℕ) (l : List A) → All P l → All P (take n l)

@@ -5,7 +5,8 @@ use mathlib.Core.List.{List, [], _∷_}
 use native.Mathlib.Nat.{mod-mod, mod-add-div, mod-eq-of-lt, div-one}
 use native.Mathlib.Omega.{arith}
 use lib.Pow.{shr-shr}
-use Rattle.fields.specs.Rows.{pack, field, rowAt, rowSize}
+use Rattle.fields.specs.Rows.{pack, field}
+use Rattle.fields.specs.RowPlaces.{rowAt, rowSize}
 use Rattle.fields.proofs.Rows.{bits-back, pack-lt}
 use Rattle.strip.specs.Scan.{kindOf}
 

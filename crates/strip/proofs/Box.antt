@@ -4,7 +4,7 @@ use mathlib.Core.Path.{_≡_, sym, _∙_}
 use mathlib.Core.Bool.{Bool, true, false, not, _&&_, and-eq-true-iff}
 use Rattle.strip.specs.Cell.{Vec3, Head}
 use Rattle.strip.specs.Box.{finiteBits, finiteVec, finiteBox}
-pub use Rattle.strip.specs.Box.{FiniteVec, FiniteBox}
+pub use Rattle.strip.specs.FiniteBox.{FiniteVec, FiniteBox}
 
 vec-finite : (v : Vec3) → finiteVec v ≡ true → FiniteVec v
 vec-finite v e =

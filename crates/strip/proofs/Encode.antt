@@ -8,9 +8,9 @@ use native.Mathlib.Numerals.{add-one}
 use lib.ListN.{length, drop, drop-of-length-le}
 use lib.Seq.{drop-cons}
 use Rattle.fields.specs.Rows.{pack, field}
-use Rattle.strip.specs.Cell.{Cell, NavPoly, NavPortal, NavPoint, vecWords, halfWords, edgeWords, each, polygonHeadAs, polygonWordsAs, polygonWords, portalWords, pointWords, headWords, endWords, encodeAs, encode}
+use Rattle.strip.specs.Cell.{Cell, NavPoly, NavPortal, NavPoint, vecWords, halfWords, edgeWords, each, polygonHeadAs, polygonWordsAs, polygonWords, portalWords, pointWords, headWords, endWords, plain, encodeAs, encode}
 use Rattle.strip.specs.Reading.{word, itemsAt, wordsAt, vecAt, vecsAt, edgeAt, edgesAt, polyAt, polygonOf, polygonAt, portalAt, pointAt, headAt}
-use Rattle.strip.specs.Scan.{Rest, Scanned, kindOf, onRecord, withPolygon, withPortal, withPoint, withHead, restFrom, restAt, scan}
+use Rattle.strip.specs.Scan.{Rest, Scanned, kindOf, polygonRank, cellRank, portalRank, pointRank, onRecord, withPolygon, withPortal, withPoint, withHead, restFrom, restAt, scan}
 use Rattle.strip.specs.declared.Record.{Record}
 use Rattle.strip.proofs.Steps.{items-length}
 use Rattle.strip.proofs.Bits.{counts-word, bytes-word, bare-word}
@@ -73,33 +73,34 @@ module _ (s : List ℕ) where
       let e : pack ((28, 0) ∷ (4, 1) ∷ []) ≡ word s 0 = bare-word 1 _ (omega arith) k l in
       ap (λ (w : ℕ). w ∷ wordsAt s 1 13) e
 
-  polygon-head : (at : ℕ) → kindOf (word s at) ≡ 2 → polygonHeadAs 2 (polygonAt s at) ≡ word s at
+  polygon-head : (at : ℕ) → kindOf (word s at) ≡ 2 → polygonHeadAs plain (polygonAt s at) ≡ word s at
   unfolding polygonHeadAs polygonOf polyAt
   polygon-head at k =
       let e : pack ((12, field 0 12 (word s at)) ∷ (12, field 12 12 (word s at)) ∷ (4, field 24 4 (word s at)) ∷ (4, 2) ∷ []) ≡ word s at = counts-word 2 _ (omega arith) k in
       simp (items-length, e)
 
-  four : (at : ℕ) → wordsAt s at 4 ≡ word s at ∷ word s (at + 1) ∷ word s (at + 2) ∷ word s (at + 3) ∷ []
+  three : (at : ℕ) → wordsAt s at 3 ≡ word s at ∷ word s (at + 1) ∷ word s (at + 2) ∷ []
   unfolding itemsAt
-  four at = simp add-assoc
+  three at = simp add-assoc
 
   polygon-cut : (at : ℕ) → kindOf (word s at) ≡ 2 → polyAt s at .next ≤ length s → drop at s ≡ polygonWords (polygonAt s at) ++ drop (polyAt s at .next) s
   unfolding polygonWordsAs polygonOf polyAt
   polygon-cut at k r =
       let p = polyAt s at in
-      let l = wordsAt s (at + 4) (p .links) in
+      let f = p .«flags_at» in
+      let l = wordsAt s (p .«link_at») (p .links) in
       let v = each vecWords (vecsAt s (p .«vertex_at») (p .vertices)) in
       let e = each edgeWords (edgesAt s (p .«edge_at») (p .edges)) in
       let d = drop (p .next) s in
-      words-cut 4 at (omega arith)
-      ∙ ap (λ (x : List ℕ). x ++ drop (at + 4) s) (four at)
-      ∙ ap (λ (x : List ℕ). word s at ∷ word s (at + 1) ∷ word s (at + 2) ∷ word s (at + 3) ∷ x)
-      (words-cut (p .links) (at + 4) (omega arith)
+      word-cut at (omega arith)
+      ∙ ap (λ (x : List ℕ). word s at ∷ x) (words-cut 3 f (omega arith) ∙ ap (λ (x : List ℕ). x ++ drop (p .«link_at») s) (three f))
+      ∙ ap (λ (x : List ℕ). word s at ∷ word s f ∷ word s (f + 1) ∷ word s (f + 2) ∷ x)
+      (words-cut (p .links) (p .«link_at») (omega arith)
       ∙ ap (λ (x : List ℕ). l ++ x)
       (items-cut vecWords (vecAt s) 3 vec-words (p .vertices) (p .«vertex_at») (omega arith)
       ∙ ap (λ (x : List ℕ). v ++ x) (items-cut edgeWords (edgeAt s) 6 edge-words (p .edges) (p .«edge_at») (omega arith))))
-      ∙ join (word s at) (word s (at + 1)) (word s (at + 2)) (word s (at + 3)) l v e d
-      ∙ ap (λ (h : ℕ). (h ∷ word s (at + 1) ∷ word s (at + 2) ∷ word s (at + 3) ∷ l ++ v ++ e) ++ d) (sym (polygon-head at k))
+      ∙ join (word s at) (word s f) (word s (f + 1)) (word s (f + 2)) l v e d
+      ∙ ap (λ (h : ℕ). (h ∷ word s f ∷ word s (f + 1) ∷ word s (f + 2) ∷ l ++ v ++ e) ++ d) (sym (polygon-head at k))
 
 -- the words after the cell's record
 unfoldable pub restWords : List NavPoly → List NavPortal → List NavPoint → List ℕ
@@ -119,13 +120,13 @@ module _ (s : List ℕ) (at : ℕ) where
   words-polygon e (Rest.good ps qs ts) h = front (polygonWords (polygonAt s at)) _ _ h e
   words-polygon e (Rest.bad place) h = tt
 
-  words-portal : drop at s ≡ portalWords (portalAt s at) ++ drop (at + 11) s → (r : Rest) → LaidRest s (at + 11) 3 r → Encoded s (at + 11) r → Encoded s at (withPortal (portalAt s at) r)
+  words-portal : drop at s ≡ portalWords (portalAt s at) ++ drop (at + 11) s → (r : Rest) → LaidRest s (at + 11) portalRank r → Encoded s (at + 11) r → Encoded s at (withPortal (portalAt s at) r)
   unfolding restWords each
   words-portal e (Rest.good [] qs ts) l h = front (portalWords (portalAt s at)) _ _ h e
   words-portal e (Rest.good (p ∷ ps) qs ts) l h = absurd (omega (arith, l .no-polys (omega arith)))
   words-portal e (Rest.bad place) l h = tt
 
-  words-point : drop at s ≡ pointWords (pointAt s at) ++ drop (at + 4) s → (r : Rest) → LaidRest s (at + 4) 4 r → Encoded s (at + 4) r → Encoded s at (withPoint (pointAt s at) r)
+  words-point : drop at s ≡ pointWords (pointAt s at) ++ drop (at + 4) s → (r : Rest) → LaidRest s (at + 4) pointRank r → Encoded s (at + 4) r → Encoded s at (withPoint (pointAt s at) r)
   unfolding restWords each
   words-point e (Rest.good [] [] ts) l h = front (pointWords (pointAt s at)) _ _ h e
   words-point e (Rest.good [] (q ∷ qs) ts) l h = absurd (omega (arith, l .no-portals (omega arith)))
@@ -141,11 +142,11 @@ module _ (s : List ℕ) (at : ℕ) where
   words-on : (rank : ℕ) (go : ℕ → ℕ → Rest) → ((n l : ℕ) → 1 ≤ l → LaidRest s n l (go n l)) → ((n l : ℕ) → 1 ≤ l → Encoded s n (go n l)) → 1 ≤ rank
       → {r : Record} → Judged s at rank r → Encoded s at (onRecord r go s at)
   words-on rank go h w o (cell k l r) = absurd (omega arith)
-  words-on rank go h w o (polygon k l r t) = words-polygon (polygon-cut s at k r) (go (polyAt s at .next) 2) (w _ _ (omega arith))
+  words-on rank go h w o (polygon k l r t) = words-polygon (polygon-cut s at k r) (go (polyAt s at .next) polygonRank) (w _ _ (omega arith))
   words-on rank go h w o (portal k l r t) =
-      words-portal (words-cut s 11 at r ∙ ap (λ (x : List ℕ). x ++ drop (at + 11) s) (sym (portal-words s at k (l .bits)))) (go (at + 11) 3) (h _ _ (omega arith)) (w _ _ (omega arith))
+      words-portal (words-cut s 11 at r ∙ ap (λ (x : List ℕ). x ++ drop (at + 11) s) (sym (portal-words s at k (l .bits)))) (go (at + 11) portalRank) (h _ _ (omega arith)) (w _ _ (omega arith))
   words-on rank go h w o (point k l r) =
-      words-point (words-cut s 4 at r ∙ ap (λ (x : List ℕ). x ++ drop (at + 4) s) (sym (point-words s at k (l .bits)))) (go (at + 4) 4) (h _ _ (omega arith)) (w _ _ (omega arith))
+      words-point (words-cut s 4 at r ∙ ap (λ (x : List ℕ). x ++ drop (at + 4) s) (sym (point-words s at k (l .bits)))) (go (at + 4) pointRank) (h _ _ (omega arith)) (w _ _ (omega arith))
   words-on rank go h w o (end k l r t) = words-end k (l .bits) r t
   words-on rank go h w o (bad place) = tt
 
@@ -166,8 +167,8 @@ words-head s (Rest.bad place) e h = tt
 words-first : (s : List ℕ) {r : Record} → Judged s 0 0 r → EncodedCell s (withHead (headAt s 0) (onRecord r (restAt s) s 0))
 unfolding restAt
 words-first s (cell k l r) =
-    words-head s (restAt s 14 1) (words-cut s 14 0 r ∙ ap (λ (x : List ℕ). x ++ drop 14 s) (sym (head-words s k (l .bits))))
-    (words-from (suc (length s - 14)) s 14 1 (omega arith))
+    words-head s (restAt s 14 cellRank) (words-cut s 14 0 r ∙ ap (λ (x : List ℕ). x ++ drop 14 s) (sym (head-words s k (l .bits))))
+    (words-from (suc (length s - 14)) s 14 cellRank (omega arith))
 words-first s (polygon k l r t) = absurd (omega arith)
 words-first s (portal k l r t) = absurd (omega arith)
 words-first s (point k l r) = absurd (omega arith)

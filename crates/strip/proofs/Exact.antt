@@ -8,9 +8,10 @@ use native.Mathlib.Omega.{arith}
 use lib.ListN.{length}
 use lib.Dec.{ltb}
 use borrow.Author.Tests.{ltb-true}
-use Rattle.strip.specs.Cell.{Cell, NavPoly, NavPortal, NavPoint, encode, All, HalfFits, EdgeFits, PolygonFits, PortalFits, PointFits, Fits, Words, InRange}
+use Rattle.strip.specs.Cell.{Cell, NavPoly, NavPortal, NavPoint, plain, encode}
+use Rattle.strip.specs.Fits.{All, HalfFits, EdgeFits, PolygonFits, PortalFits, PointFits, Fits, Words, InRange}
 use Rattle.strip.specs.Reading.{word, itemsAt, wordsAt, edgesAt, halfAt, polyAt, polygonOf, polygonAt, portalAt, pointAt, headAt}
-use Rattle.strip.specs.Scan.{Rest, Scanned, allBelow, edgesFit, polyFits, portalFits, onRecord, withPolygon, withPortal, withPoint, withHead, restFrom, restAt, scan}
+use Rattle.strip.specs.Scan.{Rest, Scanned, polygonRank, cellRank, portalRank, pointRank, allBelow, edgesFit, polyFits, portalFits, onRecord, withPolygon, withPortal, withPoint, withHead, restFrom, restAt, scan}
 use Rattle.strip.specs.declared.Record.{Record}
 use Rattle.strip.proofs.Judged.{Judged, cell, polygon, portal, point, end, bad, judged, both}
 use Rattle.strip.proofs.Steps.{items-length}
@@ -41,8 +42,8 @@ module _ (s : List ℕ) where
   unfolding polyFits polyAt polygonOf
   polygon-fits at e =
       let p = polyAt s at in
-      let b : (ltb (word s (at + 1)) 65536 ≡ true) × ((allBelow s (at + 4) (p .links) 65536 && edgesFit s (p .«edge_at») (p .edges)) ≡ true) = both _ _ e in
-      let d : (allBelow s (at + 4) (p .links) 65536 ≡ true) × (edgesFit s (p .«edge_at») (p .edges) ≡ true) = both _ _ (b .1) in
+      let b : (ltb (word s (p .«flags_at»)) 65536 ≡ true) × ((allBelow s (p .«link_at») (p .links) 65536 && edgesFit s (p .«edge_at») (p .edges)) ≡ true) = both _ _ e in
+      let d : (allBelow s (p .«link_at») (p .links) 65536 ≡ true) × (edgesFit s (p .«edge_at») (p .edges) ≡ true) = both _ _ (b .1) in
       record {
         link-count = rw items-length (omega arith);
         vertex-count = rw items-length (omega arith);
@@ -92,10 +93,10 @@ fits-point t f (Rest.good ps qs ts) h = record { polys = h .polys; portals = h .
 fits-point t f (Rest.bad place) h = tt
 
 fits-on : (s : List ℕ) (at rank : ℕ) (go : ℕ → ℕ → Rest) → ((n l : ℕ) → FitsRest (go n l)) → {r : Record} → Judged s at rank r → FitsRest (onRecord r go s at)
-fits-on s at rank go h (cell k l r) = h (at + 14) 1
-fits-on s at rank go h (polygon k l r t) = fits-polygon (polygonAt s at) (polygon-fits s at t) (go (polyAt s at .next) 2) (h _ _)
-fits-on s at rank go h (portal k l r t) = fits-portal (portalAt s at) (portal-fits s at t) (go (at + 11) 3) (h _ _)
-fits-on s at rank go h (point k l r) = fits-point (pointAt s at) (point-fits s at) (go (at + 4) 4) (h _ _)
+fits-on s at rank go h (cell k l r) = h (at + 14) cellRank
+fits-on s at rank go h (polygon k l r t) = fits-polygon (polygonAt s at) (polygon-fits s at t) (go (polyAt s at .next) polygonRank) (h _ _)
+fits-on s at rank go h (portal k l r t) = fits-portal (portalAt s at) (portal-fits s at t) (go (at + 11) portalRank) (h _ _)
+fits-on s at rank go h (point k l r) = fits-point (pointAt s at) (point-fits s at) (go (at + 4) pointRank) (h _ _)
 fits-on s at rank go h (end k l r t) = record { polys = tt; portals = tt; points = tt }
 fits-on s at rank go h (bad place) = tt
 
@@ -118,7 +119,7 @@ fits-all s = fits-head s (restAt s 0 0) (fits-from (suc (length s - 0)) s 0 0)
 
 -- A list of numbers scans to a cell exactly when the cell fits and the list is its strip.
 pub scan-fits : (s : List ℕ) (c : Cell) → (scan s ≡ Scanned.ok c) ↔ (Fits c × (encode c ≡ s))
-scan-fits s c = (λ e. (rw e at (fits-all s), encode-scan s c e), λ h. rw (← h .1) (scan-encode c (h .0)))
+scan-fits s c = (λ e. (rw e at (fits-all s), encode-scan s c e), λ h. rw (← h .1) (scan-encode plain c (h .0)))
 
 -- Of words: a strip is well formed exactly when it is the strip of a cell in range, and that is the cell that it stands for.
 pub scan-exact : (s : List ℕ) → Words s → (c : Cell) → (scan s ≡ Scanned.ok c) ↔ (InRange c × (encode c ≡ s))
@@ -129,7 +130,7 @@ scan-exact s w c =
 -- no two cells have one strip
 pub encode-injective : (c d : Cell) → Fits c → Fits d → encode c ≡ encode d → c ≡ d
 encode-injective c d f g e =
-    let a = scan-encode c f in
-    let b = scan-encode d g in
+    let a = scan-encode plain c f in
+    let b = scan-encode plain d g in
     let k : Scanned.ok c ≡ Scanned.ok d = sym a ∙ ap scan e ∙ b in
     cc

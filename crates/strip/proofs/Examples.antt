@@ -5,7 +5,7 @@ use mathlib.Core.List.{List, [], _∷_, _++_}
 use Rattle.strip.specs.Reading.{headAt, polyAt}
 use Rattle.strip.specs.Scan.{firstGood, allBelow, edgesFit, polyFits, cellRecord, polygonRecord, portalRecord, endRecord, recordOf, recordAt, restFrom, restAt, scan}
 use Rattle.strip.specs.Outcome.{Paper, refusal, values, shown}
-use Rattle.strip.specs.Check.{stripOutcome}
+use Rattle.strip.specs.Checked.{stripOutcome}
 use Rattle.strip.specs.declared.Counts.{Counts}
 
 answer : List ℕ → Paper Counts

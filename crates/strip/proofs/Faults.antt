@@ -7,12 +7,12 @@ use native.Mathlib.Omega.{arith}
 use lib.ListN.{length}
 use Rattle.strip.specs.Cell.{Head, NavPoly, NavPortal, NavPoint}
 use Rattle.strip.specs.Reading.{polyAt, polygonAt, portalAt, pointAt, headAt}
-use Rattle.strip.specs.Scan.{Rest, Scanned, recordAt, onRecord, withPolygon, withPortal, withPoint, withHead, restAt, scan}
+use Rattle.strip.specs.Scan.{Rest, Scanned, polygonRank, cellRank, portalRank, pointRank, recordAt, onRecord, withPolygon, withPortal, withPoint, withHead, restAt, scan}
 use Rattle.strip.specs.declared.Record.{Record}
 use Rattle.strip.specs.declared.Record.the-variants.{Cell as IsCell, Polygon as IsPolygon, Portal as IsPortal, Point as IsPoint, End as IsEnd, Bad as IsBad}
 use Rattle.strip.specs.Faults.{Place, Goes, nextOf, rankOf, Reached, start, step}
 use Rattle.strip.proofs.Judged.{Judged, cell, polygon, portal, point, end, bad, judged, poly-next, rest-step}
-pub use Rattle.strip.specs.Faults.{Fault}
+pub use Rattle.strip.specs.Faults.{Fault, Refused, badly-formed}
 
 module _ (s : List ℕ) where
   abbrev Faulty : Rest → Type 0
@@ -33,14 +33,14 @@ module _ (s : List ℕ) where
 
   faulty-on : (at rank : ℕ) → Reached s at rank → ((n l : ℕ) → at < n → n ≤ length s → Reached s n l → Faulty (restAt s n l))
       → {r : Record} → recordAt s at rank ≡ r → Judged s at rank r → Faulty (onRecord r (restAt s) s at)
-  faulty-on at rank h go e (cell k o r) = go (at + 14) 1 (omega arith) r (step h IsCell e tt)
+  faulty-on at rank h go e (cell k o r) = go (at + 14) cellRank (omega arith) r (step h IsCell e tt)
   faulty-on at rank h go e (polygon k o r t) =
-      faulty-polygon (polygonAt s at) (restAt s (polyAt s at .next) 2)
-      (go (polyAt s at .next) 2 (omega (arith, poly-next s at)) r (step h (IsPolygon (polyAt s at)) e tt))
+      faulty-polygon (polygonAt s at) (restAt s (polyAt s at .next) polygonRank)
+      (go (polyAt s at .next) polygonRank (omega (arith, poly-next s at)) r (step h (IsPolygon (polyAt s at)) e tt))
   faulty-on at rank h go e (portal k o r t) =
-      faulty-portal (portalAt s at) (restAt s (at + 11) 3) (go (at + 11) 3 (omega arith) r (step h IsPortal e tt))
+      faulty-portal (portalAt s at) (restAt s (at + 11) portalRank) (go (at + 11) portalRank (omega arith) r (step h IsPortal e tt))
   faulty-on at rank h go e (point k o r) =
-      faulty-point (pointAt s at) (restAt s (at + 4) 4) (go (at + 4) 4 (omega arith) r (step h IsPoint e tt))
+      faulty-point (pointAt s at) (restAt s (at + 4) pointRank) (go (at + 4) pointRank (omega arith) r (step h IsPoint e tt))
   faulty-on at rank h go e (end k o r t) = tt
   faulty-on at rank h go e (bad p) = record { at = at; rank = rank; reached = h; found = e; named = p }
 
@@ -52,11 +52,11 @@ module _ (s : List ℕ) where
 
   abbrev FaultyCell : Scanned → Type 0
   FaultyCell (Scanned.ok c) = Unit
-  FaultyCell (Scanned.fault number place) = (number ≡ 3) × Fault s place
+  FaultyCell (Scanned.fault number place) = Refused s number place
 
   faulty-head : (h : Head) (r : Rest) → Faulty r → FaultyCell (withHead h r)
   faulty-head h (Rest.good ps qs ts) f = tt
-  faulty-head h (Rest.bad place) f = (refl, f)
+  faulty-head h (Rest.bad place) f = badly-formed f
 
   faulty-all : FaultyCell (scan s)
   unfolding scan
@@ -83,6 +83,16 @@ module _ (s : List ℕ) (place : ℕ) where
       let here : restAt s (f .at) (f .rank) ≡ Rest.bad place = rest-step s (f .at) (f .rank) ∙ ap (λ (x : Record). onRecord x (restAt s) s (f .at)) (f .found) in
       ap (withHead (headAt s 0)) (bad-back (f .reached) here)
 
+refused-back : (s : List ℕ) {number place : ℕ} → Refused s number place → scan s ≡ Scanned.fault number place
+refused-back s (badly-formed {place} f) = fault-back s place f
+
 -- A strip is refused exactly when its records are good up to one that is bad; the number is 3, and the place as `Place` has it.
-pub scan-fault : (s : List ℕ) (number place : ℕ) → (scan s ≡ Scanned.fault number place) ↔ ((number ≡ 3) × Fault s place)
-scan-fault s number place = (λ e. rw e at (faulty-all s), λ h. rw (h .0) (fault-back s place (h .1)))
+pub scan-fault : (s : List ℕ) (number place : ℕ) → (scan s ≡ Scanned.fault number place) ↔ Refused s number place
+scan-fault s number place = (λ e. rw e at (faulty-all s), refused-back s)
+
+-- what calls need of its number
+pub refused-three : {s : List ℕ} {number place : ℕ} → Refused s number place → number ≡ 3
+refused-three (badly-formed f) = refl
+
+pub refused-above-zero : {s : List ℕ} {number place : ℕ} → Refused s number place → 0 < number
+refused-above-zero r = omega (arith, refused-three r)

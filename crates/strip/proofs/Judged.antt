@@ -12,10 +12,11 @@ use borrow.Author.Tests.{ltb-true, leb-true, leb-false}
 use Rattle.fields.specs.Rows.{field}
 use Rattle.strip.specs.Cell.{Head, NavPoly, NavPortal, NavPoint}
 use Rattle.strip.specs.Reading.{word, polyAt, polygonAt, portalAt, pointAt, headAt}
-use Rattle.strip.specs.Scan.{Rest, check, kindOf, firstGood, polyFits, portalFits, cellRecord, polygonRecord, portalRecord, pointRecord, endRecord, recordOf, recordAt, onRecord, withPolygon, withPortal, withPoint, restFrom, restAt, withHead, scan}
+use Rattle.strip.specs.Scan.{Rest, check, kindOf, polygonRank, cellRank, portalRank, pointRank, firstGood, polyFits, portalFits, cellRecord, polygonRecord, portalRecord, pointRecord, endRecord, recordOf, recordAt, onRecord, withPolygon, withPortal, withPoint, restFrom, restAt, withHead, scan}
 use Rattle.strip.specs.Faults.{Place, here, short, more, nextOf}
 use Rattle.strip.specs.Outcome.{Paper, refusal, values, shown}
-use Rattle.strip.specs.Check.{onCell, countsOf, stripOutcome}
+use Rattle.strip.specs.Check.{onCell}
+use Rattle.strip.specs.Checked.{countsOf, stripOutcome}
 use Rattle.strip.specs.declared.Counts.{Counts}
 use Rattle.strip.specs.declared.Poly.{Poly}
 use Rattle.strip.specs.declared.Record.{Record}
@@ -42,11 +43,11 @@ first low high limit rank w e =
 -- all that is known of a record
 pub data Judged (s : List ℕ) (at rank : ℕ) : Record → Type 0 where
   cell : kindOf (word s at) ≡ 1 → First 0 0 1 rank (word s at) → at + 14 ≤ length s → Judged s at rank IsCell
-  polygon : kindOf (word s at) ≡ 2 → First 1 2 (2 ^ 28) rank (word s at) → polyAt s at .next ≤ length s → polyFits s (polyAt s at) ≡ true
+  polygon : kindOf (word s at) ≡ 2 → First polygonRank cellRank (2 ^ 28) rank (word s at) → polyAt s at .next ≤ length s → polyFits s (polyAt s at) ≡ true
       → Judged s at rank (IsPolygon (polyAt s at))
-  portal : kindOf (word s at) ≡ 3 → First 1 3 (2 ^ 16) rank (word s at) → at + 11 ≤ length s → portalFits s at ≡ true → Judged s at rank IsPortal
-  point : kindOf (word s at) ≡ 4 → First 1 4 (2 ^ 16) rank (word s at) → at + 4 ≤ length s → Judged s at rank IsPoint
-  end : kindOf (word s at) ≡ 5 → First 1 4 1 rank (word s at) → at < length s → length s ≤ at + 1 → Judged s at rank IsEnd
+  portal : kindOf (word s at) ≡ 3 → First polygonRank portalRank (2 ^ 16) rank (word s at) → at + 11 ≤ length s → portalFits s at ≡ true → Judged s at rank IsPortal
+  point : kindOf (word s at) ≡ 4 → First polygonRank pointRank (2 ^ 16) rank (word s at) → at + 4 ≤ length s → Judged s at rank IsPoint
+  end : kindOf (word s at) ≡ 5 → First polygonRank pointRank 1 rank (word s at) → at < length s → length s ≤ at + 1 → Judged s at rank IsEnd
   bad : {place : ℕ} → Place s at place → Judged s at rank (IsBad place)
 
 module _ (s : List ℕ) (at rank : ℕ) where
@@ -58,7 +59,7 @@ module _ (s : List ℕ) (at rank : ℕ) where
   judged-by h true false c k = bad short
   judged-by h false b c k = bad (here h)
 
-  judged-end : at < length s → kindOf (word s at) ≡ 5 → (a b : Bool) → firstGood 1 4 1 rank (word s at) ≡ a → leb (length s) (at + 1) ≡ b
+  judged-end : at < length s → kindOf (word s at) ≡ 5 → (a b : Bool) → firstGood polygonRank pointRank 1 rank (word s at) ≡ a → leb (length s) (at + 1) ≡ b
       → Judged s at rank (check a at (check b (at + 1) IsEnd))
   judged-end h e true true f r = end e (first _ _ _ _ _ f) h (leb-true _ _ r)
   judged-end h e true false f r = bad (more e (leb-false _ _ r))
@@ -90,10 +91,10 @@ poly-next s at = omega arith
 -- the rest after a record depends on the positions after it alone
 same : (s : List ℕ) (at rank : ℕ) (f g : ℕ → ℕ → Rest) → ((n l : ℕ) → at < n → at < length s → f n l ≡ g n l)
     → {r : Record} → Judged s at rank r → onRecord r f s at ≡ onRecord r g s at
-same s at rank f g h (cell k o r) = h (at + 14) 1 (omega arith) (omega arith)
-same s at rank f g h (polygon k o r t) = ap (withPolygon (polygonAt s at)) (h (polyAt s at .next) 2 (omega (arith, poly-next s at)) (omega (arith, poly-next s at)))
-same s at rank f g h (portal k o r t) = ap (withPortal (portalAt s at)) (h (at + 11) 3 (omega arith) (omega arith))
-same s at rank f g h (point k o r) = ap (withPoint (pointAt s at)) (h (at + 4) 4 (omega arith) (omega arith))
+same s at rank f g h (cell k o r) = h (at + 14) cellRank (omega arith) (omega arith)
+same s at rank f g h (polygon k o r t) = ap (withPolygon (polygonAt s at)) (h (polyAt s at .next) polygonRank (omega (arith, poly-next s at)) (omega (arith, poly-next s at)))
+same s at rank f g h (portal k o r t) = ap (withPortal (portalAt s at)) (h (at + 11) portalRank (omega arith) (omega arith))
+same s at rank f g h (point k o r) = ap (withPoint (pointAt s at)) (h (at + 4) pointRank (omega arith) (omega arith))
 same s at rank f g h (end k o r t) = refl
 same s at rank f g h (bad place) = refl
 
@@ -169,25 +170,25 @@ module _ (s : List ℕ) (a b c at rank : ℕ) (h : Passed s a b c at rank) where
   turn-on : (r : Record) → recordAt s at rank ≡ r → shown (stripOutcome s) ≡ tally a b c (onRecord r (restAt s) s at)
   turn-on r e = h .answer ∙ ap (tally a b c) (rest-step s at rank ∙ ap (λ (x : Record). onRecord x (restAt s) s at) e)
 
-  pub passed-cell : recordAt s at rank ≡ IsCell → Passed s a b c (at + 14) 1
+  pub passed-cell : recordAt s at rank ≡ IsCell → Passed s a b c (at + 14) cellRank
   passed-cell e =
       let m = moves s at rank IsCell e tt in
       record { inside = m .1; few = omega arith; answer = turn-on IsCell e }
 
-  pub passed-polygon : (p : Poly) → recordAt s at rank ≡ IsPolygon p → Passed s (a + 1) b c (p .next) 2
+  pub passed-polygon : (p : Poly) → recordAt s at rank ≡ IsPolygon p → Passed s (a + 1) b c (p .next) polygonRank
   passed-polygon p e =
       let m = moves s at rank (IsPolygon p) e tt in
-      record { inside = m .1; few = omega arith; answer = turn-on (IsPolygon p) e ∙ tally-polygon a b c (polygonAt s at) (restAt s (p .next) 2) }
+      record { inside = m .1; few = omega arith; answer = turn-on (IsPolygon p) e ∙ tally-polygon a b c (polygonAt s at) (restAt s (p .next) polygonRank) }
 
-  pub passed-portal : recordAt s at rank ≡ IsPortal → Passed s a (b + 1) c (at + 11) 3
+  pub passed-portal : recordAt s at rank ≡ IsPortal → Passed s a (b + 1) c (at + 11) portalRank
   passed-portal e =
       let m = moves s at rank IsPortal e tt in
-      record { inside = m .1; few = omega arith; answer = turn-on IsPortal e ∙ tally-portal a b c (portalAt s at) (restAt s (at + 11) 3) }
+      record { inside = m .1; few = omega arith; answer = turn-on IsPortal e ∙ tally-portal a b c (portalAt s at) (restAt s (at + 11) portalRank) }
 
-  pub passed-point : recordAt s at rank ≡ IsPoint → Passed s a b (c + 1) (at + 4) 4
+  pub passed-point : recordAt s at rank ≡ IsPoint → Passed s a b (c + 1) (at + 4) pointRank
   passed-point e =
       let m = moves s at rank IsPoint e tt in
-      record { inside = m .1; few = omega arith; answer = turn-on IsPoint e ∙ tally-point a b c (pointAt s at) (restAt s (at + 4) 4) }
+      record { inside = m .1; few = omega arith; answer = turn-on IsPoint e ∙ tally-point a b c (pointAt s at) (restAt s (at + 4) pointRank) }
 
   pub passed-end : recordAt s at rank ≡ IsEnd → shown (stripOutcome s) ≡ values (record { polys = a; portals = b; points = c })
   passed-end e = turn-on IsEnd e ∙ simp add-zero

@@ -1,9 +1,13 @@
 pub mod Box
 pub mod Alls
 pub mod Steps
+pub mod Lengths
 pub mod Judged
 pub mod Laid
+pub mod Boxed
+pub mod Halves
 pub mod Bits
+pub mod Plain
 pub mod Encode
 pub mod Readback
 pub mod Exact

@@ -10,9 +10,10 @@ use lib.Seq.{getD-drop, drop-drop}
 use borrow.Author.Tests.{lt-ltb, le-leb}
 use Rattle.fields.specs.Rows.{pack, field}
 use Rattle.fields.proofs.Rows.{bits-back}
-use Rattle.strip.specs.Cell.{Cell, Vec3, NavEdge, NavPoly, NavPortal, NavPoint, vecWords, halfWords, edgeWords, joined, each, polygonHeadAs, polygonWordsAs, polygonWords, portalWords, pointWords, headWords, endWords, encodeAs, encode, All, EdgeFits, PolygonFits, PortalFits, PointFits, Fits}
+use Rattle.strip.specs.Cell.{Cell, Vec3, NavEdge, NavPoly, NavPortal, NavPoint, vecWords, halfWords, edgeWords, joined, each, polygonHeadAs, polygonWordsAs, polygonWords, portalWords, pointWords, headWords, endWords, PolygonKind, plain, encodeAs, encode}
+use Rattle.strip.specs.Fits.{All, EdgeFits, PolygonFits, PortalFits, PointFits, Fits}
 use Rattle.strip.specs.Reading.{word, itemsAt, wordsAt, vecAt, vecsAt, edgeAt, edgesAt, layout, polyAt, polygonOf, portalAt, pointAt, headAt}
-use Rattle.strip.specs.Scan.{Rest, Scanned, allBelow, edgesFit, polyFits, portalFits, kindOf, firstGood, onRecord, withPolygon, withPortal, withPoint, cellRecord, polygonRecord, portalRecord, pointRecord, endRecord, recordOf, recordAt, restAt, scan}
+use Rattle.strip.specs.Scan.{Rest, Scanned, allBelow, edgesFit, polyFits, portalFits, kindOf, polygonRank, cellRank, portalRank, pointRank, firstGood, onRecord, withPolygon, withPortal, withPoint, cellRecord, polygonRecord, portalRecord, pointRecord, endRecord, recordOf, recordAt, restAt, scan}
 use Rattle.strip.specs.declared.Poly.{Poly}
 use Rattle.strip.specs.declared.Record.{Record}
 use Rattle.strip.specs.declared.Record.the-variants.{Cell as IsCell, Polygon as IsPolygon}
@@ -97,7 +98,7 @@ first-back low high limit rank w o q b = rw (le-leb low rank o, le-leb rank high
 
 -- a polygon's words, and more after them
 spread : (p : NavPoly) (post : List ℕ)
-    → polygonWords p ++ post ≡ polygonHeadAs 2 p ∷ p .flags0 ∷ p .flags1 ∷ p .flags2 ∷ (p .links ++ (each vecWords (p .vertices) ++ (each edgeWords (p .edges) ++ post)))
+    → polygonWords p ++ post ≡ polygonHeadAs plain p ∷ p .flags0 ∷ p .flags1 ∷ p .flags2 ∷ (p .links ++ (each vecWords (p .vertices) ++ (each edgeWords (p .edges) ++ post)))
 unfolding polygonWordsAs
 spread p post = simp append-assoc
 
@@ -108,9 +109,9 @@ any (v ∷ l) = (tt, any l)
 module _ (s : List ℕ) (at : ℕ) (p : NavPoly) (post : List ℕ) (f : PolygonFits p) (e : drop at s ≡ polygonWords p ++ post) where
   -- the polygon's cursor, by its counts
   abbrev cursor : Poly
-  cursor = layout at (length (p .links)) (length (p .vertices)) (length (p .edges))
+  cursor = layout at (at + 1) (length (p .links)) (length (p .vertices)) (length (p .edges))
 
-  first-word : word s at ≡ polygonHeadAs 2 p
+  first-word : word s at ≡ polygonHeadAs plain p
   first-word = here s at _ (e ∙ spread p post)
 
   abbrev row : List (ℕ × ℕ)
@@ -130,8 +131,14 @@ module _ (s : List ℕ) (at : ℕ) (p : NavPoly) (post : List ℕ) (f : PolygonF
   unfolding polygonHeadAs
   polygon-kind = rw first-word (kind-back row 2 (omega arith) refl refl)
 
-  links-back : (wordsAt s (at + 4) (length (p .links)) ≡ p .links) × (drop (at + 4 + length (p .links)) s ≡ each vecWords (p .vertices) ++ (each edgeWords (p .edges) ++ post))
-  links-back = words-back s (p .links) (at + 4) _ (later s at _ (e ∙ spread p post) 4)
+  -- what stands behind the first word
+  flags-back : drop (cursor .«flags_at») s ≡ p .flags0 ∷ p .flags1 ∷ p .flags2 ∷ (p .links ++ (each vecWords (p .vertices) ++ (each edgeWords (p .edges) ++ post)))
+  unfolding layout
+  flags-back = later s at _ (e ∙ spread p post) 1
+
+  links-back : (wordsAt s (cursor .«link_at») (length (p .links)) ≡ p .links) × (drop (cursor .«vertex_at») s ≡ each vecWords (p .vertices) ++ (each edgeWords (p .edges) ++ post))
+  unfolding layout
+  links-back = words-back s (p .links) (cursor .«link_at») _ (later s (cursor .«flags_at») _ flags-back 3)
 
   vertices-back : (vecsAt s (cursor .«vertex_at») (length (p .vertices)) ≡ p .vertices) × (drop (cursor .«edge_at») s ≡ each edgeWords (p .edges) ++ post)
   unfolding layout
@@ -144,17 +151,16 @@ module _ (s : List ℕ) (at : ℕ) (p : NavPoly) (post : List ℕ) (f : PolygonF
   polygon-back : polygonOf s cursor ≡ p
   unfolding polygonOf layout
   polygon-back =
-      let t = there s at _ (e ∙ spread p post) in
-      rw (t 1, t 2, t 3, links-back .0, vertices-back .0, edges-back .0)
+      let t = there s (cursor .«flags_at») _ flags-back in
+      rw (here s (cursor .«flags_at») _ flags-back, t 1, t 2, links-back .0, vertices-back .0, edges-back .0)
 
   poly-fits-back : polyFits s cursor ≡ true
   unfolding polyFits layout
   poly-fits-back =
-      let t = there s at _ (e ∙ spread p post) in
       rw (
-        t 1,
+        here s (cursor .«flags_at») _ flags-back,
         lt-ltb (p .flags0) 65536 (f .flags0),
-        below-back s (p .links) (at + 4) _ (f .links) (later s at _ (e ∙ spread p post) 4),
+        below-back s (p .links) (cursor .«link_at») _ (f .links) (later s (cursor .«flags_at») _ flags-back 3),
         edges-fit-back s (p .edges) (cursor .«edge_at») post (f .edges) (vertices-back .1),
       )
 
@@ -162,19 +168,19 @@ module _ (s : List ℕ) (at : ℕ) (p : NavPoly) (post : List ℕ) (f : PolygonF
   unfolding layout
   inside h = let n = in-strip s (cursor .next) post h (edges-back .1) in omega arith
 
-  polygon-record-back : 1 ≤ length post → (rank : ℕ) → 1 ≤ rank → rank ≤ 2 → recordAt s at rank ≡ IsPolygon cursor
+  polygon-record-back : 1 ≤ length post → (rank : ℕ) → polygonRank ≤ rank → rank ≤ cellRank → recordAt s at rank ≡ IsPolygon cursor
   unfolding recordAt recordOf polygonRecord
   polygon-record-back h rank o q =
       rw (
         lt-ltb at (length s) (inside h .0),
         polygon-kind,
-        first-back 1 2 (2 ^ 28) rank (word s at) o q (omega arith),
+        first-back polygonRank cellRank (2 ^ 28) rank (word s at) o q (omega arith),
         cursor-back,
         le-leb (cursor .next) (length s) (inside h .1),
         poly-fits-back,
       )
 
-  polygon-rest : 1 ≤ length post → (rank : ℕ) → 1 ≤ rank → rank ≤ 2 → restAt s at rank ≡ withPolygon p (restAt s (cursor .next) 2)
+  polygon-rest : 1 ≤ length post → (rank : ℕ) → polygonRank ≤ rank → rank ≤ cellRank → restAt s at rank ≡ withPolygon p (restAt s (cursor .next) polygonRank)
   polygon-rest h rank o q =
       rest-step s at rank ∙ rw (polygon-record-back h rank o q, cursor-back, polygon-back)
 
@@ -198,7 +204,7 @@ module _ (s : List ℕ) (at : ℕ) (q : NavPortal) (post : List ℕ) (f : Portal
   unfolding portalWords vecWords
   portal-next = later s at _ e 11
 
-  portal-rest : 1 ≤ length post → (rank : ℕ) → 1 ≤ rank → rank ≤ 3 → restAt s at rank ≡ withPortal q (restAt s (at + 11) 3)
+  portal-rest : 1 ≤ length post → (rank : ℕ) → polygonRank ≤ rank → rank ≤ portalRank → restAt s at rank ≡ withPortal q (restAt s (at + 11) portalRank)
   unfolding recordAt recordOf portalRecord portalFits portalWords vecWords
   portal-rest h rank o r =
       let t = there s at _ e in
@@ -210,7 +216,7 @@ module _ (s : List ℕ) (at : ℕ) (q : NavPortal) (post : List ℕ) (f : Portal
       ∙ rw (
         lt-ltb at (length s) (omega arith),
         k,
-        first-back 1 3 (2 ^ 16) rank (word s at) o r b,
+        first-back polygonRank portalRank (2 ^ 16) rank (word s at) o r b,
         le-leb (at + 11) (length s) (omega arith),
         lt-ltb (word s (at + 1)) 65536 (omega (arith, t 1)),
         lt-ltb (word s (at + 10)) 256 (omega (arith, t 10)),
@@ -233,7 +239,7 @@ module _ (s : List ℕ) (at : ℕ) (q : NavPoint) (post : List ℕ) (f : PointFi
   unfolding pointWords vecWords
   point-next = later s at _ e 4
 
-  point-rest : 1 ≤ length post → (rank : ℕ) → 1 ≤ rank → rank ≤ 4 → restAt s at rank ≡ withPoint q (restAt s (at + 4) 4)
+  point-rest : 1 ≤ length post → (rank : ℕ) → polygonRank ≤ rank → rank ≤ pointRank → restAt s at rank ≡ withPoint q (restAt s (at + 4) pointRank)
   unfolding recordAt recordOf pointRecord pointWords vecWords
   point-rest h rank o r =
       let w : word s at ≡ pack point-row = here s at _ e in
@@ -244,12 +250,12 @@ module _ (s : List ℕ) (at : ℕ) (q : NavPoint) (post : List ℕ) (f : PointFi
       ∙ rw (
         lt-ltb at (length s) (omega arith),
         k,
-        first-back 1 4 (2 ^ 16) rank (word s at) o r b,
+        first-back polygonRank pointRank (2 ^ 16) rank (word s at) o r b,
         le-leb (at + 4) (length s) (omega arith),
         point-back,
       )
 
-end-rest : (s : List ℕ) (at rank : ℕ) → 1 ≤ rank → rank ≤ 4 → drop at s ≡ endWords → restAt s at rank ≡ Rest.good [] [] []
+end-rest : (s : List ℕ) (at rank : ℕ) → polygonRank ≤ rank → rank ≤ pointRank → drop at s ≡ endWords → restAt s at rank ≡ Rest.good [] [] []
 unfolding recordAt recordOf endRecord
 end-rest s at rank o r e =
     let w : word s at ≡ pack ((28, 0) ∷ (4, 5) ∷ []) = here s at _ e in
@@ -260,7 +266,7 @@ end-rest s at rank o r e =
     ∙ rw (
       lt-ltb at (length s) (omega arith),
       k,
-      first-back 1 4 1 rank (word s at) o r (omega arith),
+      first-back polygonRank pointRank 1 rank (word s at) o r (omega arith),
       le-leb (length s) (at + 1) (omega arith),
     )
 
@@ -270,16 +276,16 @@ unfolding restWords
 some ps qs ts = simp length-append (omega arith)
 
 module _ (s : List ℕ) where
-  points-back : (ts : List NavPoint) (at rank : ℕ) → 1 ≤ rank → rank ≤ 4 → All PointFits ts → drop at s ≡ restWords [] [] ts → restAt s at rank ≡ Rest.good [] [] ts
+  points-back : (ts : List NavPoint) (at rank : ℕ) → polygonRank ≤ rank → rank ≤ pointRank → All PointFits ts → drop at s ≡ restWords [] [] ts → restAt s at rank ≡ Rest.good [] [] ts
   unfolding restWords each
   points-back [] at rank o r f e = end-rest s at rank o r e
   points-back (t ∷ ts) at rank o r f e =
       let d = e ∙ append-assoc (pointWords t) _ _ in
       let n = restWords [] [] ts in
       point-rest s at t n (f .0) d (some [] [] ts) rank o r
-      ∙ ap (withPoint t) (points-back ts (at + 4) 4 (omega arith) (omega arith) (f .1) (point-next s at t n (f .0) d))
+      ∙ ap (withPoint t) (points-back ts (at + 4) pointRank (omega arith) (omega arith) (f .1) (point-next s at t n (f .0) d))
 
-  portals-back : (qs : List NavPortal) (ts : List NavPoint) (at rank : ℕ) → 1 ≤ rank → rank ≤ 3 → All PortalFits qs → All PointFits ts
+  portals-back : (qs : List NavPortal) (ts : List NavPoint) (at rank : ℕ) → polygonRank ≤ rank → rank ≤ portalRank → All PortalFits qs → All PointFits ts
       → drop at s ≡ restWords [] qs ts → restAt s at rank ≡ Rest.good [] qs ts
   unfolding restWords each
   portals-back [] ts at rank o r f g e = points-back ts at rank o (omega arith) g e
@@ -287,9 +293,9 @@ module _ (s : List ℕ) where
       let d = e ∙ append-assoc (portalWords q) _ _ in
       let n = restWords [] qs ts in
       portal-rest s at q n (f .0) d (some [] qs ts) rank o r
-      ∙ ap (withPortal q) (portals-back qs ts (at + 11) 3 (omega arith) (omega arith) (f .1) g (portal-next s at q n (f .0) d))
+      ∙ ap (withPortal q) (portals-back qs ts (at + 11) portalRank (omega arith) (omega arith) (f .1) g (portal-next s at q n (f .0) d))
 
-  polygons-back : (ps : List NavPoly) (qs : List NavPortal) (ts : List NavPoint) (at rank : ℕ) → 1 ≤ rank → rank ≤ 2
+  polygons-back : (ps : List NavPoly) (qs : List NavPortal) (ts : List NavPoint) (at rank : ℕ) → polygonRank ≤ rank → rank ≤ cellRank
       → All PolygonFits ps → All PortalFits qs → All PointFits ts → drop at s ≡ restWords ps qs ts → restAt s at rank ≡ Rest.good ps qs ts
   unfolding restWords each
   polygons-back [] qs ts at rank o r f g h e = portals-back qs ts at rank o (omega arith) g h e
@@ -297,7 +303,7 @@ module _ (s : List ℕ) where
       let d = e ∙ append-assoc (polygonWords p) _ _ in
       let n = restWords ps qs ts in
       polygon-rest s at p n (f .0) d (some ps qs ts) rank o r
-      ∙ ap (withPolygon p) (polygons-back ps qs ts (cursor s at p n (f .0) d .next) 2 (omega arith) (omega arith) (f .1) g h (edges-back s at p n (f .0) d .1))
+      ∙ ap (withPolygon p) (polygons-back ps qs ts (cursor s at p n (f .0) d .next) polygonRank (omega arith) (omega arith) (f .1) g h (edges-back s at p n (f .0) d .1))
 
   module _ (c : Cell) (f : Fits c) (e : s ≡ headWords (c .head) ++ restWords (c .polys) (c .portals) (c .points)) where
     head-back : headAt s 0 ≡ c .head
@@ -318,13 +324,13 @@ module _ (s : List ℕ) where
     rest-back =
         rest-step s 0 0
         ∙ ap (λ (r : Record). onRecord r (restAt s) s 0) cell-record-back
-        ∙ polygons-back (c .polys) (c .portals) (c .points) 14 1 (omega arith) (omega arith) (f .polys) (f .portals) (f .points) (ap (drop 14) e)
+        ∙ polygons-back (c .polys) (c .portals) (c .points) 14 cellRank (omega arith) (omega arith) (f .polys) (f .portals) (f .points) (ap (drop 14) e)
 
     cell-back : scan s ≡ Scanned.ok c
     unfolding scan
     cell-back = rw (head-back, rest-back)
 
 -- the strip of a cell that fits is well formed, and is that cell
-pub scan-encode : (c : Cell) → Fits c → scan (encode c) ≡ Scanned.ok c
+pub scan-encode : (kind : PolygonKind) (c : Cell) → Fits c → scan (encodeAs kind c) ≡ Scanned.ok c
 unfolding encodeAs restWords
-scan-encode c f = cell-back (encode c) c f (simp append-assoc)
+scan-encode plain c f = cell-back (encode c) c f (simp append-assoc)

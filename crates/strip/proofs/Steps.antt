@@ -6,7 +6,9 @@ use mathlib.Core.List.{List, [], _∷_}
 use lib.ListN.{length}
 use native.Mathlib.Omega.{arith}
 use borrow.Author.Tests.{lt-ltb, le-ltb}
-use Rattle.strip.specs.Reading.{word, itemsAt, after, polyAt, polygonOf, polygonAt, polygonsAt, afterPolygons}
+use Rattle.fields.specs.Rows.{field}
+use Rattle.strip.specs.Reading.{word, itemsAt, polyAt, polygonOf, polygonAt}
+use Rattle.strip.specs.Rows.{after, polygonsAt, afterPolygons}
 use Rattle.strip.specs.declared.Poly.{Poly}
 use Rattle.strip.specs.Scan.{allBelow, edgesFit, recordOf}
 use Rattle.strip.specs.declared.Record.the-variants.{Bad}
@@ -90,13 +92,33 @@ module _ (s : List ℕ) (at i n : ℕ) (h : i < n) (p : Poly) (e : p ≡ polyAt 
 -- the parts of a polygon's record follow one another, up to where it ends
 pub record Parts (at : ℕ) (p : Poly) : Type 0 where
   pub first : p .at ≡ at
-  pub links-end : at + 4 + p .links ≡ p .«vertex_at»
+  pub flags-behind : at < p .«flags_at»
+  pub flags-end : p .«flags_at» + 3 ≡ p .«link_at»
+  pub links-end : p .«link_at» + p .links ≡ p .«vertex_at»
   pub vertices-end : p .«vertex_at» + 3 * p .vertices ≡ p .«edge_at»
   pub edges-end : p .«edge_at» + 6 * p .edges ≡ p .next
 
 pub parts : (s : List ℕ) (at : ℕ) (p : Poly) → p ≡ polyAt s at → Parts at p
 unfolding polyAt
-parts s at p e = rw e (record { first = refl; links-end = refl; vertices-end = refl; edges-end = refl })
+parts s at p e = rw e (record { first = refl; flags-behind = omega arith; flags-end = refl; links-end = refl; vertices-end = refl; edges-end = refl })
+
+-- and back: where the counts are the first word's and the parts follow one another, it is the polygon's cursor
+pub poly-made : (s : List ℕ) (at links vertices edges flags link vertex edge next : ℕ)
+    → links ≡ field 24 4 (word s at) → vertices ≡ field 0 12 (word s at) → edges ≡ field 12 12 (word s at)
+    → flags ≡ at + 1 → link ≡ flags + 3 → vertex ≡ link + links → edge ≡ vertex + 3 * vertices → next ≡ edge + 6 * edges
+    → record {
+      at = at;
+      links = links;
+      vertices = vertices;
+      edges = edges;
+      «flags_at» = flags;
+      «link_at» = link;
+      «vertex_at» = vertex;
+      «edge_at» = edge;
+      next = next;
+    } ≡ polyAt s at
+unfolding polyAt
+poly-made s at links vertices edges flags link vertex edge next a b c f l v e n = rw (n, e, v, l, f, a, b, c)
 
 pub after-ge : (n : ℕ) (s : List ℕ) (at : ℕ) → at ≤ afterPolygons s at n
 unfolding after

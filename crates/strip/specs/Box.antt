@@ -1,7 +1,6 @@
 -- The box of the cell's own record: whether its numbers are finite, by their bits. Definitions only.
 use Prim.Native.Nat.{ℕ, _%_, _^_}
-use mathlib.Core.Path.{_≡_}
-use mathlib.Core.Bool.{Bool, true, _&&_}
+use mathlib.Core.Bool.{Bool, _&&_}
 use lib.Dec.{ltb}
 use Rattle.strip.specs.Cell.{Vec3, Head}
 
@@ -15,14 +14,3 @@ finiteVec v = finiteBits (v .x) && (finiteBits (v .y) && finiteBits (v .z))
 -- min, max and size
 unfoldable pub finiteBox : Head → Bool
 finiteBox h = finiteVec (h .bb-min) && (finiteVec (h .bb-max) && finiteVec (h .bb-size))
-
--- the same of each of its words
-pub record FiniteVec (v : Vec3) : Type 0 where
-  pub x : finiteBits (v .x) ≡ true
-  pub y : finiteBits (v .y) ≡ true
-  pub z : finiteBits (v .z) ≡ true
-
-pub record FiniteBox (h : Head) : Type 0 where
-  pub min : FiniteVec (h .bb-min)
-  pub max : FiniteVec (h .bb-max)
-  pub size : FiniteVec (h .bb-size)

@@ -1,5 +1,5 @@
 -- The cell, and the strip of 32-bit words that stands for it. Floats stand as their bits. Definitions only.
-use Prim.Native.Nat.{ℕ, _+_, _*_, _^_, _<_}
+use Prim.Native.Nat.{ℕ, _+_, _*_}
 use mathlib.Core.List.{List, [], _∷_, _++_}
 use lib.ListN.{length}
 use Rattle.fields.specs.Rows.{pack}
@@ -80,22 +80,28 @@ unfoldable pub headWords : Head → List ℕ
 headWords h =
     pack ((28, 0) ∷ (4, 1) ∷ []) ∷ h .content ∷ h .area ∷ h .version ∷ h .vft ∷ vecWords (h .bb-min) ++ vecWords (h .bb-max) ++ vecWords (h .bb-size)
 
--- kind 2, the only kind of polygon; a strip's polygons are all of one kind, which is a parameter of its words
 unfoldable pub halfWords : NavEdgeEnd → List ℕ
 halfWords h = h .area ∷ h .poly ∷ joined (h .unk3) (h .unk2) ∷ []
 
 unfoldable pub edgeWords : NavEdge → List ℕ
 edgeWords e = halfWords (e .a) ++ halfWords (e .b)
 
-unfoldable pub polygonHeadAs : ℕ → NavPoly → ℕ
-polygonHeadAs kind p = pack ((12, length (p .vertices)) ∷ (12, length (p .edges)) ∷ (4, length (p .links)) ∷ (4, kind) ∷ [])
+-- A strip's polygons are all of one kind, which is a parameter of its words: plain, with the number 2. There is no other yet.
+pub data PolygonKind : Type 0 where
+  plain : PolygonKind
 
-unfoldable pub polygonWordsAs : ℕ → NavPoly → List ℕ
+abbrev pub kindNumber : PolygonKind → ℕ
+kindNumber plain = 2
+
+unfoldable pub polygonHeadAs : PolygonKind → NavPoly → ℕ
+polygonHeadAs kind p = pack ((12, length (p .vertices)) ∷ (12, length (p .edges)) ∷ (4, length (p .links)) ∷ (4, kindNumber kind) ∷ [])
+
+unfoldable pub polygonWordsAs : PolygonKind → NavPoly → List ℕ
 polygonWordsAs kind p =
     polygonHeadAs kind p ∷ p .flags0 ∷ p .flags1 ∷ p .flags2 ∷ p .links ++ each vecWords (p .vertices) ++ each edgeWords (p .edges)
 
 abbrev pub polygonWords : NavPoly → List ℕ
-polygonWords = polygonWordsAs 2
+polygonWords = polygonWordsAs plain
 
 -- kind 3
 unfoldable pub portalWords : NavPortal → List ℕ
@@ -111,57 +117,11 @@ pointWords p = pack ((8, p .angle) ∷ (8, p .kind) ∷ (12, 0) ∷ (4, 4) ∷ [
 abbrev pub endWords : List ℕ
 endWords = pack ((28, 0) ∷ (4, 5) ∷ []) ∷ []
 
--- the strip of a cell, with polygons of a kind
-unfoldable pub encodeAs : ℕ → Cell → List ℕ
+-- the strip of a cell, with polygons of a kind. What callers ask of it are laws: `encode-plain`, `length-encode` (proofs/Plain.antt) and
+-- `scan-encode` (proofs/Readback.antt)
+unfoldable pub encodeAs : PolygonKind → Cell → List ℕ
 encodeAs kind c =
     headWords (c .head) ++ each (polygonWordsAs kind) (c .polys) ++ each portalWords (c .portals) ++ each pointWords (c .points) ++ endWords
 
 abbrev pub encode : Cell → List ℕ
-encode = encodeAs 2
-
--- The cells that a strip can hold: counts and parts of a word keep to their bits, and every word to 32.
-
-abbrev pub All : {A : Type 0} → (A → Type 0) → List A → Type 0
-All P [] = Unit
-All P (a ∷ rest) = P a × All P rest
-
-pub record HalfFits (h : NavEdgeEnd) : Type 0 where
-  pub unk3 : h .unk3 < 2 ^ 16
-  pub unk2 : h .unk2 < 2 ^ 8
-
-pub record EdgeFits (e : NavEdge) : Type 0 where
-  pub a : HalfFits (e .a)
-  pub b : HalfFits (e .b)
-
-pub record PolygonFits (p : NavPoly) : Type 0 where
-  pub vertex-count : length (p .vertices) < 2 ^ 12
-  pub edge-count : length (p .edges) < 2 ^ 12
-  pub link-count : length (p .links) < 2 ^ 4
-  pub flags0 : p .flags0 < 2 ^ 16
-  pub links : All (λ w. w < 2 ^ 16) (p .links)
-  pub edges : All EdgeFits (p .edges)
-
-pub record PortalFits (p : NavPortal) : Type 0 where
-  pub kind : p .kind < 2 ^ 8
-  pub angle : p .angle < 2 ^ 8
-  pub flags-unk : p .flags-unk < 2 ^ 16
-  pub poly-from : p .poly-from < 2 ^ 16
-  pub area-from : p .area-from < 2 ^ 16
-  pub area-unk : p .area-unk < 2 ^ 8
-
-pub record PointFits (p : NavPoint) : Type 0 where
-  pub angle : p .angle < 2 ^ 8
-  pub kind : p .kind < 2 ^ 8
-
-pub record Fits (c : Cell) : Type 0 where
-  pub polys : All PolygonFits (c .polys)
-  pub portals : All PortalFits (c .portals)
-  pub points : All PointFits (c .points)
-
--- the words of a `&[u32]`
-abbrev pub Words : List ℕ → Type 0
-Words = All (λ w. w < 2 ^ 32)
-
-pub record InRange (c : Cell) : Type 0 where
-  pub fits : Fits c
-  pub words : Words (encode c)
+encode = encodeAs plain

@@ -4,7 +4,7 @@ use mathlib.Core.Path.{_≡_}
 use mathlib.Core.List.{List}
 use lib.ListN.{length}
 use Rattle.strip.specs.Reading.{word}
-use Rattle.strip.specs.Scan.{kindOf, recordAt}
+use Rattle.strip.specs.Scan.{kindOf, polygonRank, cellRank, portalRank, pointRank, recordAt}
 use Rattle.strip.specs.declared.Record.{Record}
 use Rattle.strip.specs.declared.Record.the-variants.{Cell as IsCell, Polygon as IsPolygon, Portal as IsPortal, Point as IsPoint, End as IsEnd, Bad as IsBad}
 
@@ -33,11 +33,11 @@ nextOf at IsEnd = at + 1
 nextOf at (IsBad place) = at
 
 abbrev pub rankOf : Record → ℕ
-rankOf IsCell = 1
-rankOf (IsPolygon p) = 2
-rankOf IsPortal = 3
-rankOf IsPoint = 4
-rankOf IsEnd = 5
+rankOf IsCell = cellRank
+rankOf (IsPolygon p) = polygonRank
+rankOf IsPortal = portalRank
+rankOf IsPoint = pointRank
+rankOf IsEnd = 6
 rankOf (IsBad place) = 0
 
 -- the positions that good records lead to from the strip's start, with the rank of the last of them
@@ -52,3 +52,8 @@ pub record Fault (s : List ℕ) (place : ℕ) : Type 0 where
   pub reached : Reached s at rank
   pub found : recordAt s at rank ≡ IsBad place
   pub named : Place s at place
+
+-- A strip that is refused with a number, and its place: 3 for the first bad record. Calls cite this one statement and not its case, so that
+-- another number of strips would be another case here and nothing there.
+pub data Refused (s : List ℕ) : ℕ → ℕ → Type 0 where
+  badly-formed : {place : ℕ} → Fault s place → Refused s 3 place

@@ -1,19 +1,41 @@
--- Where the lists of a strip that is well formed stand. Definitions only.
+-- The cell of a well-formed strip by its counts: where its lists begin, and what they are. Definitions only.
 use Prim.Native.Nat.{ℕ, _+_, _*_, _≤_}
 use mathlib.Core.Path.{_≡_}
 use mathlib.Core.List.{List}
 use lib.ListN.{length}
 use Rattle.strip.specs.Cell.{Cell}
-use Rattle.strip.specs.Reading.{polygonsAt, afterPolygons, portalsAt, pointsAt, headAt}
+use Rattle.strip.specs.Reading.{headAt}
+use Rattle.strip.specs.Rows.{polygonsAt, afterPolygons, portalsAt, pointsAt}
 use Rattle.strip.specs.Scan.{Scanned, scan}
+use Rattle.strip.specs.declared.Counts.{Counts}
 
--- What a pass knows of a strip that `check_strip` takes, with p polygons, q portals and t points: which cell it is, and where its lists stand.
-pub record Well (s : List ℕ) (p q t : ℕ) : Type 0 where
-  pub cell : Cell
-  pub is : scan s ≡ Scanned.ok cell
-  pub head : cell .head ≡ headAt s 0
-  pub polys : cell .polys ≡ polygonsAt s 14 p
-  pub portals : cell .portals ≡ portalsAt s (afterPolygons s 14 p) q
-  pub points : cell .points ≡ pointsAt s (afterPolygons s 14 p + 11 * q) t
-  pub whole : length s ≡ afterPolygons s 14 p + 11 * q + 4 * t + 1
+-- how many of each a cell has
+abbrev pub cellCounts : Cell → Counts
+cellCounts c = record { polys = length (c .polys); portals = length (c .portals); points = length (c .points) }
+
+-- where the portals and the points of a strip with these counts begin: polygons stand from word 14 on
+abbrev pub firstPortal : List ℕ → Counts → ℕ
+firstPortal s n = afterPolygons s 14 (n .polys)
+
+abbrev pub firstPoint : List ℕ → Counts → ℕ
+firstPoint s n = firstPortal s n + 11 * n .portals
+
+-- nothing but the end stands behind the points
+abbrev pub Whole : List ℕ → Counts → Type 0
+Whole s n = length s ≡ firstPoint s n + 4 * n .points + 1
+
+-- the cell that stands in a strip with these counts
+abbrev pub cellAt : List ℕ → Counts → Cell
+cellAt s n =
+    record {
+      head = headAt s 0;
+      polys = polygonsAt s 14 (n .polys);
+      portals = portalsAt s (firstPortal s n) (n .portals);
+      points = pointsAt s (firstPoint s n) (n .points);
+    }
+
+-- what a pass knows of a strip that `check_strip` takes with these counts
+pub record Well (s : List ℕ) (n : Counts) : Type 0 where
+  pub is : scan s ≡ Scanned.ok (cellAt s n)
+  pub whole : Whole s n
   pub long : 14 ≤ length s

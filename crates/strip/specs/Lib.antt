@@ -1,8 +1,16 @@
 pub mod Cell
+pub mod Fits
 pub mod Box
+pub mod FiniteBox
 pub mod Reading
+pub mod Rows
 pub mod Scan
+pub mod Laid
 pub mod Outcome
 pub mod Check
+pub mod Checked
+pub mod Boxed
+pub mod BoxedCell
+pub mod Halves
+pub mod Tests
 pub mod Faults
-pub mod Laid

@@ -16,10 +16,6 @@ unfoldable pub itemsAt : {A : Type 0} → (ℕ → A) → (ℕ → ℕ) → ℕ 
 itemsAt item next at zero = []
 itemsAt item next at (suc n) = item at ∷ itemsAt item next (next at) n
 
-unfoldable pub after : (ℕ → ℕ) → ℕ → ℕ → ℕ
-after next at zero = at
-after next at (suc n) = after next (next at) n
-
 -- n words
 abbrev pub wordsAt : List ℕ → ℕ → ℕ → List ℕ
 wordsAt s = itemsAt (word s) (λ at. at + 1)
@@ -47,45 +43,40 @@ edgeAt s at = record { a = halfAt s at; b = halfAt s (at + 3) }
 abbrev pub edgesAt : List ℕ → ℕ → ℕ → List NavEdge
 edgesAt s = itemsAt (edgeAt s) (λ at. at + 6)
 
--- where the parts of the polygon at a position are, by its counts
-unfoldable pub layout : ℕ → ℕ → ℕ → ℕ → Poly
-layout at links vertices edges =
+-- where the parts of the polygon at a position are, by where its flags are and by its counts
+unfoldable pub layout : ℕ → ℕ → ℕ → ℕ → ℕ → Poly
+layout at flags links vertices edges =
     record {
       at = at;
       links = links;
       vertices = vertices;
       edges = edges;
-      «vertex_at» = at + 4 + links;
-      «edge_at» = at + 4 + links + 3 * vertices;
-      next = at + 4 + links + 3 * vertices + 6 * edges;
+      «flags_at» = flags;
+      «link_at» = flags + 3;
+      «vertex_at» = flags + 3 + links;
+      «edge_at» = flags + 3 + links + 3 * vertices;
+      next = flags + 3 + links + 3 * vertices + 6 * edges;
     }
 
--- the counts stand in its first word: bits 0-11 vertices, 12-23 edges, 24-27 links
+-- the counts stand in its first word, bits 0-11 vertices, 12-23 edges, 24-27 links; its flags stand behind that word
 unfoldable pub polyAt : List ℕ → ℕ → Poly
 unfolding layout
-polyAt s at = layout at (field 24 4 (word s at)) (field 0 12 (word s at)) (field 12 12 (word s at))
+polyAt s at = layout at (at + 1) (field 24 4 (word s at)) (field 0 12 (word s at)) (field 12 12 (word s at))
 
 -- the polygon that a cursor stands at
 unfoldable pub polygonOf : List ℕ → Poly → NavPoly
 polygonOf s p =
     record {
-      flags0 = word s (p .at + 1);
-      flags1 = word s (p .at + 2);
-      flags2 = word s (p .at + 3);
-      links = wordsAt s (p .at + 4) (p .links);
+      flags0 = word s (p .«flags_at»);
+      flags1 = word s (p .«flags_at» + 1);
+      flags2 = word s (p .«flags_at» + 2);
+      links = wordsAt s (p .«link_at») (p .links);
       vertices = vecsAt s (p .«vertex_at») (p .vertices);
       edges = edgesAt s (p .«edge_at») (p .edges);
     }
 
 abbrev pub polygonAt : List ℕ → ℕ → NavPoly
 polygonAt s at = polygonOf s (polyAt s at)
-
-abbrev pub polygonsAt : List ℕ → ℕ → ℕ → List NavPoly
-polygonsAt s = itemsAt (polygonAt s) (λ at. polyAt s at .next)
-
--- where n polygons from a position on end
-abbrev pub afterPolygons : List ℕ → ℕ → ℕ → ℕ
-afterPolygons s = after (λ at. polyAt s at .next)
 
 unfoldable pub portalAt : List ℕ → ℕ → NavPortal
 portalAt s at =
@@ -102,15 +93,9 @@ portalAt s at =
       area-unk = word s (at + 10);
     }
 
-abbrev pub portalsAt : List ℕ → ℕ → ℕ → List NavPortal
-portalsAt s = itemsAt (portalAt s) (λ at. at + 11)
-
 unfoldable pub pointAt : List ℕ → ℕ → NavPoint
 pointAt s at =
     record { angle = field 0 8 (word s at); kind = field 8 8 (word s at); position = vecAt s (at + 1) }
-
-abbrev pub pointsAt : List ℕ → ℕ → ℕ → List NavPoint
-pointsAt s = itemsAt (pointAt s) (λ at. at + 4)
 
 unfoldable pub headAt : List ℕ → ℕ → Head
 headAt s at =

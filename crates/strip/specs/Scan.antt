@@ -15,8 +15,23 @@ use Rattle.strip.specs.declared.Record.the-variants.{Cell as IsCell, Pol
 abbrev pub kindOf : ℕ → ℕ
 kindOf w = w / 2 ^ 28
 
--- Records have ranks: cell 1, polygon 2, portal 3, point 4, end 5; the strip's start has 0. A record's first word is good after a record of
--- rank low to high, with the bits between its named ones and its kind zero: the 28 bits below the kind are a number below a limit.
+-- Records have ranks, and the strip's start has rank 0. Those that a record may follow are a row of ranks: polygons follow the cell or their
+-- like, portals all but points and the start, points and the end all but the start. So polygons stand on one side of the cell, and rank 3, on its
+-- other side, is for a second kind of them, which follows the cell and its own like (2 to 3) and never the first kind.
+abbrev pub polygonRank : ℕ
+polygonRank = 1
+
+abbrev pub cellRank : ℕ
+cellRank = 2
+
+abbrev pub portalRank : ℕ
+portalRank = 4
+
+abbrev pub pointRank : ℕ
+pointRank = 5
+
+-- A record's first word is good after a record of rank low to high, with the bits between its named ones and its kind zero: the 28 bits below
+-- the kind are a number below a limit.
 unfoldable pub firstGood : ℕ → ℕ → ℕ → ℕ → ℕ → Bool
 firstGood low high limit rank w = leb low rank && (leb rank high && ltb (field 0 28 w) limit)
 
@@ -33,7 +48,7 @@ edgesFit s at (suc n) = ltb (word s (at + 2)) (2 ^ 24) && (ltb (word s (at + 5))
 -- flags0, links and edges
 unfoldable pub polyFits : List ℕ → Poly → Bool
 polyFits s p =
-    ltb (word s (p .at + 1)) (2 ^ 16) && (allBelow s (p .at + 4) (p .links) (2 ^ 16) && edgesFit s (p .«edge_at») (p .edges))
+    ltb (word s (p .«flags_at»)) (2 ^ 16) && (allBelow s (p .«link_at») (p .links) (2 ^ 16) && edgesFit s (p .«edge_at») (p .edges))
 
 -- flags_unk and area_unk
 unfoldable pub portalFits : List ℕ → ℕ → Bool
@@ -52,17 +67,17 @@ cellRecord s at rank = judge s at (firstGood 0 0 (2 ^ 0) rank (word s at)) (at +
 
 unfoldable pub polygonRecord : List ℕ → ℕ → ℕ → Record
 polygonRecord s at rank =
-    judge s at (firstGood 1 2 (2 ^ 28) rank (word s at)) (polyAt s at .next) (polyFits s (polyAt s at)) (IsPolygon (polyAt s at))
+    judge s at (firstGood polygonRank cellRank (2 ^ 28) rank (word s at)) (polyAt s at .next) (polyFits s (polyAt s at)) (IsPolygon (polyAt s at))
 
 unfoldable pub portalRecord : List ℕ → ℕ → ℕ → Record
-portalRecord s at rank = judge s at (firstGood 1 3 (2 ^ 16) rank (word s at)) (at + 11) (portalFits s at) IsPortal
+portalRecord s at rank = judge s at (firstGood polygonRank portalRank (2 ^ 16) rank (word s at)) (at + 11) (portalFits s at) IsPortal
 
 unfoldable pub pointRecord : List ℕ → ℕ → ℕ → Record
-pointRecord s at rank = judge s at (firstGood 1 4 (2 ^ 16) rank (word s at)) (at + 4) true IsPoint
+pointRecord s at rank = judge s at (firstGood polygonRank pointRank (2 ^ 16) rank (word s at)) (at + 4) true IsPoint
 
 -- the end is the last word
 unfoldable pub endRecord : List ℕ → ℕ → ℕ → Record
-endRecord s at rank = check (firstGood 1 4 (2 ^ 0) rank (word s at)) at (check (leb (length s) (at + 1)) (at + 1) IsEnd)
+endRecord s at rank = check (firstGood polygonRank pointRank (2 ^ 0) rank (word s at)) at (check (leb (length s) (at + 1)) (at + 1) IsEnd)
 
 unfoldable pub recordOf : ℕ → List ℕ → ℕ → ℕ → Record
 recordOf zero s at rank = IsBad at
@@ -106,10 +121,10 @@ withHead h (bad place) = fault 3 place
 -- The records from a position on, after one of a rank. A record has a word or more, so that one turn more than there are words left is
 -- enough (`rest-step`, in proofs/Judged.antt, is the law without the turns).
 abbrev pub onRecord : Record → (ℕ → ℕ → Rest) → List ℕ → ℕ → Rest
-onRecord IsCell go s at = go (at + 14) 1
-onRecord (IsPolygon p) go s at = withPolygon (polygonAt s at) (go (p .next) 2)
-onRecord IsPortal go s at = withPortal (portalAt s at) (go (at + 11) 3)
-onRecord IsPoint go s at = withPoint (pointAt s at) (go (at + 4) 4)
+onRecord IsCell go s at = go (at + 14) cellRank
+onRecord (IsPolygon p) go s at = withPolygon (polygonAt s at) (go (p .next) polygonRank)
+onRecord IsPortal go s at = withPortal (portalAt s at) (go (at + 11) portalRank)
+onRecord IsPoint go s at = withPoint (pointAt s at) (go (at + 4) pointRank)
 onRecord IsEnd go s at = good [] [] []
 onRecord (IsBad place) go s at = bad place
 

@@ -6,7 +6,10 @@ ghost use Rattle.strip.specs.Reading.{vecAt, polyAt, headAt};
 ghost use Rattle.strip.specs.Box.{finiteBits, finiteVec, finiteBox};
 ghost use Rattle.strip.specs.Scan.{firstGood, allBelow, edgesFit, polyFits, cellRecord, polygonRecord, portalRecord, pointRecord, endRecord, recordAt};
 ghost use Rattle.strip.specs.Outcome.{shown};
-ghost use Rattle.strip.specs.Check.{paper, stripOutcome};
+ghost use Rattle.strip.specs.Checked.{paper, stripOutcome};
+
+pub mod cells;
+pub mod edges;
 
 // Why a call was refused: the one form for all calls.
 pub struct Refusal {
@@ -32,6 +35,8 @@ pub struct Poly {
     pub links: usize,
     pub vertices: usize,
     pub edges: usize,
+    pub flags_at: usize,
+    pub link_at: usize,
     pub vertex_at: usize,
     pub edge_at: usize,
     pub next: usize,
@@ -46,6 +51,16 @@ pub enum Record {
     End,
     Bad(usize),
 }
+
+// Ranks of records, by which they are in order: those that one may follow are a row of ranks, from `low` to `high`. The strip's start has 0. A
+// polygon follows the cell and its like, so polygons stand on one side of the cell; 3, on the other side, is for a second kind of them.
+const POLYGON_RANK: u32 = 1;
+
+const CELL_RANK: u32 = 2;
+
+const PORTAL_RANK: u32 = 4;
+
+const POINT_RANK: u32 = 5;
 
 fn wide(x: u32) -> usize
     ensures { λ r. ⌜ r ≡ x ⌝ }
@@ -62,7 +77,9 @@ pub fn poly_at(strip: &[u32], at: usize) -> Poly
     let links = wide(w / 16777216 % 16);
     let vertices = wide(w % 4096);
     let edges = wide(w / 4096 % 4096);
-    let vertex_at = at + 4 + links;
+    let flags_at = at + 1;
+    let link_at = flags_at + 3;
+    let vertex_at = link_at + links;
     let edge_at = vertex_at + 3 * vertices;
     let next = edge_at + 6 * edges;
     Poly {
@@ -70,6 +87,8 @@ pub fn poly_at(strip: &[u32], at: usize) -> Poly
         links,
         vertices,
         edges,
+        flags_at,
+        link_at,
         vertex_at,
         edge_at,
         next,
@@ -146,17 +165,18 @@ fn edges_fit(strip: &[u32], at: usize, n: usize) -> bool
 
 // Whether a polygon's words have no unnamed bit.
 fn poly_fits(strip: &[u32], p: Poly) -> bool
-    requires { ⌜ (p .at + 4 + p .links ≤ length (now strip)) × (p .«edge_at» + 6 * p .edges ≤ length (now strip)) ⌝ }
+    requires { ⌜ (p .«flags_at» < length (now strip)) × (p .«link_at» + p .links ≤ length (now strip)) × (p .«edge_at» + 6 * p .edges ≤ length (now strip)) ⌝ }
     ensures { λ r. ⌜ r ≡ polyFits (now (strip .entry)) p ⌝ }
 {
-    let at = p.at;
+    let flags_at = p.flags_at;
+    let link_at = p.link_at;
     let links = p.links;
     let edge_at = p.edge_at;
     let edges = p.edges;
-    if 65536 <= strip[at + 1] {
+    if 65536 <= strip[flags_at] {
         return false;
     }
-    if all_below(strip, at + 4, links, 65536) {
+    if all_below(strip, link_at, links, 65536) {
         return edges_fit(strip, edge_at, edges);
     }
     false
@@ -194,7 +214,7 @@ fn polygon_record(strip: &[u32], at: usize, rank: u32) -> Record
     requires { ⌜ at < length (now strip) ⌝ }
     ensures { λ r. ⌜ r ≡ polygonRecord (now (strip .entry)) at rank ⌝ }
 {
-    if first_good(strip[at], rank, 1, 2, 268435456) {
+    if first_good(strip[at], rank, POLYGON_RANK, CELL_RANK, 268435456) {
         let p = poly_at(strip, at);
         let next = p.next;
         if strip.len() < next {
@@ -212,7 +232,7 @@ fn portal_record(strip: &[u32], at: usize, rank: u32) -> Record
     requires { ⌜ at < length (now strip) ⌝ }
     ensures { λ r. ⌜ r ≡ portalRecord (now (strip .entry)) at rank ⌝ }
 {
-    if first_good(strip[at], rank, 1, 3, 65536) {
+    if first_good(strip[at], rank, POLYGON_RANK, PORTAL_RANK, 65536) {
         if strip.len() < at + 11 {
             return Record::Bad(strip.len());
         }
@@ -231,7 +251,7 @@ fn point_record(strip: &[u32], at: usize, rank: u32) -> Record
     requires { ⌜ at < length (now strip) ⌝ }
     ensures { λ r. ⌜ r ≡ pointRecord (now (strip .entry)) at rank ⌝ }
 {
-    if first_good(strip[at], rank, 1, 4, 65536) {
+    if first_good(strip[at], rank, POLYGON_RANK, POINT_RANK, 65536) {
         if strip.len() < at + 4 {
             return Record::Bad(strip.len());
         }
@@ -244,7 +264,7 @@ fn end_record(strip: &[u32], at: usize, rank: u32) -> Record
     requires { ⌜ at < length (now strip) ⌝ }
     ensures { λ r. ⌜ r ≡ endRecord (now (strip .entry)) at rank ⌝ }
 {
-    if first_good(strip[at], rank, 1, 4, 1) {
+    if first_good(strip[at], rank, POLYGON_RANK, POINT_RANK, 1) {
         if at + 1 < strip.len() {
             return Record::Bad(at + 1);
         }
@@ -253,7 +273,7 @@ fn end_record(strip: &[u32], at: usize, rank: u32) -> Record
     Record::Bad(at)
 }
 
-// The record at `at`, after one of rank `rank` (cell 1, polygon 2, portal 3, point 4, end 5; 0 at the strip's start).
+// The record at `at`, after one of rank `rank`.
 pub fn record_at(strip: &[u32], at: usize, rank: u32) -> Record
     ensures { λ r. ⌜ r ≡ recordAt (now (strip .entry)) at rank ⌝ }
 {
@@ -284,22 +304,22 @@ pub fn check_strip(strip: &[u32]) -> StripAnswer
         match record_at(strip, at, rank) {
             Record::Cell => {
                 at += 14;
-                rank = 1;
+                rank = CELL_RANK;
             }
             Record::Polygon(p) => {
                 polys += 1;
                 at = p.next;
-                rank = 2;
+                rank = POLYGON_RANK;
             }
             Record::Portal => {
                 portals += 1;
                 at += 11;
-                rank = 3;
+                rank = PORTAL_RANK;
             }
             Record::Point => {
                 points += 1;
                 at += 4;
-                rank = 4;
+                rank = POINT_RANK;
             }
             Record::End => return StripAnswer::WellFormed(Counts {
                 polys,

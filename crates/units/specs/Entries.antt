@@ -10,10 +10,6 @@ use Rattle.math.specs.declared.vec3.Vec3.{Vec3}
 use Rattle.math.specs.Floats.{floatsAt}
 use Rattle.quantise.specs.Short.{short}
 use Rattle.quantise.specs.Quarter.{quarterFloor, quarterCeil}
-use Rattle.areas.specs.declared.AreaAnswer.{AreaAnswer}
-use Rattle.areas.specs.declared.AreaAnswer.the-variants.{At, Full}
-use Rattle.write_vertices.specs.declared.All.{All}
-use Rattle.write_vertices.specs.declared.All.the-variants.{Count, Over, Short}
 use Rattle.strip.specs.Outcome.{Paper, refusal, values}
 use Rattle.strip.specs.declared.Counts.{Counts}
 
@@ -25,10 +21,13 @@ sideOf x ceil = cond (eqb ceil 0) (quarterFloor x) (quarterCeil x)
 abbrev pub seedAt : List ℕ → ℕ → ℕ
 seedAt ids i = cond (ltb i 32) (getD ids i 0) (length ids)
 
--- an index, or 32 where there is none
-abbrev pub indexOrFull : AreaAnswer → ℕ
-indexOrFull (At i) = i
-indexOrFull Full = 32
+-- an index, or 32 where it is refused, at whatever place
+abbrev pub indexOr32 : Paper ℕ → ℕ
+indexOr32 (values i) = i
+indexOr32 (refusal number place) = 32
+
+abbrev pub indexOrFull : (ℕ → Paper ℕ) → ℕ
+indexOrFull at = indexOr32 (at 0)
 
 -- the shorts of the first n vertices, three to a vertex, in the box of lo and size
 unfoldable pub shortsTo : List ℕ → Vec3 → Vec3 → ℕ → List ℕ
@@ -37,11 +36,10 @@ shortsTo ws lo size (suc n) =
     shortsTo ws lo size n
     ++ (short (floatsAt ws (3 * n) .x) (lo .x) (size .x) ∷ short (floatsAt ws (3 * n) .y) (lo .y) (size .y) ∷ short (floatsAt ws (3 * n) .z) (lo .z) (size .z) ∷ [])
 
--- how many vertices there are; 65537 where there are too many, 65538 where there is too little work
-abbrev pub countOrWhy : All → ℕ
-countOrWhy (Count n) = n
-countOrWhy (Over i) = 65537
-countOrWhy Short = 65538
+-- how many vertices there are; 65537 where there are too many (14), 65538 where there is too little work (1)
+abbrev pub countOrWhy : Paper ℕ → ℕ
+countOrWhy (values n) = n
+countOrWhy (refusal number place) = cond (eqb number 14) 65537 65538
 
 -- a refusal's number, 0 where there is none; and the words of the answer
 abbrev pub numberOf : Paper Counts → ℕ

@@ -5,15 +5,17 @@ ghost use mathlib.Core.List.{_∷_, []};
 ghost use Prim.Native.Nat.{_%_, _/_, _*_, _+_, _≤_, min};
 ghost use lib.Ieee.{binary32, ofBits, toBits};
 ghost use lib.ListN.{length, take, drop};
-ghost use Rattle.fields.specs.Bytes.{over, put};
-ghost use Rattle.distinct.specs.Distinct.{upTo, numbersFrom};
+ghost use Rattle.fields.specs.Bytes.{over};
+ghost use Rattle.fields.specs.Put.{put};
+ghost use Rattle.distinct.specs.Numbers.{upTo, numbersFrom};
 ghost use Rattle.quantise.specs.Short.{short, coordinate};
 ghost use Rattle.quantise.specs.Quarter.{bits16};
-ghost use Rattle.areas.specs.Areas.{seeded, areaAt};
+ghost use Rattle.areas.specs.Areas.{seeded};
+ghost use Rattle.areas.specs.Tables.{areaAt};
 ghost use Rattle.write_vertices.specs.Table.{triplesOf};
 ghost use Rattle.write_vertices.specs.Vertices.{answerWith};
 ghost use Rattle.strip.specs.Outcome.{shown};
-ghost use Rattle.strip.specs.Check.{stripOutcome};
+ghost use Rattle.strip.specs.Checked.{stripOutcome};
 ghost use Rattle.write_blocks.specs.Layout.{placeOf};
 ghost use Rattle.math.specs.Floats.{floatsAt};
 ghost use Rattle.units.specs.Entries.{sideOf, seedAt, indexOrFull, shortsTo, countOrWhy, numberOf, answerOf};
@@ -79,8 +81,8 @@ pub extern "C" fn leaf_seed_area(own: u32, i: usize) -> u32
 // The index of an id among the first len of ids, which is added where it is new; or 32 where it would be a 33rd.
 #[no_mangle]
 pub extern "C" fn leaf_ensure_area(ids: &mut [u32; 32], len: usize, id: u32) -> u32
-    ensures { λ r. ⌜ r ≡ indexOrFull (areaAt (take len (now (ids .entry))) id) ⌝ }
-    ensures { λ _. ⌜ now (ids .exit) ≡ over (upTo 32 (take len (now (ids .entry))) id) (now (ids .entry)) ⌝ }
+    ensures answer { λ r. ⌜ r ≡ indexOrFull (areaAt (take len (now (ids .entry))) id) ⌝ }
+    ensures table { λ _. ⌜ now (ids .exit) ≡ over (upTo 32 (take len (now (ids .entry))) id) (now (ids .entry)) ⌝ }
 {
     let e = areas::ensure_id(ids, len, id);
     let at = e.at;
@@ -110,8 +112,8 @@ fn store(out: &mut [u32], at: usize, q: Shorts)
 // The shorts of each vertex, three words to a vertex, in a box given by lo and extent; as many as both slices hold, which is the answer.
 #[no_mangle]
 pub extern "C" fn leaf_quantise_all(vertices: &[u32], bounds: &[u32; 6], out: &mut [u32]) -> usize
-    ensures { λ r. ⌜ r ≡ min (length (now (vertices .entry)) / 3) (length (now (out .entry)) / 3) ⌝ }
-    ensures { λ r. ⌜ now (out .exit) ≡ over (shortsTo (now (vertices .entry)) (floatsAt (now (bounds .entry)) 0) (floatsAt (now (bounds .entry)) 3) r) (now (out .entry)) ⌝ }
+    ensures count { λ r. ⌜ r ≡ min (length (now (vertices .entry)) / 3) (length (now (out .entry)) / 3) ⌝ }
+    ensures content { λ r. ⌜ now (out .exit) ≡ over (shortsTo (now (vertices .entry)) (floatsAt (now (bounds .entry)) 0) (floatsAt (now (bounds .entry)) 3) r) (now (out .entry)) ⌝ }
 {
     let lo = floats_at(bounds, 0);
     let size = floats_at(bounds, 3);
@@ -129,9 +131,9 @@ pub extern "C" fn leaf_quantise_all(vertices: &[u32], bounds: &[u32; 6], out: &m
 // 65,536; 65538 where there is less work than four words to a triple.
 #[no_mangle]
 pub extern "C" fn leaf_number_all(triples: &[u32], work: &mut [u32]) -> usize
-    ensures { λ r. ⌜ r ≡ countOrWhy (answerWith (length (now (work .entry))) (triplesOf (now (triples .entry)))) ⌝ }
-    ensures { λ r. ⌜ (r ≤ 65536 → take (length (triplesOf (now (triples .entry)))) (now (work .exit)) ≡ numbersFrom [] (triplesOf (now (triples .entry)))) ⌝ }
-    ensures { λ _. ⌜ drop (4 * length (triplesOf (now (triples .entry)))) (now (work .exit)) ≡ drop (4 * length (triplesOf (now (triples .entry)))) (now (work .entry)) ⌝ }
+    ensures answer { λ r. ⌜ r ≡ countOrWhy (answerWith (length (now (work .entry))) (triplesOf (now (triples .entry)))) ⌝ }
+    ensures numbers { λ r. ⌜ (r ≤ 65536 → take (length (triplesOf (now (triples .entry)))) (now (work .exit)) ≡ numbersFrom [] (triplesOf (now (triples .entry)))) ⌝ }
+    ensures rest { λ _. ⌜ drop (4 * length (triplesOf (now (triples .entry)))) (now (work .exit)) ≡ drop (4 * length (triplesOf (now (triples .entry)))) (now (work .entry)) ⌝ }
 {
     match write_vertices::number_all(triples, work) {
         All::Count(n) => n,
@@ -143,8 +145,8 @@ pub extern "C" fn leaf_number_all(triples: &[u32], work: &mut [u32]) -> usize
 // Whether a strip is well formed: 0 with its polygons, portals and points, or a refusal's number with its place.
 #[no_mangle]
 pub extern "C" fn leaf_check_strip(strip: &[u32], answer: &mut [u64; 8]) -> u32
-    ensures { λ r. ⌜ r ≡ numberOf (shown (stripOutcome (now (strip .entry)))) ⌝ }
-    ensures { λ _. ⌜ now (answer .exit) ≡ over (answerOf (shown (stripOutcome (now (strip .entry))))) (now (answer .entry)) ⌝ }
+    ensures number { λ r. ⌜ r ≡ numberOf (shown (stripOutcome (now (strip .entry)))) ⌝ }
+    ensures words { λ _. ⌜ now (answer .exit) ≡ over (answerOf (shown (stripOutcome (now (strip .entry))))) (now (answer .entry)) ⌝ }
 {
     match strip::check_strip(strip) {
         StripAnswer::WellFormed(n) => {

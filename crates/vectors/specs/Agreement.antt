@@ -8,20 +8,19 @@ use lib.Ieee.{Float, binary32, ofBits, toBits}
 use Rattle.fields.specs.Bytes.{over, zeros}
 use Rattle.quantise.specs.Short.{short, coordinate}
 use Rattle.quantise.specs.Quarter.{quarterFloor, quarterCeil, bits16}
-use Rattle.areas.specs.Areas.{seeded, stored, ensured}
+use Rattle.areas.specs.Areas.{seeded}
+use Rattle.areas.specs.Tables.{stored, areaIds, areaAt, withArea}
 use Rattle.areas.specs.declared.Areas.{Areas}
-use Rattle.areas.specs.declared.AreaAnswer.{AreaAnswer}
-use Rattle.areas.specs.declared.AreaAnswer.the-variants.{At, Full}
 use Rattle.write_blocks.specs.Layout.{placeOf}
-use Rattle.strip.specs.Outcome.{shown}
-use Rattle.strip.specs.Check.{stripOutcome}
+use Rattle.strip.specs.Outcome.{Paper, refusal, values, shown}
+use Rattle.strip.specs.Checked.{stripOutcome}
 use Rattle.units.specs.Entries.{numberOf, answerOf}
 use Rattle.answers.specs.Words as Words
 use Rattle.picking.specs.declared.Spot.{Spot}
 use Rattle.picking.specs.Picking.{pickOutcome}
 use Rattle.picking.specs.Entries.{foundWords}
 use Rattle.replay.specs.Ends.{recordEnd}
-use Rattle.replay.specs.Tallies.{Passed, Counted}
+use Rattle.replay.specs.Tallies.{Within, Passed, Counted}
 use Rattle.replay.specs.declared.Tally.{Tally}
 use Rattle.vectors.specs.declared.Taken.{Taken}
 use Rattle.vectors.specs.declared.Record.{Record}
@@ -61,14 +60,14 @@ pickNumber i = Words.numberOf (shown (pickOutcome (drop 2 i) (spotIn i)))
 abbrev pub pickWords : List ℕ → List ℕ
 pickWords i = over (Words.answerWords foundWords (shown (pickOutcome (drop 2 i) (spotIn i)))) (zeros 8)
 
-abbrev pub isFull : AreaAnswer → Bool
-isFull (At i) = false
-isFull Full = true
+abbrev pub isRefused : Paper ℕ → Bool
+isRefused (values i) = false
+isRefused (refusal number place) = true
 
 -- the table after as many ids as are taken before a 33rd area, and how many these are with n before them
 unfoldable pub taking : Areas → ℕ → List ℕ → Taken
 taking t n [] = record { areas = t; count = n }
-taking t n (x ∷ xs) = cond (isFull (ensured t x .at)) (record { areas = t; count = n }) (taking (ensured t x .areas) (n + 1) xs)
+taking t n (x ∷ xs) = cond (isRefused (areaAt (areaIds t) x 0)) (record { areas = t; count = n }) (taking (withArea t x) (n + 1) xs)
 
 -- the words out are how many ids are taken, the length of the table and its 32 words
 pub record AreasAgree (i o : List ℕ) : Type 0 where
@@ -112,7 +111,7 @@ abbrev pub AgreesAt : List ℕ → ℕ → Record → Type 0
 AgreesAt ws at r = Agrees (getD ws at 0) (between ws (r .input) (r .output)) (between ws (r .output) (r .next))
 
 abbrev pub Asked : List ℕ → (low high at : ℕ) → Type 0
-Asked ws low high at = (low ≤ getD ws at 0) × (getD ws at 0 ≤ high)
+Asked ws low high at = Within low high (getD ws at 0)
 
 -- the tally of the records with such a tag: of those before a place, and of all
 abbrev pub PassedAt : List ℕ → (low high at : ℕ) → Tally → Type 0

@@ -7,12 +7,14 @@ ghost use mathlib.Core.Bool.{true};
 ghost use Prim.Native.Nat.{ℕ, _+_, _*_, _≤_, _<_};
 ghost use lib.ListN.{length, getD, drop};
 ghost use Rattle.fields.specs.Bytes.{leAt, zeros};
-ghost use Rattle.areas.specs.Areas.{seeded, stored};
+ghost use Rattle.areas.specs.Areas.{seeded};
+ghost use Rattle.areas.specs.Tables.{stored};
 ghost use Rattle.replay.specs.Tallies.{Tallied, Step};
 ghost use Rattle.vectors.specs.Agreement.{shortOf, backOf, floorOf, ceilOf, placeIn, stripNumber, stripWords, pickNumber, pickWords, taking, AreasAgree, FirstThree, Agrees, recordOf, AgreesAt, Asked, TallyOf, Stands};
 use areas::AreaAnswer;
 use areas::Areas;
 use replay::Tally;
+use replay::asked;
 use replay::print;
 use replay::print_first;
 use replay::print_tally;
@@ -222,14 +224,11 @@ fn with_record(words: &[u32], at: usize, r: Record, t: Tally, low: u32, high: u3
     let input = r.input;
     let output = r.output;
     let next = r.next;
-    if tag < low {
-        return t;
+    if asked(tag, low, high) {
+        let agreed = agrees(tag, &words[input..output], &words[output..next]);
+        return tallied(t, words.len(), at, agreed);
     }
-    if high < tag {
-        return t;
-    }
-    let agreed = agrees(tag, &words[input..output], &words[output..next]);
-    tallied(t, words.len(), at, agreed)
+    t
 }
 
 // Of the records whose tag is from low to high.

@@ -1,4 +1,5 @@
 pub mod Layouts
+pub mod Optional
 pub mod Standing
 pub mod Placed
 pub mod Lists

@@ -6,16 +6,21 @@ use native.Mathlib.Omega.{arith}
 use native.Mathlib.Nat.{mul-le-mul-left, mul-zero, mul-suc, div-le-self, mul-div-le, le-div-iff-mul-le, div-lt-iff-lt-mul, div-add-mod, mul-add-div, add-mul}
 use lib.ListN.{length, length-append, take, drop, length-drop}
 use lib.Seq.{length-take-le, take-at, drop-at}
-use Rattle.fields.specs.Bytes.{les, leBytes, cat, cut, put}
+use Rattle.fields.specs.Bytes.{les, leBytes, cat, cut}
+use Rattle.fields.specs.Put.{put}
 use Rattle.fields.specs.Rows.{rowBytes}
 use Rattle.fields.proofs.Bytes.{length-les}
 use Rattle.fields.proofs.Puts.{put-next, put-number}
 use Rattle.fields.proofs.Rows.{length-rows}
-use Rattle.write_blocks.specs.Layout.{address, placeOf, behind, endOf, lengths, Laid}
-use Rattle.write_blocks.specs.Lists.{perPart, partCount, partCounts, chunks, firsts, sizes, partSizes, offsetSizes, listSizes, tableAt, partsFrom, itemsEnd, offsetsAddress, listRow, partRow, tableBytes, frontBlocks, partBlocks, offsetBlocks, listBlocks, Wide, ListRoom}
+use Rattle.write_blocks.specs.Layout.{address, placeOf, behind, endOf}
+use Rattle.write_blocks.specs.Laid.{lengths, allocated, reached, Laid}
+use Rattle.write_blocks.specs.Lists.{perPart, partCount, partCounts, chunks, firsts, sizes, partSizes, offsetSizes, listSizes, tableAt, partsFrom, itemsEnd, offsetsAddress, listRow, partRow, tableBytes, frontBlocks, partBlocks, offsetBlocks, listBlocks}
+use Rattle.write_blocks.specs.ListRoom.{Wide, ListRoom}
+use Rattle.write_blocks.specs.Optional.{sizeOf, addressOf}
 use Rattle.write_blocks.specs.Placed.{Small}
 use Rattle.write_blocks.specs.declared.Layout.{Layout}
-use Rattle.write_blocks.proofs.Layouts.{place-ge, end-ge, end-append, small-append, lengths-append, laid-then, one-end}
+use Rattle.write_blocks.proofs.Optional.{size-some, address-some}
+use Rattle.write_blocks.proofs.Layouts.{place-ge, end-ge, end-append, small-append, lengths-append, at-of, reached-at, laid-then, laid-end, one-end}
 
 -- ---- how many items a part takes, and how many parts n items take
 
@@ -62,6 +67,9 @@ module _ (per k i left m : ℕ) (h : i < k) (is : m ≡ min per left) where
   -- the end behind it and the rest
   pub end-turn : (w p : ℕ) → endOf p (sizes w (partCounts (k - i) per left)) ≡ endOf (behind p (w * m)) (sizes w (partCounts (k - (i + 1)) per (left - m)))
   end-turn w p = rw counts-turn
+
+  pub reached-turn : (w : ℕ) (l : Layout) → reached l (sizes w (partCounts (k - i) per left)) ≡ reached (allocated l (w * m)) (sizes w (partCounts (k - (i + 1)) per (left - m)))
+  reached-turn w l = rw counts-turn
 
   pub room-turn : (w p : ℕ) → behind p (w * m) ≤ endOf p (sizes w (partCounts (k - i) per left))
   room-turn w p = omega (arith, end-turn w p, end-ge (behind p (w * m)) (sizes w (partCounts (k - (i + 1)) per (left - m))))
@@ -131,13 +139,18 @@ pub sizes-some : (k : ℕ) → (k ≡ 0 → ⊥) → offsetSizes k ≡ 4 * k ∷
 sizes-some zero h = absurd (h refl)
 sizes-some (suc k) h = refl
 
+-- which is the size of a block that stands only where there is something
+pub sizes-optional : (k : ℕ) → sizeOf (4 * k) ≡ offsetSizes k
+sizes-optional zero = refl
+sizes-optional (suc k) = size-some (4 * suc k) (omega arith)
+
 pub blocks-some : (k per n : ℕ) → (k ≡ 0 → ⊥) → offsetBlocks (partCounts k per n) ≡ les 4 (firsts 0 (partCounts k per n)) ∷ []
 blocks-some zero per n h = absurd (h refl)
 blocks-some (suc k) per n h = refl
 
-pub address-some : (q k : ℕ) → (k ≡ 0 → ⊥) → offsetsAddress q k ≡ address (placeOf q (4 * k))
-address-some q zero h = absurd (h refl)
-address-some q (suc k) h = refl
+pub address-optional : (q k : ℕ) → addressOf q (4 * k) ≡ offsetsAddress q k
+address-optional q zero = refl
+address-optional q (suc k) = address-some q (4 * suc k) (omega arith)
 
 -- ---- the blocks of a list have the sizes that the number of items gives
 
@@ -186,6 +199,10 @@ list-ends end w n =
       whole = e;
     }
 
+-- the layout behind its items ends there
+pub items-at : (l : Layout) {r : Layout} (w n : ℕ) → r ≡ reached l (48 ∷ 16 * partCount w n ∷ partSizes w n) → r .at ≡ itemsEnd (l .at) w n
+items-at l w n e = at-of e ∙ reached-at l (48 ∷ 16 * partCount w n ∷ partSizes w n)
+
 -- what a list's writers are asked for behind its front, and behind its items
 pub room-parts : {end w n : ℕ} → ListRoom end w n (listSizes w n) → ListRoom (partsFrom end (partCount w n)) w n (partSizes w n)
 room-parts {end} {w} {n} r = record { some = r .some; page = r .page; table = r .table; below = omega (arith, list-ends end w n, r .below) }
@@ -199,12 +216,12 @@ offsets-below {end} k r e some = let b : endOf end (offsetSizes k) < 2 ^ 28 = rw
 
 -- the layout behind its front, and behind its items
 pub front-end : {l m : Layout} (vft w n : ℕ) {xs ys : List ℕ} → Laid l (frontBlocks (l .at) vft w n) m xs ys → m .at ≡ partsFrom (l .at) (partCount w n)
-front-end {l} vft w n f = f .ends ∙ ap (endOf (l .at)) (front-lengths (l .at) vft w n)
+front-end {l} vft w n f = laid-end f ∙ ap (endOf (l .at)) (front-lengths (l .at) vft w n)
 
 pub items-end : {l m : Layout} (w k per n : ℕ) (items : List (List ℕ)) {xs ys : List ℕ} → Wide w items → length items ≡ n
     → Laid l (map cat (chunks k per items)) m xs ys → m .at ≡ endOf (l .at) (sizes w (partCounts k per n))
 items-end {l} w k per n items h e f =
-    f .ends ∙ ap (endOf (l .at)) (part-lengths w k per items h) ∙ ap (λ (j : ℕ). endOf (l .at) (sizes w (partCounts k per j))) e
+    laid-end f ∙ ap (endOf (l .at)) (part-lengths w k per items h) ∙ ap (λ (j : ℕ). endOf (l .at) (sizes w (partCounts k per j))) e
 
 -- so the layout behind its front has room for its items, and the one behind those for its offsets
 pub front-room : {l m : Layout} (vft w n : ℕ) {xs ys : List ℕ} → ListRoom (l .at) w n (listSizes w n) → Laid l (frontBlocks (l .at) vft w n) m xs ys

@@ -6,10 +6,13 @@ use native.Mathlib.Omega.{arith}
 use native.Mathlib.Nat.{sub-zero, mul-suc}
 use lib.ListN.{length, take, drop, length-drop}
 use lib.Seq.{length-take-le}
-use Rattle.fields.specs.Bytes.{cat, put}
+use Rattle.fields.specs.Bytes.{cat}
+use Rattle.fields.specs.Put.{put}
 use Rattle.fields.proofs.Puts.{length-put, put-nil, put-next}
-use Rattle.write_blocks.specs.Layout.{behind, endOf, Laid}
-use Rattle.write_blocks.specs.Lists.{partCounts, chunks, sizes, Wide}
+use Rattle.write_blocks.specs.Layout.{behind, endOf}
+use Rattle.write_blocks.specs.Laid.{Laid}
+use Rattle.write_blocks.specs.Lists.{partCounts, chunks, sizes}
+use Rattle.write_blocks.specs.ListRoom.{Wide}
 use Rattle.write_blocks.specs.declared.Layout.{Layout}
 use Rattle.write_blocks.proofs.Layouts.{laid-none, laid-then, one-end}
 use Rattle.write_blocks.proofs.Lists.{length-cat, wide-take, wide-drop, room-turn, end-turn}

@@ -11,7 +11,8 @@ use lib.ListN.{length, getD, length-append, length-replicate, getD-replicate, Li
 use lib.Seq.{getD-append-add}
 use Rattle.fields.specs.Bytes.{zeros}
 use Rattle.fields.proofs.Holds.{Holds, held-end}
-use Rattle.write_blocks.specs.Layout.{placeOf, behind, startAt, layBlock, layBlocks, pagesOf, lengths}
+use Rattle.write_blocks.specs.Layout.{placeOf, behind, layBlock, layBlocks, pagesOf}
+use Rattle.write_blocks.specs.Laid.{startAt, lengths}
 use Rattle.write_blocks.specs.Placed.{Small, start, size, Placed}
 use Rattle.write_blocks.proofs.Layouts.{place-ge, place-aligned, place-in-page, end-near, length-lay, length-blocks, length-lengths}
 use Rattle.write_blocks.proofs.Standing.{stand, stand-at}

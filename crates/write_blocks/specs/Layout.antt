@@ -1,12 +1,10 @@
 -- Where blocks stand in the pages, and the bytes that they make: document 01, module 7. Definitions only.
-use Prim.Native.Nat.{ℕ, zero, suc, _+_, _-_, _*_, _/_, _%_}
-use mathlib.Core.Path.{_≡_}
+use Prim.Native.Nat.{ℕ, _+_, _-_, _*_, _/_, _%_}
 use mathlib.Core.Bool.{cond}
 use mathlib.Core.List.{List, [], _∷_, _++_}
 use lib.ListN.{length}
 use lib.Dec.{leb}
-use Rattle.fields.specs.Bytes.{put, zeros}
-use Rattle.write_blocks.specs.declared.Layout.{Layout}
+use Rattle.fields.specs.Bytes.{zeros}
 
 -- the first multiple of 16 not below the end so far
 abbrev pub aligned : ℕ → ℕ
@@ -25,19 +23,9 @@ abbrev pub endOf : ℕ → List ℕ → ℕ
 endOf end [] = end
 endOf end (n ∷ ns) = endOf (behind end n) ns
 
--- where block i of these sizes starts
-abbrev pub startAt : ℕ → List ℕ → ℕ → ℕ
-startAt end [] i = 0
-startAt end (n ∷ ns) zero = placeOf end n
-startAt end (n ∷ ns) (suc i) = startAt (behind end n) ns i
-
 -- the address of a position: that of the system section
 abbrev pub address : ℕ → ℕ
 address at = 0x5000_0000 + at
-
-abbrev pub lengths : List (List ℕ) → List ℕ
-lengths [] = []
-lengths (b ∷ bs) = length b ∷ lengths bs
 
 -- the bytes skipped before a block, which are zero, and the block
 abbrev pub layBlock : ℕ → List ℕ → List ℕ
@@ -51,8 +39,3 @@ layBlocks end (b ∷ bs) = layBlock end b ++ layBlocks (behind end (length b)) b
 -- the pages that blocks make
 abbrev pub pagesOf : List (List ℕ) → List ℕ
 pagesOf bs = layBlocks 0 bs
-
--- ys is xs with the blocks bs laid out from l on, and r is the layout behind them
-pub record Laid (l : Layout) (bs : List (List ℕ)) (r : Layout) (xs ys : List ℕ) : Type 0 where
-  pub ends : r .at ≡ endOf (l .at) (lengths bs)
-  pub bytes : ys ≡ put (l .at) (layBlocks (l .at) bs) xs

@@ -1,7 +1,6 @@
 -- A list in the pages: header, part table, items of each part, offsets. An item is its bytes, so that one definition serves vertices, indices,
 -- edges and polygons. Sizes and positions come from the number of items alone, contents from the positions. Definitions only.
-use Prim.Native.Nat.{ℕ, zero, suc, _+_, _-_, _*_, _/_, _^_, _≤_, _<_, min}
-use mathlib.Core.Path.{_≡_}
+use Prim.Native.Nat.{ℕ, zero, suc, _+_, _-_, _*_, _/_, min}
 use mathlib.Core.List.{List, [], _∷_, _++_, map}
 use lib.ListN.{length, take, drop}
 use Rattle.fields.specs.Bytes.{les, cat}
@@ -31,11 +30,6 @@ chunks (suc k) per xs = take (min per (length xs)) xs ∷ chunks k per (drop (mi
 abbrev pub firsts : ℕ → List ℕ → List ℕ
 firsts f [] = []
 firsts f (m ∷ ms) = f ∷ firsts (f + m) ms
-
--- items of w bytes each
-abbrev pub Wide : ℕ → List (List ℕ) → Type 0
-Wide w [] = Unit
-Wide w (b ∷ items) = (length b ≡ w) × Wide w items
 
 -- ---- sizes: of the parts' items, of the offsets, which have a block where there is a part, and of a list of n items of w bytes
 
@@ -106,11 +100,3 @@ unfoldable pub listBlocks : (end vft w : ℕ) → List (List ℕ) → List (List
 listBlocks end vft w items =
     frontBlocks end vft w (length items)
     ++ (partBlocks w items ++ offsetBlocks (partCounts (partCount w (length items)) (perPart w) (length items)))
-
--- ---- what a list's writers are asked for: an item takes at most a page, and so does the part table, and blocks of these sizes, laid out from `end`
--- on, stay below 2^28, where an address is the system section's
-pub record ListRoom (end w n : ℕ) (ns : List ℕ) : Type 0 where
-  pub some : 1 ≤ w
-  pub page : w ≤ 16384
-  pub table : partCount w n ≤ 1024
-  pub below : endOf end ns < 2 ^ 28

@@ -3,7 +3,8 @@ use Prim.Native.Nat.{ℕ, _+_, _*_, _%_, _≤_, _<_}
 use mathlib.Core.Path.{_≡_}
 use mathlib.Core.List.{List, [], _∷_}
 use lib.ListN.{length, getD}
-use Rattle.write_blocks.specs.Layout.{startAt, lengths, pagesOf}
+use Rattle.write_blocks.specs.Layout.{pagesOf}
+use Rattle.write_blocks.specs.Laid.{startAt, lengths}
 
 -- each of the sizes is at most a page
 abbrev pub Small : List ℕ → Type 0

@@ -4,10 +4,14 @@
 ghost use mathlib.Core.Path.{_≡_};
 ghost use mathlib.Core.List.{[], _∷_};
 ghost use Prim.Native.Nat.{_+_, _-_, _*_, _/_, _^_, _≤_, _<_, min};
-ghost use Rattle.fields.specs.Bytes.{les, zeros, put};
+ghost use Rattle.fields.specs.Bytes.{les, zeros};
+ghost use Rattle.fields.specs.Put.{put};
 ghost use Rattle.fields.specs.Rows.{rowBytes};
-ghost use Rattle.write_blocks.specs.Layout.{placeOf, behind, endOf, address, Laid};
-ghost use Rattle.write_blocks.specs.Lists.{perPart, partCount, partCounts, firsts, sizes, offsetSizes, listSizes, tableAt, itemsEnd, offsetsAddress, listRow, partRow, tableBytes, frontBlocks, offsetBlocks, ListRoom};
+ghost use Rattle.write_blocks.specs.Layout.{placeOf, behind, endOf, address};
+ghost use Rattle.write_blocks.specs.Laid.{empty, allocated, reached, Within, Laid};
+ghost use Rattle.write_blocks.specs.Optional.{sizeOf, addressOf};
+ghost use Rattle.write_blocks.specs.Lists.{perPart, partCount, partCounts, firsts, sizes, partSizes, offsetSizes, listSizes, tableAt, listRow, partRow, tableBytes, frontBlocks, offsetBlocks};
+ghost use Rattle.write_blocks.specs.ListRoom.{ListRoom};
 use fields::least;
 use fields::sizes::LIST_PART_SIZE;
 use fields::sizes::LIST_SIZE;
@@ -30,16 +34,17 @@ pub fn place(end: u32, size: u32) -> u64
     (at / PAGE_SIZE + 1) * PAGE_SIZE
 }
 
-// What is laid out so far: its end.
+// What is laid out so far: its end, and the bytes that its blocks asked for, as a word counts them.
 pub struct Layout {
     pub at: usize,
+    pub asked: u32,
 }
 
 impl Layout {
     pub fn new() -> Self
-        ensures { λ r. ⌜ r .at ≡ 0 ⌝ }
+        ensures { λ r. ⌜ r ≡ empty ⌝ }
     {
-        Self { at: 0 }
+        Self { at: 0, asked: 0 }
     }
 
     // Where the next block starts.
@@ -53,12 +58,35 @@ impl Layout {
     // The layout behind the next block.
     pub fn alloc(self, size: usize) -> Self
         requires { ⌜ behind (self .at) size < 2 ^ 28 ⌝ }
-        ensures { λ r. ⌜ r .at ≡ behind (self .at) size ⌝ }
+        ensures { λ r. ⌜ r ≡ allocated self size ⌝ }
     {
         Self {
             at: self.start(size) + size,
+            asked: std::num::wrapping_add_u32(self.asked, size as u32),
         }
     }
+
+    // The layout behind a block that stands only where there is something.
+    pub fn alloc_some(self, size: usize) -> Self
+        requires { ⌜ Within self (sizeOf size) ⌝ }
+        ensures { λ r. ⌜ r ≡ reached self (sizeOf size) ⌝ }
+    {
+        if size == 0 {
+            return self;
+        }
+        self.alloc(size)
+    }
+}
+
+// The address of a block of `size` bytes that is laid out next; 0 where there is none.
+pub fn address_of(l: Layout, size: usize) -> u32
+    requires { ⌜ endOf (l .at) (sizeOf size) < 2 ^ 28 ⌝ }
+    ensures { λ r. ⌜ r ≡ addressOf (l .at) size ⌝ }
+{
+    if 0 < size {
+        return (SYSTEM_BASE + l.start(size)) as u32;
+    }
+    0
 }
 
 // Zeros up to where the next block starts, which is the answer.
@@ -89,7 +117,7 @@ pub fn part_count(w: usize, n: usize) -> usize
 // The layout behind the items of k parts, `per` to a part, of n items of w bytes.
 fn parts_end(l: Layout, w: usize, per: usize, k: usize, n: usize) -> Layout
     requires { ⌜ (w * per ≤ 16384) × (endOf (l .at) (sizes w (partCounts k per n)) < 2 ^ 28) ⌝ }
-    ensures { λ r. ⌜ r .at ≡ endOf (l .at) (sizes w (partCounts k per n)) ⌝ }
+    ensures { λ r. ⌜ r ≡ reached l (sizes w (partCounts k per n)) ⌝ }
 {
     let mut next = l;
     let mut left = n;
@@ -194,17 +222,6 @@ fn lay_table(out: &mut [u8], l: Layout, w: usize, per: usize, k: usize, n: usize
     next
 }
 
-// The address of the offsets of k parts whose items end at l: 0 where there is no part.
-fn offsets_address(l: Layout, k: usize) -> u32
-    requires { ⌜ endOf (l .at) (offsetSizes k) < 2 ^ 28 ⌝ }
-    ensures { λ r. ⌜ r ≡ offsetsAddress (l .at) k ⌝ }
-{
-    if 0 < k {
-        return (SYSTEM_BASE + l.start(4 * k)) as u32;
-    }
-    0
-}
-
 // Where the pieces of a list stand: how many parts it has, where its part table starts, and the layout behind its items.
 struct Places {
     parts: usize,
@@ -214,7 +231,7 @@ struct Places {
 
 fn list_places(l: Layout, w: usize, n: usize) -> Places
     requires { ⌜ ListRoom (l .at) w n (listSizes w n) ⌝ }
-    ensures { λ r. ⌜ (r .parts ≡ partCount w n) × (r .table ≡ tableAt (l .at) (partCount w n)) × (r .items .at ≡ itemsEnd (l .at) w n) ⌝ }
+    ensures { λ r. ⌜ (r .parts ≡ partCount w n) × (r .table ≡ tableAt (l .at) (partCount w n)) × (r .items ≡ reached l (48 ∷ 16 * partCount w n ∷ partSizes w n)) ⌝ }
 {
     let k = part_count(w, n);
     let header = l.alloc(LIST_SIZE);
@@ -230,13 +247,10 @@ fn list_places(l: Layout, w: usize, n: usize) -> Places
 // The layout behind a list of n items of w bytes: by it pages are known to be too short before a byte is stored.
 pub fn list_end(l: Layout, w: usize, n: usize) -> Layout
     requires { ⌜ ListRoom (l .at) w n (listSizes w n) ⌝ }
-    ensures { λ r. ⌜ r .at ≡ endOf (l .at) (listSizes w n) ⌝ }
+    ensures { λ r. ⌜ r ≡ reached l (listSizes w n) ⌝ }
 {
     let p = list_places(l, w, n);
-    if p.parts == 0 {
-        return p.items;
-    }
-    p.items.alloc(4 * p.parts)
+    p.items.alloc_some(4 * p.parts)
 }
 
 // What stands before the items of a list: its header and its part table.
@@ -245,7 +259,7 @@ pub fn lay_list_front(out: &mut [u8], l: Layout, vft: u32, w: usize, n: usize) -
     ensures { λ r. ⌜ Laid l (frontBlocks (l .at) vft w n) r (now (out .entry)) (now (out .exit)) ⌝ }
 {
     let p = list_places(l, w, n);
-    let offsets = offsets_address(p.items, p.parts);
+    let offsets = address_of(p.items, 4 * p.parts);
     let next = lay_list_header(out, l, vft, n, p.table, offsets, p.parts);
     lay_table(out, next, w, PART_SIZE / w, p.parts, n)
 }

@@ -11,15 +11,18 @@ use lib.Dec.{ltb}
 use borrow.Author.Tests.{ltb-false}
 use Rattle.strip.specs.Cell.{Head}
 use Rattle.strip.specs.Box.{finiteBox}
-use Rattle.strip.specs.Reading.{polyAt, polygonAt, polygonsAt, portalAt, pointAt, afterPolygons, headAt}
+use Rattle.strip.specs.Reading.{headAt}
+use Rattle.strip.specs.Rows.{polygonsAt}
 use Rattle.strip.specs.Scan.{Scanned, fault, scan}
+use Rattle.strip.specs.Laid.{cellCounts}
 use Rattle.strip.specs.declared.Counts.{Counts}
-use Rattle.strip.proofs.Steps.{items-length}
-use Rattle.strip.proofs.Laid.{Well}
+use Rattle.strip.proofs.Lengths.{poly-count}
+use Rattle.strip.proofs.Laid.{Well, cell-is, counts-back}
 use Rattle.strip.specs.declared.Refusal.{Refusal}
 use Rattle.cell_record.specs.Record.{recordOf}
 use Rattle.cell_record.specs.declared.CellRecord.{CellRecord}
-use Rattle.distinct.specs.Distinct.{indexOf, distinctFrom, numbersFrom}
+use Rattle.distinct.specs.Distinct.{indexOf, distinctFrom}
+use Rattle.distinct.specs.Numbers.{numbersFrom}
 use Rattle.distinct.proofs.Left.{drop-more}
 use Rattle.distinct.proofs.Final.{numbers-at-the-end}
 use Rattle.areas.specs.Areas.{seeded}
@@ -29,10 +32,10 @@ use Rattle.write_vertices.proofs.Enough.{trees-fit}
 use Rattle.write_pages.specs.Items.{floats, Corner, corners, triples}
 use Rattle.write_pages.specs.Checks.{Verdict, faultIf, firstFault, at}
 use Rattle.write_pages.proofs.Firsts.{passed, at-none}
-use Rattle.write_decide.specs.Steps.{says, said, TablesReady, PolygonsDone}
+use Rattle.write_decide.specs.Steps.{says, VerdictHas, TablesReady, PolygonsDone}
 use Rattle.write_decide.specs.declared.Verdict.{Verdict as Said}
 use Rattle.write_decide.specs.declared.Verdict.the-variants.{Fine, Refused}
-use Rattle.write_decide.proofs.Said.{never-both, said-says, said-fine}
+use Rattle.write_decide.proofs.Said.{never-both, fine-none}
 use Rattle.write_decide.specs.Decide.{onPolygons, beforeLeaves, onScan, trees, most, indicesAt, tablesEnd, Tabled, WellDone, DecideDone}
 use Rattle.write_decide.specs.declared.polygons.Tables.{Tables}
 use Rattle.write_decide.specs.declared.polygons.Decided.{Decided}
@@ -130,27 +133,24 @@ not-formed s w q k r e = record {
 
 -- ---- 1, 10, 11
 
-module _ (s w : List ℕ) (n : Counts) (W : Well s (n .polys) (n .portals) (n .points)) where
+module _ (s w : List ℕ) (n : Counts) (W : Well s n) where
   abbrev front-fault : ℕ
   front-fault = firstFault (faultIf (ltb (length w / 4) (length s)) 1 ∷ faultIf (not (finiteBox (headAt s 0))) 10 ∷ faultIf (ltb 16383 (n .polys)) 11 ∷ [])
 
-  poly-count : length (W .cell .polys) ≡ n .polys
-  poly-count = rw (W .polys) (items-length (polygonAt s) (λ x. polyAt s x .next) (n .polys) 14)
-
   front : (rest : Verdict) → onScan (beforeLeaves (length s) (length w) rest) (scan s) ≡ at 0 front-fault (onPolygons (headAt s 0) (polygonsAt s 14 (n .polys)) rest)
   unfolding beforeLeaves
-  front rest = rw (W .is, W .head, poly-count, W .polys)
+  front rest = rw (W .is, poly-count s (n .polys))
 
-  module _ (v : Said) (ev : v ≡ said 0 front-fault) where
+  module _ (v : Said) (ev : VerdictHas v front-fault) where
     -- 1 passed
     pub room : v ≡ Fine → 4 * length s ≤ length w
-    room none = omega (arith, ltb-false (length w / 4) (length s) (passed (ltb (length w / 4) (length s)) 0 _ (said-fine 0 front-fault (sym ev ∙ none))))
+    room none = omega (arith, ltb-false (length w / 4) (length s) (passed (ltb (length w / 4) (length s)) 0 _ (fine-none v front-fault ev none)))
 
     pub bad-front : (q : Refusal) → v ≡ Refused q → (r : Decision) → r .verdict ≡ Refused q → DecideDone s w w r
     bad-front q eq r e = record {
       verdict = λ rest.
           let after = onPolygons (headAt s 0) (polygonsAt s 14 (n .polys)) rest in
-          rw e (ap (λ (u : Said). says u after) (sym eq ∙ ev) ∙ said-says 0 front-fault after ∙ sym (front rest));
+          rw e (ap (λ (u : Said). says u after) (sym eq) ∙ ev after ∙ sym (front rest));
       long = refl;
       beyond = refl;
       tabled = λ z. never-both (r .verdict) q e z;
@@ -159,15 +159,11 @@ module _ (s w : List ℕ) (n : Counts) (W : Well s (n .polys) (n .portals) (n .p
 
     pub good-front : v ≡ Fine → (w' : List ℕ) (r : Decision) → WellDone s (headAt s 0) n w w' r → DecideDone s w w' r
     good-front none w' r d = record {
-      verdict = λ rest. d .verdict rest ∙ sym (front rest ∙ at-none 0 front-fault _ (said-fine 0 front-fault (sym ev ∙ none)));
+      verdict = λ rest. d .verdict rest ∙ sym (front rest ∙ at-none 0 front-fault _ (fine-none v front-fault ev none));
       long = d .long;
       beyond = drop-more (tablesEnd (length s)) (2 * length s) (omega (arith, trees-in (length s) (W .long) .2)) w' w (d .beyond);
       tabled = λ z c e.
-          let same : c ≡ W .cell = cc (e, W .is) in
-          rw (same, W .head, W .polys) (d .tabled z);
+          rw (cell-is s W c e) (d .tabled z);
       counts = λ z c e.
-          let same : c ≡ W .cell = cc (e, W .is) in
-          let qs : length (W .cell .portals) ≡ n .portals = rw (W .portals) (items-length (portalAt s) (λ x. x + 11) (n .portals) (afterPolygons s 14 (n .polys))) in
-          let ts : length (W .cell .points) ≡ n .points = rw (W .points) (items-length (pointAt s) (λ x. x + 4) (n .points) (afterPolygons s 14 (n .polys) + 11 * n .portals)) in
-          rw (same, poly-count, qs, ts) (d .counts);
+          d .counts ∙ sym (ap cellCounts (cell-is s W c e) ∙ counts-back s n);
     }

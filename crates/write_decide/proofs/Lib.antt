@@ -1,3 +1,4 @@
+pub mod Places
 pub mod Said
 pub mod Answers
 pub mod Corners

@@ -3,16 +3,19 @@ use Prim.Native.Nat.{ℕ, _+_, _*_, _-_, _≤_, _<_}
 use native.Mathlib.Omega.{arith}
 use native.Mathlib.Nat.{add-zero, sub-zero}
 use mathlib.Core.Bool.{_||_}
-use mathlib.Core.Path.{_≡_, refl, sym, _∙_}
+use mathlib.Core.Path.{_≡_, refl, ap, sym, _∙_}
 use mathlib.Core.List.{List, [], _∷_, _++_, append-assoc}
 use lib.ListN.{length, take, drop, length-append}
 use lib.Dec.{ltb}
 use borrow.Author.Tests.{lt-ltb, le-ltb, ltb-false}
 use Rattle.math.specs.declared.vec3.Vec3.{Vec3 as Floats}
 use Rattle.strip.specs.Cell.{NavPoly}
-use Rattle.strip.specs.Reading.{word, vecAt, polyAt, polygonOf, polygonAt, polygonsAt, afterPolygons}
+use Rattle.strip.specs.Reading.{polyAt, polygonOf, polygonAt}
+use Rattle.strip.specs.Rows.{polygonsAt, afterPolygons}
 use Rattle.strip.specs.declared.Poly.{Poly}
-use Rattle.strip.proofs.Steps.{items-length, items-done, polygons-turn, parts, after-polygon, after-ge, next-inside}
+use Rattle.strip.proofs.Lengths.{vertex-count, link-count}
+use Rattle.strip.proofs.Steps.{items-done, polygons-turn, parts, after-polygon, after-ge, next-inside}
+use Rattle.distinct.specs.Distinct.{distinctFrom}
 use Rattle.distinct.proofs.Laws.{numbers-append}
 use Rattle.distinct.proofs.Left.{drop-more}
 use Rattle.write_vertices.specs.Table.{met}
@@ -21,13 +24,15 @@ use Rattle.write_pages.specs.Checks.{firstFault, faultIf, at, cornersFault, pol
 use Rattle.distinct.proofs.Final.{distinct-append}
 use Rattle.write_pages.proofs.Placed.{length-corners}
 use Rattle.write_pages.proofs.Accepted.{or-false, triples-append, named-append}
-use Rattle.write_pages.proofs.Firsts.{passed, not-none, first-none, first-some, first-last, first-two, at-none}
-use Rattle.write_decide.specs.Steps.{runFault, TablesReady, Added, CornersDone, PolygonDone, PolygonsDone, behindTable}
+use Rattle.write_pages.proofs.Firsts.{passed, first-none, first-some, first-last, first-two, at-none}
+use Rattle.write_decide.specs.Steps.{runFault, HasFault, TablesReady, Added, CornersDone, PolygonDone, PolygonsDone, behindTable}
+use Rattle.write_decide.specs.declared.polygons.Check.{Check}
+use Rattle.write_decide.specs.declared.polygons.Check.the-variants as Check
 use Rattle.write_decide.specs.declared.polygons.Tables.{Tables}
-use Rattle.write_decide.specs.declared.polygons.Met.{Met}
+use Rattle.write_decide.specs.declared.polygons.TablesAfter.{TablesAfter}
 use Rattle.write_decide.specs.declared.polygons.Decided.{Decided}
 use Rattle.write_decide.specs.declared.Verdict.the-variants.{Fine, Refused}
-use Rattle.write_decide.proofs.Said.{never-both, at-refused}
+use Rattle.write_decide.proofs.Said.{never-both, not-passed, passes, passed-none, refuses, refused-some}
 use Rattle.write_decide.proofs.Corners.{nothing-added}
 
 -- ---- lists in a row
@@ -51,21 +56,22 @@ module _ (bb-min bb-size : Floats) (w ids : List ℕ) (b m : ℕ) (t : Tables) (
   unfolding polygonFault
   in-order = first-two _ _ _
 
-  module _ (f : ℕ) (ef : f ≡ runFault (length (q .vertices)) start) where
+  module _ (f : Check) (ef : HasFault f (runFault (length (q .vertices)) start)) where
     -- nothing was touched
-    pub bad-run : (f ≡ 0 → ⊥) → PolygonDone bb-min bb-size w w ids ids b m t start q (record { tables = t; fault = f })
-    bad-run ne = record {
-      fault = ef ∙ sym (in-order ∙ first-some _ _ (λ e. ne (ef ∙ e)));
+    pub bad-run : (n : ℕ) → f ≡ Check.Refused n → PolygonDone bb-min bb-size w w ids ids b m t start q (record { tables = t; check = f })
+    bad-run n ne = record {
+      fault = λ place rest. ef place rest ∙ ap (λ (k : ℕ). at place k rest) (sym (in-order ∙ first-some _ _ (refused-some f n _ ef ne .1)));
       long = refl;
       back = refl;
-      ready = λ z. absurd (ne z);
-      least = λ z. absurd (ne z);
-      added = λ z. absurd (ne z);
+      ready = λ z. not-passed ne z;
+      least = λ z. not-passed ne z;
+      added = λ z. not-passed ne z;
     }
 
-    module _ (good : f ≡ 0) (room : start + length (q .vertices) ≤ m) (w' ids' : List ℕ) (r : Met) (d : CornersDone w w' ids ids' b m t start (cornersIn bb-min bb-size q) r) where
-      from-corners : polygonFault bb-min bb-size (met w b (t .vertices)) (take (t .areas) ids) start q ≡ firstFault (r .fault ∷ faultIf (ltb 7 (length (q .links))) 16 ∷ [])
-      from-corners = in-order ∙ first-none _ _ (sym ef ∙ good) ∙ rw (d .fault)
+    module _ (good : f ≡ Check.Passed) (room : start + length (q .vertices) ≤ m) (w' ids' : List ℕ) (r : TablesAfter) (d : CornersDone w w' ids ids' b m t start (cornersIn bb-min bb-size q) r) where
+      from-corners : polygonFault bb-min bb-size (met w b (t .vertices)) (take (t .areas) ids) start q
+          ≡ firstFault (cornersFault (met w b (t .vertices)) (take (t .areas) ids) (cornersIn bb-min bb-size q) ∷ faultIf (ltb 7 (length (q .links))) 16 ∷ [])
+      from-corners = in-order ∙ first-none _ _ (passed-none f _ ef good)
 
       long-enough : start + length (cornersIn bb-min bb-size q) ≡ start + length (q .vertices)
       long-enough = omega (arith, length-corners bb-min bb-size (q .vertices) (q .edges))
@@ -73,46 +79,40 @@ module _ (bb-min bb-size : Floats) (w ids : List ℕ) (b m : ℕ) (t : Tables) (
       rest-same : drop m (behindTable w' b m) ≡ drop m (behindTable w b m)
       rest-same = drop-more (start + length (cornersIn bb-min bb-size q)) m (omega (arith, long-enough)) (behindTable w' b m) (behindTable w b m) (d .back)
 
-      pub bad-corner : (r .fault ≡ 0 → ⊥) → PolygonDone bb-min bb-size w w' ids ids' b m t start q r
-      bad-corner ne = record {
-        fault = sym (from-corners ∙ first-some _ _ ne);
+      pub bad-corner : (n : ℕ) → r .check ≡ Check.Refused n → PolygonDone bb-min bb-size w w' ids ids' b m t start q r
+      bad-corner n ne = record {
+        fault = λ place rest. d .fault place rest ∙ ap (λ (k : ℕ). at place k rest) (sym (from-corners ∙ first-some _ _ (refused-some _ n _ (d .fault) ne .1)));
         long = d .long;
         back = rest-same;
-        ready = λ z. absurd (ne z);
-        least = λ z. absurd (ne z);
-        added = λ z. absurd (ne z);
+        ready = λ z. not-passed ne z;
+        least = λ z. not-passed ne z;
+        added = λ z. not-passed ne z;
       }
 
-      module _ (none : r .fault ≡ 0) where
-        pub many-links : 7 < length (q .links) → PolygonDone bb-min bb-size w w' ids ids' b m t start q (record { tables = r .tables; fault = 16 })
-        many-links h = record {
-          fault = sym (from-corners ∙ first-none _ _ none ∙ first-last _ ∙ rw (lt-ltb 7 (length (q .links)) h));
+      module _ (none : r .check ≡ Check.Passed) where
+        -- only 16 is left
+        only-links : polygonFault bb-min bb-size (met w b (t .vertices)) (take (t .areas) ids) start q ≡ faultIf (ltb 7 (length (q .links))) 16
+        only-links = from-corners ∙ first-none _ _ (passed-none _ _ (d .fault) none) ∙ first-last _
+
+        pub many-links : (n : ℕ) → n ≡ 16 → 7 < length (q .links) → PolygonDone bb-min bb-size w w' ids ids' b m t start q (record { tables = r .tables; check = Check.Refused n })
+        many-links n en h = record {
+          fault = refuses _ n _ refl (only-links ∙ rw (lt-ltb 7 (length (q .links)) h) (sym en)) (λ z. omega arith);
           long = d .long;
           back = rest-same;
-          ready = λ z. not-none 15 z;
-          least = λ z. not-none 15 z;
-          added = λ z. not-none 15 z;
+          ready = λ z. not-passed refl z;
+          least = λ z. not-passed refl z;
+          added = λ z. not-passed refl z;
         }
 
         pub polygon-fine : length (q .links) ≤ 7 → PolygonDone bb-min bb-size w w' ids ids' b m t start q r
         polygon-fine h = record {
-          fault = none ∙ sym (from-corners ∙ first-none _ _ none ∙ first-last _ ∙ rw (le-ltb 7 (length (q .links)) h));
+          fault = passes _ _ none (only-links ∙ rw (le-ltb 7 (length (q .links)) h));
           long = d .long;
           back = rest-same;
           ready = λ z. rw long-enough at (d .ready);
-          least = λ z. ltb-false (length (q .vertices)) 3 (or-false _ _ (passed (ltb (length (q .vertices)) 3 || ltb 2047 (length (q .vertices))) 11 _ (sym ef ∙ good)) .0);
+          least = λ z. ltb-false (length (q .vertices)) 3 (or-false _ _ (passed (ltb (length (q .vertices)) 3 || ltb 2047 (length (q .vertices))) 11 _ (passed-none f _ ef good)) .0);
           added = λ z. d .added z;
         }
-
--- the counts of the polygon at a cursor
-module _ (s : List ℕ) (p : Poly) where
-  pub vertex-count : length (polygonOf s p .vertices) ≡ p .vertices
-  unfolding polygonOf
-  vertex-count = items-length (vecAt s) (λ x. x + 3) (p .vertices) (p .«vertex_at»)
-
-  pub link-count : length (polygonOf s p .links) ≡ p .links
-  unfolding polygonOf
-  link-count = items-length (word s) (λ x. x + 1) (p .links) (p .at + 4)
 
 -- ---- all polygons
 
@@ -132,12 +132,12 @@ module _ (bb-min bb-size : Floats) (w ids : List ℕ) (b m : ℕ) (t : Tables) (
     added = λ z. nothing-added w ids b m t start;
   }
 
-  module _ (w' ids' : List ℕ) (p : NavPoly) (ps : List NavPoly) (r : Met) (d : PolygonDone bb-min bb-size w w' ids ids' b m t start p r) where
-    stopped : (r .fault ≡ 0 → ⊥)
-        → PolygonsDone bb-min bb-size w w' ids ids' b m t start k l (p ∷ ps) (record { tables = r .tables; corners = start; links = l; verdict = Refused (record { number = r .fault; place = k }) })
+  module _ (w' ids' : List ℕ) (p : NavPoly) (ps : List NavPoly) (r : TablesAfter) (d : PolygonDone bb-min bb-size w w' ids ids' b m t start p r) where
+    stopped : (n : ℕ) → r .check ≡ Check.Refused n
+        → PolygonsDone bb-min bb-size w w' ids ids' b m t start k l (p ∷ ps) (record { tables = r .tables; corners = start; links = l; verdict = Refused (record { number = n; place = k }) })
     unfolding polygonsVerdict
-    stopped ne = record {
-      verdict = λ rest. rw (← d .fault) (at-refused k (r .fault) _ ne);
+    stopped n en = record {
+      verdict = λ rest. rw en at (d .fault k (polygonsVerdict bb-min bb-size (distinctFrom (met w b (t .vertices)) (triples (cornersIn bb-min bb-size p))) (distinctFrom (take (t .areas) ids) (named (cornersIn bb-min bb-size p))) (start + length (p .vertices)) (k + 1) ps rest));
       long = d .long;
       back = d .back;
       ready = λ z. never-both _ _ refl z;
@@ -148,7 +148,7 @@ module _ (bb-min bb-size : Floats) (w ids : List ℕ) (b m : ℕ) (t : Tables) (
       added = λ z. never-both _ _ refl z;
     }
 
-    went-on : r .fault ≡ 0 → (w'' ids'' : List ℕ) (q : Decided)
+    went-on : r .check ≡ Check.Passed → (w'' ids'' : List ℕ) (q : Decided)
         → PolygonsDone bb-min bb-size w' w'' ids' ids'' b m (r .tables) (start + length (p .vertices)) (k + 1) (l + length (p .links)) ps q
         → PolygonsDone bb-min bb-size w w'' ids ids'' b m t start k l (p ∷ ps) q
     unfolding polygonsVerdict gather
@@ -156,7 +156,7 @@ module _ (bb-min bb-size : Floats) (w ids : List ℕ) (b m : ℕ) (t : Tables) (
         let h = d .added none in
         let count : start + length (cornersIn bb-min bb-size p) ≡ start + length (p .vertices) = omega (arith, length-corners bb-min bb-size (p .vertices) (p .edges)) in
         record {
-          verdict = λ rest. g .verdict rest ∙ (rw (h .now-met, h .now-ids)) ∙ sym (at-none k _ _ (sym (d .fault) ∙ none));
+          verdict = λ rest. g .verdict rest ∙ (rw (h .now-met, h .now-ids)) ∙ sym (at-none k _ _ (passed-none _ _ (d .fault) none));
           long = g .long ∙ d .long;
           back = g .back ∙ d .back;
           ready = g .ready;
@@ -169,7 +169,7 @@ module _ (bb-min bb-size : Floats) (w ids : List ℕ) (b m : ℕ) (t : Tables) (
         }
 
 -- before polygon i, at `at`: what is done with the polygons that are left is done with all
-pub record Onward (s : List ℕ) (bb-min bb-size : Floats) (n b m : ℕ) (had : Tables) (w₀ ids₀ w ids : List ℕ) (t : Tables) (at start l i : ℕ) : Type 0 where
+pub record Onward (s : List ℕ) (bb-min bb-size : Floats) (n b m : ℕ) (t₀ : Tables) (w₀ ids₀ w ids : List ℕ) (t : Tables) (at start l i : ℕ) : Type 0 where
   pub within : i ≤ n
   pub inside : afterPolygons s at (n - i) ≤ length s
   pub ahead : 3 * start + 14 ≤ at
@@ -177,10 +177,10 @@ pub record Onward (s : List ℕ) (bb-min bb-size : Floats) (n b m : ℕ) (had : 
   pub ready : TablesReady w ids b m (t .vertices) start
   pub long : length w ≡ length w₀
   pub rest : (w' ids' : List ℕ) (r : Decided) → PolygonsDone bb-min bb-size w w' ids ids' b m t start i l (polygonsAt s at (n - i)) r
-      → PolygonsDone bb-min bb-size w₀ w' ids₀ ids' b m had 0 0 0 (polygonsAt s 14 n) r
+      → PolygonsDone bb-min bb-size w₀ w' ids₀ ids' b m t₀ 0 0 0 (polygonsAt s 14 n) r
 
-module _ (s : List ℕ) (bb-min bb-size : Floats) (n b m : ℕ) (had : Tables) (w₀ ids₀ : List ℕ) where
-  pub begin : afterPolygons s 14 n ≤ length s → TablesReady w₀ ids₀ b m (had .vertices) 0 → Onward s bb-min bb-size n b m had w₀ ids₀ w₀ ids₀ had 14 0 0 0
+module _ (s : List ℕ) (bb-min bb-size : Floats) (n b m : ℕ) (t₀ : Tables) (w₀ ids₀ : List ℕ) where
+  pub begin : afterPolygons s 14 n ≤ length s → TablesReady w₀ ids₀ b m (t₀ .vertices) 0 → Onward s bb-min bb-size n b m t₀ w₀ ids₀ w₀ ids₀ t₀ 14 0 0 0
   begin h r = record {
     within = omega arith;
     inside = rw (sub-zero n) h;
@@ -191,24 +191,24 @@ module _ (s : List ℕ) (bb-min bb-size : Floats) (n b m : ℕ) (had : Tables) (
     rest = λ w' ids' q d. rw (sub-zero n) at d;
   }
 
-  module _ (w ids : List ℕ) (t : Tables) (at start l i : ℕ) (g : Onward s bb-min bb-size n b m had w₀ ids₀ w ids t at start l i) (h : i < n) (p : Poly) (e : p ≡ polyAt s at) where
+  module _ (w ids : List ℕ) (t : Tables) (at start l i : ℕ) (g : Onward s bb-min bb-size n b m t₀ w₀ ids₀ w ids t at start l i) (h : i < n) (p : Poly) (e : p ≡ polyAt s at) where
     pub next-in : p .next ≤ length s
     next-in = next-inside s at i n (length s) h (g .inside) p e
 
-    module _ (w' ids' : List ℕ) (r : Met) (d : PolygonDone bb-min bb-size w w' ids ids' b m t start (polygonOf s p) r) where
-      pub stop : (r .fault ≡ 0 → ⊥)
-          → PolygonsDone bb-min bb-size w₀ w' ids₀ ids' b m had 0 0 0 (polygonsAt s 14 n) (record { tables = r .tables; corners = start; links = l; verdict = Refused (record { number = r .fault; place = i }) })
-      stop ne = g .rest w' ids' _ (rw (polygons-turn s at i n h p e) (stopped bb-min bb-size w ids b m t start i l w' ids' (polygonOf s p) _ r d ne))
+    module _ (w' ids' : List ℕ) (r : TablesAfter) (d : PolygonDone bb-min bb-size w w' ids ids' b m t start (polygonOf s p) r) where
+      pub stop : (j : ℕ) → r .check ≡ Check.Refused j
+          → PolygonsDone bb-min bb-size w₀ w' ids₀ ids' b m t₀ 0 0 0 (polygonsAt s 14 n) (record { tables = r .tables; corners = start; links = l; verdict = Refused (record { number = j; place = i }) })
+      stop j ej = g .rest w' ids' _ (rw (polygons-turn s at i n h p e) (stopped bb-min bb-size w ids b m t start i l w' ids' (polygonOf s p) _ r d j ej))
 
-      pub again : r .fault ≡ 0 → Onward s bb-min bb-size n b m had w₀ ids₀ w' ids' (r .tables) (p .next) (start + p .vertices) (l + p .links) (i + 1)
+      pub again : r .check ≡ Check.Passed → Onward s bb-min bb-size n b m t₀ w₀ ids₀ w' ids' (r .tables) (p .next) (start + p .vertices) (l + p .links) (i + 1)
       unfolding polygonOf
       again none =
           let q = parts s at p e in
           record {
             within = omega arith;
             inside = omega (arith, after-polygon s at i n h p e, g .inside);
-            ahead = omega (arith, g .ahead, q .first, q .links-end, q .vertices-end, q .edges-end);
-            links = omega (arith, g .links, q .first, q .links-end, q .vertices-end, q .edges-end);
+            ahead = omega (arith, g .ahead, q);
+            links = omega (arith, g .links, q);
             ready = rw (vertex-count s p) at (d .ready none);
             long = d .long ∙ g .long;
             rest = λ w'' ids'' o k.
@@ -216,8 +216,8 @@ module _ (s : List ℕ) (bb-min bb-size : Floats) (n b m : ℕ) (had : Tables) (
                 (rw (polygons-turn s at i n h p e) (went-on bb-min bb-size w ids b m t start i l w' ids' (polygonOf s p) _ r d none w'' ids'' o (rw (← vertex-count s p, ← link-count s p) at k)));
           }
 
-  pub done : (w ids : List ℕ) (t : Tables) (at start l i : ℕ) → Onward s bb-min bb-size n b m had w₀ ids₀ w ids t at start l i → n ≤ i → length s ≤ 3 * m + 2
-      → PolygonsDone bb-min bb-size w₀ w ids₀ ids b m had 0 0 0 (polygonsAt s 14 n) (record { tables = t; corners = start; links = l; verdict = Fine })
+  pub done : (w ids : List ℕ) (t : Tables) (at start l i : ℕ) → Onward s bb-min bb-size n b m t₀ w₀ ids₀ w ids t at start l i → n ≤ i → length s ≤ 3 * m + 2
+      → PolygonsDone bb-min bb-size w₀ w ids₀ ids b m t₀ 0 0 0 (polygonsAt s 14 n) (record { tables = t; corners = start; links = l; verdict = Fine })
   done w ids t at start l i g h fit =
       let few : start ≤ m = omega (arith, g .ahead, g .inside, after-ge (n - i) s at) in
       g .rest w ids _ (rw (items-done (polygonAt s) (λ x. polyAt s x .next) at i n h) (none-left bb-min bb-size w ids b m t start i l (g .ready) few))

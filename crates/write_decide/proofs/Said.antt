@@ -1,10 +1,13 @@
--- A verdict and the fault that it comes of. Assumes nothing.
+-- A verdict, or a check, and the fault that it comes of. Assumes nothing.
 use Prim.Native.Nat.{ℕ, zero, suc}
 use native.Mathlib.Omega.{arith}
 use mathlib.Core.Path.{_≡_, refl, sym, _∙_}
 use Rattle.strip.specs.declared.Refusal.{Refusal}
-use Rattle.write_pages.specs.Checks.{Verdict, refused, at}
-use Rattle.write_decide.specs.Steps.{says, said}
+use Rattle.write_pages.specs.Checks.{Verdict, fine, refused, at}
+use Rattle.write_decide.specs.Steps.{HasFault, VerdictHas}
+use Rattle.write_pages.proofs.Firsts.{at-none}
+use Rattle.write_decide.specs.declared.polygons.Check.{Check}
+use Rattle.write_decide.specs.declared.polygons.Check.the-variants as Check
 use Rattle.write_decide.specs.declared.Verdict.{Verdict as Said}
 use Rattle.write_decide.specs.declared.Verdict.the-variants.{Fine, Refused}
 
@@ -12,20 +15,36 @@ use Rattle.write_decide.specs.declared.Verdict.the-variants.{Fine, Refus
 pub never-both : {P : Type 0} (v : Said) (r : Refusal) → v ≡ Refused r → v ≡ Fine → P
 never-both v r e f = let z : _≡_ {A = ℕ} 0 1 = cc in absurd (omega arith)
 
--- both say the same
-pub said-says : (k f : ℕ) (rest : Verdict) → says (said k f) rest ≡ at k f rest
-unfolding said at
-said-says k zero rest = refl
-said-says k (suc n) rest = refl
-
--- no refusal, no fault
-pub said-fine : (k f : ℕ) → said k f ≡ Fine → f ≡ 0
-unfolding said
-said-fine k zero e = refl
-said-fine k (suc n) e = never-both (Refused (record { number = suc n; place = k })) _ refl e
+-- fine: there is no fault
+pub fine-none : (v : Said) (f : ℕ) → VerdictHas v f → v ≡ Fine → f ≡ 0
+unfolding at
+fine-none v zero h e = refl
+fine-none v (suc n) h e = let other : fine ≡ refused (suc n) 0 = rw e at (h fine) in let z : _≡_ {A = ℕ} 0 1 = cc in absurd (omega arith)
 
 -- a fault is refused, whatever comes after it
 pub at-refused : (k f : ℕ) (rest : Verdict) → (f ≡ 0 → ⊥) → refused f k ≡ at k f rest
 unfolding at
 at-refused k zero rest ne = absurd (ne refl)
 at-refused k (suc n) rest ne = refl
+
+-- ---- a check is passed or refused
+pub not-passed : {P : Type 0} {c : Check} {n : ℕ} → c ≡ Check.Refused n → c ≡ Check.Passed → P
+not-passed e f = let z : _≡_ {A = ℕ} 0 1 = cc in absurd (omega arith)
+
+-- passed: there is no fault
+pub passes : (c : Check) (f : ℕ) → c ≡ Check.Passed → f ≡ 0 → HasFault c f
+passes c f e none = λ place rest. rw e (sym (at-none place f rest none))
+
+pub passed-none : (c : Check) (f : ℕ) → HasFault c f → c ≡ Check.Passed → f ≡ 0
+unfolding at
+passed-none c zero h e = refl
+passed-none c (suc n) h e = let other : fine ≡ refused (suc n) 0 = rw e at (h 0 fine) in let z : _≡_ {A = ℕ} 0 1 = cc in absurd (omega arith)
+
+-- refused: its number is the fault
+pub refuses : (c : Check) (n f : ℕ) → c ≡ Check.Refused n → f ≡ n → (n ≡ 0 → ⊥) → HasFault c f
+refuses c n f e en ne = λ place rest. rw (e, en) (at-refused place n rest ne)
+
+pub refused-some : (c : Check) (n f : ℕ) → HasFault c f → c ≡ Check.Refused n → (f ≡ n) × (f ≡ 0 → ⊥)
+unfolding at
+refused-some c n zero h e = let other : refused n 0 ≡ fine = rw e at (h 0 fine) in let z : _≡_ {A = ℕ} 0 1 = cc in absurd (omega arith)
+refused-some c n (suc m) h e = let same : refused n 0 ≡ refused (suc m) 0 = rw e at (h 0 fine) in (cc, λ z. omega arith)

@@ -7,18 +7,21 @@ use lib.ListN.{length, take, drop}
 use lib.Dec.{ltb}
 use Rattle.strip.specs.Cell.{Cell, Head, NavPoly}
 use Rattle.strip.specs.Box.{finiteBox}
-use Rattle.strip.specs.Reading.{polygonsAt}
+use Rattle.strip.specs.Rows.{polygonsAt}
 use Rattle.strip.specs.Scan.{Scanned, ok, fault, scan}
+use Rattle.strip.specs.Laid.{cellCounts}
 use Rattle.strip.specs.declared.Counts.{Counts}
 use Rattle.cell_record.specs.Record.{recordOf}
 use Rattle.distinct.specs.Distinct.{indexOf}
-use Rattle.areas.specs.Areas.{areaIds, seeded}
+use Rattle.areas.specs.Areas.{seeded}
+use Rattle.areas.specs.Tables.{areaIds}
 use Rattle.write_vertices.specs.Table.{met}
 use Rattle.write_pages.specs.Items.{floats, corners, vertexTable, areaTable, linksOf}
 use Rattle.write_pages.specs.Checks.{Verdict, refused, faultIf, firstFault, at, polygonsVerdict}
 use Rattle.write_decide.specs.Steps.{says}
 use Rattle.write_decide.specs.declared.Verdict.the-variants.{Fine}
 use Rattle.write_decide.specs.declared.Decision.{Decision}
+use Rattle.write_decide.specs.declared.WorkPlaces.{WorkPlaces}
 
 -- ---- the verdict
 
@@ -55,6 +58,16 @@ indicesAt words = trees words + 2 * most words
 abbrev pub tablesEnd : ℕ → ℕ
 tablesEnd words = indicesAt words + most words
 
+-- and behind them three words to a polygon's quarter box and one to a point's leaf
+abbrev pub workPlaces : ℕ → Counts → WorkPlaces
+workPlaces words n = record {
+  vertices = trees words;
+  indices = indicesAt words;
+  boxes = tablesEnd words;
+  leaves = tablesEnd words + 3 * n .polys;
+  end = tablesEnd words + 3 * n .polys + n .points;
+}
+
 -- work w and the answer d hold the tables of a cell with this head and these polygons, whose strip has so many words.
 -- An index is the vertex's place in the whole table
 pub record Tabled (words : ℕ) (h : Head) (ps : List NavPoly) (w : List ℕ) (d : Decision) : Type 0 where
@@ -85,4 +98,4 @@ pub record DecideDone (s w w' : List ℕ) (r : Decision) : Type 0 where
   pub long : length w' ≡ length w
   pub beyond : drop (2 * length s) w' ≡ drop (2 * length s) w
   pub tabled : r .verdict ≡ Fine → (c : Cell) → scan s ≡ ok c → Tabled (length s) (c .head) (c .polys) w' r
-  pub counts : r .verdict ≡ Fine → (c : Cell) → scan s ≡ ok c → r .counts ≡ record { polys = length (c .polys); portals = length (c .portals); points = length (c .points) }
+  pub counts : r .verdict ≡ Fine → (c : Cell) → scan s ≡ ok c → r .counts ≡ cellCounts c

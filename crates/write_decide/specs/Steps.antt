@@ -8,16 +8,30 @@ use lib.ListN.{length, take, drop}
 use lib.Dec.{ltb}
 use Rattle.math.specs.declared.vec3.Vec3.{Vec3 as Floats}
 use Rattle.strip.specs.Cell.{NavPoly}
-use Rattle.distinct.specs.Distinct.{withNew, indexOf, distinctFrom, numbersFrom}
+use Rattle.distinct.specs.Distinct.{withNew, indexOf, distinctFrom}
+use Rattle.distinct.specs.Numbers.{numbersFrom}
 use Rattle.write_vertices.specs.Table.{Table, met}
 use Rattle.write_pages.specs.Items.{Corner, cornersIn, corners, triples, named, linksOf}
-use Rattle.write_pages.specs.Checks.{Verdict, refused, faultIf, firstFault, cornersFault, polygonFault, polygonsVerdict}
+use Rattle.write_pages.specs.Checks.{Verdict, refused, faultIf, firstFault, at, cornersFault, polygonFault, polygonsVerdict}
 use Rattle.write_decide.specs.declared.Verdict.{Verdict as Said}
 use Rattle.write_decide.specs.declared.Verdict.the-variants.{Fine, Refused}
+use Rattle.write_decide.specs.declared.polygons.Check.{Check}
+use Rattle.write_decide.specs.declared.polygons.Check.the-variants as Check
 use Rattle.write_decide.specs.declared.polygons.EdgeAreas.{EdgeAreas}
 use Rattle.write_decide.specs.declared.polygons.Tables.{Tables}
-use Rattle.write_decide.specs.declared.polygons.Met.{Met}
+use Rattle.write_decide.specs.declared.polygons.TablesAfter.{TablesAfter}
 use Rattle.write_decide.specs.declared.polygons.Decided.{Decided}
+
+-- ---- what a check says
+
+-- each case at a place, and then the rest
+abbrev pub checkThen : Check → ℕ → Verdict → Verdict
+checkThen Check.Passed place rest = rest
+checkThen (Check.Refused number) place rest = refused number place
+
+-- a check has this fault, 0 for none: wherever it stands and whatever comes after it
+abbrev pub HasFault : Check → ℕ → Type 0
+HasFault c fault = (place : ℕ) (rest : Verdict) → checkThen c place rest ≡ at place fault rest
 
 -- ---- faults, by the values that a step has. us are the areas so far, ts the triples
 
@@ -37,9 +51,9 @@ runFault vertices start = firstFault (faultIf (ltb vertices 3 || ltb 2047 vertic
 
 -- ids' is ids, with `len` areas, after the areas a and b of an edge, with the answer r
 pub record EdgeHas (ids ids' : List ℕ) (len a b : ℕ) (r : EdgeAreas) : Type 0 where
-  pub fault : r .fault ≡ firstFault (edgeFaults (take len ids) a b)
+  pub fault : HasFault (r .check) (firstFault (edgeFaults (take len ids) a b))
   pub long : length ids' ≡ 32
-  pub now-ids : r .fault ≡ 0 → take (r .len) ids' ≡ withNew (withNew (take len ids) a) b
+  pub now-ids : r .check ≡ Check.Passed → take (r .len) ids' ≡ withNew (withNew (take len ids) a) b
 
 -- ---- corners
 
@@ -62,43 +76,42 @@ pub record Added (w w' ids ids' : List ℕ) (b m : ℕ) (t t' : Tables) (item : 
   pub indices : take (item + length ks) (behindTable w' b m) ≡ take item (behindTable w b m) ++ numbersFrom (met w b (t .vertices)) (triples ks)
 
 -- after the corner number `item`, with the triple x and the areas y and z
-pub record CornerDone (w w' ids ids' : List ℕ) (b m : ℕ) (t : Tables) (item x y z : ℕ) (r : Met) : Type 0 where
-  pub fault : r .fault ≡ firstFault (cornerFaults (met w b (t .vertices)) (take (t .areas) ids) x y z)
+pub record CornerDone (w w' ids ids' : List ℕ) (b m : ℕ) (t : Tables) (item x y z : ℕ) (r : TablesAfter) : Type 0 where
+  pub fault : HasFault (r .check) (firstFault (cornerFaults (met w b (t .vertices)) (take (t .areas) ids) x y z))
   pub ready : TablesReady w' ids' b m (r .tables .vertices) (item + 1)
   pub long : length w' ≡ length w
   pub back : drop (item + 1) (behindTable w' b m) ≡ drop (item + 1) (behindTable w b m)
-  pub now-met : r .fault ≡ 0 → met w' b (r .tables .vertices) ≡ withNew (met w b (t .vertices)) x
-  pub now-ids : r .fault ≡ 0 → take (r .tables .areas) ids' ≡ withNew (withNew (take (t .areas) ids) y) z
-  pub index : r .fault ≡ 0 → take (item + 1) (behindTable w' b m) ≡ take item (behindTable w b m) ++ (indexOf (met w b (t .vertices)) x ∷ [])
+  pub now-met : r .check ≡ Check.Passed → met w' b (r .tables .vertices) ≡ withNew (met w b (t .vertices)) x
+  pub now-ids : r .check ≡ Check.Passed → take (r .tables .areas) ids' ≡ withNew (withNew (take (t .areas) ids) y) z
+  pub index : r .check ≡ Check.Passed → take (item + 1) (behindTable w' b m) ≡ take item (behindTable w b m) ++ (indexOf (met w b (t .vertices)) x ∷ [])
 
 -- after the corners ks, the first of them number `item`
-pub record CornersDone (w w' ids ids' : List ℕ) (b m : ℕ) (t : Tables) (item : ℕ) (ks : List Corner) (r : Met) : Type 0 where
-  pub fault : r .fault ≡ cornersFault (met w b (t .vertices)) (take (t .areas) ids) ks
+pub record CornersDone (w w' ids ids' : List ℕ) (b m : ℕ) (t : Tables) (item : ℕ) (ks : List Corner) (r : TablesAfter) : Type 0 where
+  pub fault : HasFault (r .check) (cornersFault (met w b (t .vertices)) (take (t .areas) ids) ks)
   pub ready : TablesReady w' ids' b m (r .tables .vertices) (item + length ks)
   pub long : length w' ≡ length w
   pub back : drop (item + length ks) (behindTable w' b m) ≡ drop (item + length ks) (behindTable w b m)
-  pub added : r .fault ≡ 0 → Added w w' ids ids' b m t (r .tables) item ks
+  pub added : r .check ≡ Check.Passed → Added w w' ids ids' b m t (r .tables) item ks
 
 -- ---- polygons. lo is bb_min and size bb_size
 
 -- after the polygon p, whose first corner is number `start`. No word behind the m indices is changed
-pub record PolygonDone (bb-min bb-size : Floats) (w w' ids ids' : List ℕ) (b m : ℕ) (t : Tables) (start : ℕ) (p : NavPoly) (r : Met) : Type 0 where
-  pub fault : r .fault ≡ polygonFault bb-min bb-size (met w b (t .vertices)) (take (t .areas) ids) start p
+pub record PolygonDone (bb-min bb-size : Floats) (w w' ids ids' : List ℕ) (b m : ℕ) (t : Tables) (start : ℕ) (p : NavPoly) (r : TablesAfter) : Type 0 where
+  pub fault : HasFault (r .check) (polygonFault bb-min bb-size (met w b (t .vertices)) (take (t .areas) ids) start p)
   pub long : length w' ≡ length w
   pub back : drop m (behindTable w' b m) ≡ drop m (behindTable w b m)
-  pub ready : r .fault ≡ 0 → TablesReady w' ids' b m (r .tables .vertices) (start + length (p .vertices))
-  pub least : r .fault ≡ 0 → 3 ≤ length (p .vertices)
-  pub added : r .fault ≡ 0 → Added w w' ids ids' b m t (r .tables) start (cornersIn bb-min bb-size p)
+  pub ready : r .check ≡ Check.Passed → TablesReady w' ids' b m (r .tables .vertices) (start + length (p .vertices))
+  pub least : r .check ≡ Check.Passed → 3 ≤ length (p .vertices)
+  pub added : r .check ≡ Check.Passed → Added w w' ids ids' b m t (r .tables) start (cornersIn bb-min bb-size p)
 
 -- what each case of a verdict says, and then the rest
 abbrev pub says : Said → Verdict → Verdict
 says Fine rest = rest
 says (Refused r) rest = refused (r .number) (r .place)
 
--- the case of a fault at a place, 0 for none
-unfoldable pub said : (place fault : ℕ) → Said
-said place zero = Fine
-said place (suc n) = Refused (record { number = suc n; place = place })
+-- a verdict has this fault at the place 0, 0 for none: whatever comes after it
+abbrev pub VerdictHas : Said → ℕ → Type 0
+VerdictHas v fault = (rest : Verdict) → says v rest ≡ at 0 fault rest
 
 -- after the polygons ps, the first of them number k, with `start` corners and l links before it
 pub record PolygonsDone (bb-min bb-size : Floats) (w w' ids ids' : List ℕ) (b m : ℕ) (t : Tables) (start k l : ℕ) (ps : List NavPoly) (r : Decided) : Type 0 where

@@ -2,15 +2,16 @@
 ghost use mathlib.Core.Path.{_≡_};
 ghost use mathlib.Core.Bool.{not};
 ghost use mathlib.Core.List.{[], _∷_};
-ghost use Prim.Native.Nat.{_+_, _*_, _/_, _≤_};
+ghost use Prim.Native.Nat.{_+_, _*_, _/_, _^_, _≤_, _<_};
 ghost use lib.ListN.{length};
 ghost use lib.Dec.{ltb};
-ghost use Rattle.strip.specs.Reading.{headAt, afterPolygons};
+ghost use Rattle.strip.specs.Reading.{headAt};
+ghost use Rattle.strip.specs.Rows.{afterPolygons};
 ghost use Rattle.strip.specs.Box.{finiteBox};
 ghost use Rattle.write_pages.specs.Checks.{faultIf, firstFault};
-ghost use Rattle.write_decide.specs.Steps.{said};
+ghost use Rattle.write_decide.specs.Steps.{VerdictHas};
 ghost use Rattle.write_decide.specs.declared.Verdict.the-variants.{Refused};
-ghost use Rattle.write_decide.specs.Decide.{trees, tablesEnd, WellDone, DecideDone};
+ghost use Rattle.write_decide.specs.Decide.{trees, workPlaces, WellDone, DecideDone};
 use areas::Areas;
 use cell_record::CellRecord;
 use math::vec3::Vec3;
@@ -42,7 +43,7 @@ pub struct Decision {
 // 1, 10, 11: of a well-formed strip with so many polygons, where so many words of work are lent.
 fn front_verdict(strip: &[u32], work: usize, polys: usize) -> Verdict
     requires { ⌜ 14 ≤ length (now strip) ⌝ }
-    ensures { λ r. ⌜ r ≡ said 0 (firstFault (faultIf (ltb (work / 4) (length (now (strip .entry)))) 1 ∷ faultIf (not (finiteBox (headAt (now (strip .entry)) 0))) 10
+    ensures { λ r. ⌜ VerdictHas r (firstFault (faultIf (ltb (work / 4) (length (now (strip .entry)))) 1 ∷ faultIf (not (finiteBox (headAt (now (strip .entry)) 0))) 10
         ∷ faultIf (ltb 16383 polys) 11 ∷ [])) ⌝ }
 {
     if work / 4 < strip.len() {
@@ -67,18 +68,38 @@ fn front_verdict(strip: &[u32], work: usize, polys: usize) -> Verdict
 }
 
 // How many trees the vertex table has, for a strip of so many words.
-pub fn tree_count(words: usize) -> usize
+fn tree_count(words: usize) -> usize
     ensures { λ r. ⌜ r ≡ trees words ⌝ }
 {
     write_vertices::tree_count(words / 3)
 }
 
-// Where the tables end in work.
-pub fn tables_end(strip: &[u32]) -> usize
-    ensures { λ r. ⌜ r ≡ tablesEnd (length (now (strip .entry))) ⌝ }
+// Where what the writer keeps begins in work: behind the trees' roots the vertices, their indices by corner, a quarter box for each polygon, a leaf for
+// each point; and where it ends.
+pub struct WorkPlaces {
+    pub vertices: usize,
+    pub indices: usize,
+    pub boxes: usize,
+    pub leaves: usize,
+    pub end: usize,
+}
+
+// The places for a strip of so many words, with these counts: work is cut by them and nowhere else.
+pub fn work_places(words: usize, counts: Counts) -> WorkPlaces
+    requires { ⌜ workPlaces words counts .end < 2 ^ 64 ⌝ }
+    ensures { λ r. ⌜ r ≡ workPlaces words counts ⌝ }
 {
-    let words = strip.len();
-    tree_count(words) + 2 * (words / 3) + words / 3
+    let vertices = tree_count(words);
+    let indices = vertices + 2 * (words / 3);
+    let boxes = indices + words / 3;
+    let leaves = boxes + 3 * counts.polys;
+    WorkPlaces {
+        vertices,
+        indices,
+        boxes,
+        leaves,
+        end: leaves + counts.points,
+    }
 }
 
 // The polygons of a well-formed strip, with W words, in work that is long enough: at most W / 3 trees and W / 3 vertices.
@@ -93,7 +114,7 @@ fn decide_well(strip: &[u32], counts: Counts, work: &mut [u32]) -> Decision
     let room = strip.len() / 3;
     let seeded = areas::seed_areas(cell.area_id);
     let mut ids = seeded.ids;
-    let had = Tables {
+    let old = Tables {
         areas: seeded.len,
         vertices: 0,
     };
@@ -108,14 +129,11 @@ fn decide_well(strip: &[u32], counts: Counts, work: &mut [u32]) -> Decision
         &mut ids,
         buckets,
         room,
-        had,
+        old,
     );
     let tables = d.tables;
     let verdict = d.verdict;
-    let areas = Areas {
-        ids: ids,
-        len: tables.areas,
-    };
+    let areas = areas::areas_of(ids, tables.areas);
     Decision {
         cell,
         counts,
@@ -146,10 +164,7 @@ fn refuse(refusal: Refusal) -> Decision
         portals: 0,
         points: 0,
     };
-    let areas = Areas {
-        ids: [0u32; 32],
-        len: 0,
-    };
+    let areas = areas::areas_of([0u32; 32], 0);
     Decision {
         cell,
         counts,

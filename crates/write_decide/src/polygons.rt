@@ -5,10 +5,11 @@ ghost use mathlib.Core.Path.{_≡_};
 ghost use Prim.Native.Nat.{_+_, _*_, _≤_, _<_, _^_};
 ghost use lib.ListN.{length};
 ghost use lib.Dec.{ltb};
-ghost use Rattle.strip.specs.Reading.{word, vecAt, polygonOf, polygonsAt, afterPolygons};
+ghost use Rattle.strip.specs.Reading.{word, vecAt, polygonOf};
+ghost use Rattle.strip.specs.Rows.{polygonsAt, afterPolygons};
 ghost use Rattle.areas.specs.EdgeHalf.{none};
 ghost use Rattle.write_pages.specs.Items.{tripleIn, cornersIn};
-ghost use Rattle.write_decide.specs.Steps.{runFault, EdgeHas, TablesReady, CornerDone, CornersDone, PolygonDone, PolygonsDone};
+ghost use Rattle.write_decide.specs.Steps.{runFault, HasFault, EdgeHas, TablesReady, CornerDone, CornersDone, PolygonDone, PolygonsDone};
 use super::Verdict;
 use areas::AreaAnswer;
 use math::vec3::Vec3;
@@ -23,16 +24,23 @@ pub struct Tables {
     pub vertices: usize,
 }
 
-// The count of areas after an edge, and the refusal's number, 0 for none.
-pub struct EdgeAreas {
-    pub len: usize,
-    pub fault: u32,
+// What a check comes to. The place of a refusal is the polygon, which `decide_polygons` has.
+pub enum Check {
+    Passed,
+    // The number of the refusal.
+    Refused(u32),
 }
 
-// The tables after some corners, and the number of the first refusal, 0 for none.
-pub struct Met {
+// The count of areas after an edge, and whether there was room for both.
+pub struct EdgeAreas {
+    pub len: usize,
+    pub check: Check,
+}
+
+// The tables after some corners, up to the first that is refused.
+pub struct TablesAfter {
     pub tables: Tables,
-    pub fault: u32,
+    pub check: Check,
 }
 
 // What the polygons come to: the tables, how many corners and links there are, and the verdict.
@@ -57,26 +65,26 @@ fn ensure_edge(ids: &mut [u32; 32], len: usize, a: u32, b: u32) -> EdgeAreas
             match at_b {
                 AreaAnswer::At(_) => EdgeAreas {
                     len: two.len,
-                    fault: 0,
+                    check: Check::Passed,
                 },
                 AreaAnswer::Full => EdgeAreas {
                     len: two.len,
-                    fault: 15,
+                    check: Check::Refused(15),
                 },
             }
         }
         AreaAnswer::Full => EdgeAreas {
             len: one.len,
-            fault: 15,
+            check: Check::Refused(15),
         },
     }
 }
 
-// The triple of the vertex whose three words stand at `at`. (It runs for each corner, so the two steps of `cell_record::shorts_at` stand here: as one call they would
-// take a seventh of the writer's time more.)
+// The triple of the vertex whose three words stand at `at`.
 fn triple_of(strip: &[u32], at: usize, bb_min: Vec3, bb_size: Vec3) -> u64
     requires { ⌜ at + 3 ≤ length (now strip) ⌝ }
-    ensures { λ r. ⌜ (r ≡ tripleIn «bb_min» «bb_size» (vecAt (now (strip .entry)) at)) × (r < 2 ^ 48) ⌝ }
+    ensures triple { λ r. ⌜ r ≡ tripleIn «bb_min» «bb_size» (vecAt (now (strip .entry)) at) ⌝ }
+    ensures below { λ r. ⌜ r < 2 ^ 48 ⌝ }
 {
     let v = floats_at(strip, at);
     let q = quantise::short::quantise(v, bb_min, bb_size);
@@ -101,16 +109,16 @@ fn decide_corner(
     buckets: usize,
     room: usize,
     item: usize,
-    had: Tables,
+    old: Tables,
     triple: u64,
     a: u32,
     b: u32,
-) -> Met
-    requires { ⌜ TablesReady (now work) (now ids) buckets room (had .vertices) item × (item < room) × (triple < 2 ^ 48) ⌝ }
-    ensures { λ r. ⌜ CornerDone (now (work .entry)) (now (work .exit)) (now (ids .entry)) (now (ids .exit)) buckets room had item triple a b r ⌝ }
+) -> TablesAfter
+    requires { ⌜ TablesReady (now work) (now ids) buckets room (old .vertices) item × (item < room) × (triple < 2 ^ 48) ⌝ }
+    ensures { λ r. ⌜ CornerDone (now (work .entry)) (now (work .exit)) (now (ids .entry)) (now (ids .exit)) buckets room old item triple a b r ⌝ }
 {
-    let areas = had.areas;
-    let vertices = had.vertices;
+    let areas = old.areas;
+    let vertices = old.vertices;
     let known = write_vertices::vertex_index(work, buckets, vertices, triple);
     match known {
         Numbered::Vertex(number, count) => {
@@ -119,16 +127,16 @@ fn decide_corner(
                 areas: e.len,
                 vertices: count,
             };
-            let fault = e.fault;
-            if fault != 0 {
-                return Met { tables, fault };
+            let check = e.check;
+            if let Check::Refused(_) = check {
+                return TablesAfter { tables, check };
             }
             work[buckets + 2 * room + item] = number as u32;
-            Met { tables, fault: 0 }
+            TablesAfter { tables, check }
         }
-        Numbered::Full => Met {
-            tables: had,
-            fault: 14,
+        Numbered::Full => TablesAfter {
+            tables: old,
+            check: Check::Refused(14),
         },
     }
 }
@@ -144,34 +152,37 @@ fn decide_vertices(
     buckets: usize,
     room: usize,
     start: usize,
-    had: Tables,
-) -> Met
+    old: Tables,
+) -> TablesAfter
     requires { ⌜ (p .«vertex_at» + 3 * p .vertices ≤ length (now strip)) × (p .«edge_at» + 6 * p .edges ≤ length (now strip))
-        × (start + p .vertices ≤ room) × TablesReady (now work) (now ids) buckets room (had .vertices) start ⌝ }
-    ensures { λ r. ⌜ CornersDone (now (work .entry)) (now (work .exit)) (now (ids .entry)) (now (ids .exit)) buckets room had start
+        × (start + p .vertices ≤ room) × TablesReady (now work) (now ids) buckets room (old .vertices) start ⌝ }
+    ensures { λ r. ⌜ CornersDone (now (work .entry)) (now (work .exit)) (now (ids .entry)) (now (ids .exit)) buckets room old start
         (cornersIn «bb_min» «bb_size» (polygonOf (now (strip .entry)) p)) r ⌝ }
 {
     let vertices = p.vertices;
     let edges = p.edges;
     let mut v = p.vertex_at;
     let mut e = p.edge_at;
-    let mut tables = had;
+    let mut tables = old;
     let mut i: usize = 0;
     while i < vertices {
         let triple = triple_of(strip, v, bb_min, bb_size);
         let a = area_at(strip, e, i, edges);
         let b = area_at(strip, e + 3, i, edges);
-        let met = decide_corner(work, ids, buckets, room, start + i, tables, triple, a, b);
-        tables = met.tables;
-        let fault = met.fault;
-        if fault != 0 {
-            return Met { tables, fault };
+        let after = decide_corner(work, ids, buckets, room, start + i, tables, triple, a, b);
+        tables = after.tables;
+        let check = after.check;
+        if let Check::Refused(_) = check {
+            return TablesAfter { tables, check };
         }
         v += 3;
         e += 6;
         i += 1;
     }
-    Met { tables, fault: 0 }
+    TablesAfter {
+        tables,
+        check: Check::Passed,
+    }
 }
 
 // A polygon, whose run of corners begins at `start`: 12, 13, its corners (14, 15), 16.
@@ -185,18 +196,21 @@ fn decide_polygon(
     buckets: usize,
     room: usize,
     start: usize,
-    had: Tables,
-) -> Met
+    old: Tables,
+) -> TablesAfter
     requires { ⌜ (p .«vertex_at» + 3 * p .vertices ≤ length (now strip)) × (p .«edge_at» + 6 * p .edges ≤ length (now strip))
-        × (start + p .vertices ≤ room) × TablesReady (now work) (now ids) buckets room (had .vertices) start ⌝ }
-    ensures { λ r. ⌜ PolygonDone «bb_min» «bb_size» (now (work .entry)) (now (work .exit)) (now (ids .entry)) (now (ids .exit)) buckets room had start
+        × (start + p .vertices ≤ room) × TablesReady (now work) (now ids) buckets room (old .vertices) start ⌝ }
+    ensures { λ r. ⌜ PolygonDone «bb_min» «bb_size» (now (work .entry)) (now (work .exit)) (now (ids .entry)) (now (ids .exit)) buckets room old start
         (polygonOf (now (strip .entry)) p) r ⌝ }
 {
-    let fault = before_corners(p.vertices, start);
-    if fault != 0 {
-        return Met { tables: had, fault };
+    let run = check_run(p.vertices, start);
+    if let Check::Refused(_) = run {
+        return TablesAfter {
+            tables: old,
+            check: run,
+        };
     }
-    let met = decide_vertices(
+    let after = decide_vertices(
         strip,
         p,
         bb_min,
@@ -206,33 +220,37 @@ fn decide_polygon(
         buckets,
         room,
         start,
-        had,
+        old,
     );
-    if met.fault != 0 {
-        return met;
+    let check = after.check;
+    if let Check::Refused(_) = check {
+        return after;
     }
     let links = p.links;
     if 7 < links {
-        let tables = met.tables;
-        return Met { tables, fault: 16 };
+        let tables = after.tables;
+        return TablesAfter {
+            tables,
+            check: Check::Refused(16),
+        };
     }
-    met
+    after
 }
 
 // 12, 13: of a polygon with so many vertices, whose run begins at `start`.
-fn before_corners(vertices: usize, start: usize) -> u32
-    ensures { λ r. ⌜ r ≡ runFault vertices start ⌝ }
+fn check_run(vertices: usize, start: usize) -> Check
+    ensures { λ r. ⌜ HasFault r (runFault vertices start) ⌝ }
 {
     if vertices < 3 {
-        return 12;
+        return Check::Refused(12);
     }
     if 2047 < vertices {
-        return 12;
+        return Check::Refused(12);
     }
     if 65535 < start {
-        return 13;
+        return Check::Refused(13);
     }
-    0
+    Check::Passed
 }
 
 // The polygons of a strip, in order, up to the first refusal.
@@ -245,21 +263,21 @@ pub fn decide_polygons(
     ids: &mut [u32; 32],
     buckets: usize,
     room: usize,
-    had: Tables,
+    old: Tables,
 ) -> Decided
     requires { ⌜ (afterPolygons (now strip) 14 n ≤ length (now strip)) × (length (now strip) ≤ 3 * room + 2)
-        × TablesReady (now work) (now ids) buckets room (had .vertices) 0 ⌝ }
-    ensures { λ r. ⌜ PolygonsDone «bb_min» «bb_size» (now (work .entry)) (now (work .exit)) (now (ids .entry)) (now (ids .exit)) buckets room had 0 0 0
+        × TablesReady (now work) (now ids) buckets room (old .vertices) 0 ⌝ }
+    ensures { λ r. ⌜ PolygonsDone «bb_min» «bb_size» (now (work .entry)) (now (work .exit)) (now (ids .entry)) (now (ids .exit)) buckets room old 0 0 0
         (polygonsAt (now (strip .entry)) 14 n) r ⌝ }
 {
-    let mut tables = had;
+    let mut tables = old;
     let mut at: usize = 14;
     let mut start: usize = 0;
     let mut links: usize = 0;
     let mut i: usize = 0;
     while i < n {
         let p = strip::poly_at(strip, at);
-        let met = decide_polygon(
+        let after = decide_polygon(
             strip,
             p,
             bb_min,
@@ -271,17 +289,14 @@ pub fn decide_polygons(
             start,
             tables,
         );
-        tables = met.tables;
-        let fault = met.fault;
-        if fault != 0 {
+        tables = after.tables;
+        let check = after.check;
+        if let Check::Refused(number) = check {
             return Decided {
                 tables,
                 corners: start,
                 links,
-                verdict: Verdict::Refused(Refusal {
-                    number: fault,
-                    place: i,
-                }),
+                verdict: Verdict::Refused(Refusal { number, place: i }),
             };
         }
         start += p.vertices;

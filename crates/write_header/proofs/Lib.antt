@@ -1,5 +1,2 @@
 pub mod Records
 pub mod Turns
-pub mod Behind
-pub mod Cells
-pub mod Planned

@@ -7,7 +7,8 @@ use native.Mathlib.Nat.{mul-suc}
 use lib.Dec.{lit<}
 use lib.ListN.{length, take}
 use lib.Seq.{take-all, length-take-le}
-use Rattle.fields.specs.Bytes.{leBytes, les, put}
+use Rattle.fields.specs.Bytes.{leBytes, les}
+use Rattle.fields.specs.Put.{put}
 use Rattle.fields.specs.Rows.{rowBytes, pack, field}
 use Rattle.fields.proofs.Bytes.{length-les, bytes-join, bytes-mod, le-address, zero-words}
 use Rattle.fields.proofs.Puts.{put-next}

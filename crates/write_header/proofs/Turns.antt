@@ -7,14 +7,16 @@ use mathlib.Core.Path.{_≡_, refl, ap, sym, _∙_}
 use mathlib.Core.List.{List, [], _∷_, _++_, append-assoc}
 use lib.ListN.{length, take, drop, length-append}
 use lib.Seq.{drop-cons}
-use Rattle.fields.specs.Bytes.{les, cat, put}
+use Rattle.fields.specs.Bytes.{les, cat}
+use Rattle.fields.specs.Put.{put}
 use Rattle.fields.specs.Rows.{rowBytes}
 use Rattle.fields.proofs.Bytes.{length-les}
 use Rattle.fields.proofs.Puts.{length-put, put-nil, put-next}
 use Rattle.fields.proofs.Rows.{length-rows}
 use Rattle.math.specs.declared.vec3.Vec3.{Vec3 as Floats}
 use Rattle.strip.specs.Cell.{NavPoly, NavPortal}
-use Rattle.strip.specs.Reading.{word, itemsAt, wordsAt, polyAt, polygonOf, polygonAt, polygonsAt, afterPolygons, portalAt, portalsAt}
+use Rattle.strip.specs.Reading.{word, itemsAt, wordsAt, polyAt, polygonOf, polygonAt, portalAt}
+use Rattle.strip.specs.Rows.{polygonsAt, afterPolygons, portalsAt}
 use Rattle.strip.specs.declared.Poly.{Poly}
 use Rattle.strip.proofs.Steps.{items-turn, items-done, items-length, polygons-turn, after-polygon, next-inside, parts}
 use Rattle.write_pages.specs.Items.{gather, linksOf}
@@ -92,14 +94,14 @@ module _ (s : List ℕ) (n start : ℕ) (out₀ : List ℕ) where
       rest = linksOf (polygonsAt s (p .next) (n - (i + 1)))
 
       part : List ℕ
-      part = take (p .«vertex_at» - (at + 4)) (drop (at + 4) s)
+      part = take (p .«vertex_at» - p .«link_at») (drop (p .«link_at») s)
 
       own : polygonOf s p .links ≡ part
       unfolding polygonOf part
       own =
           let q = parts s at p e in
-          let k : p .«vertex_at» - (at + 4) ≡ p .links = omega (arith, q .links-end) in
-          rw (q .first, k) (words-part s (p .links) (at + 4) (omega (arith, link-next, q)))
+          let k : p .«vertex_at» - p .«link_at» ≡ p .links = omega (arith, q .links-end) in
+          rw k (words-part s (p .links) (p .«link_at») (omega (arith, link-next, q)))
 
       split : linksOf (polygonsAt s at (n - i)) ≡ part ++ rest
       unfolding gather rest
@@ -107,12 +109,12 @@ module _ (s : List ℕ) (n start : ℕ) (out₀ : List ℕ) where
 
       own-long : length part ≡ p .links
       unfolding polygonOf
-      own-long = ap length (sym own) ∙ items-length (word s) (λ x. x + 1) (p .links) (p .at + 4)
+      own-long = ap length (sym own) ∙ items-length (word s) (λ x. x + 1) (p .links) (p .«link_at»)
 
       pub link-room : to + 2 * p .links ≤ start + 2 * length (linksOf (polygonsAt s 14 n))
       link-room = omega (arith, g .there, ap length split ∙ length-append part rest, own-long)
 
-      pub linking-turn : (out' : List ℕ) → out' ≡ put to (les 2 (take (p .«vertex_at» - (at + 4)) (drop (at + 4) s))) out
+      pub linking-turn : (out' : List ℕ) → out' ≡ put to (les 2 (take (p .«vertex_at» - p .«link_at») (drop (p .«link_at») s))) out
           → Linking s n start out₀ out' (to + 2 * p .links) (p .next) (i + 1)
       unfolding part rest
       linking-turn out' eo =
@@ -126,8 +128,8 @@ module _ (s : List ℕ) (n start : ℕ) (out₀ : List ℕ) where
                 ∙ ap (λ (l : List ℕ). put to l out) (sym (ap (les 2) split ∙ les-append 2 part rest)) ∙ g .left;
           }
 
-    pub link-at : i < n → at + 4 ≤ length s
-    link-at h = omega (arith, link-next h (polyAt s at) refl, parts s at (polyAt s at) refl)
+    pub link-in : i < n → at < length s
+    link-in h = omega (arith, link-next h (polyAt s at) refl, parts s at (polyAt s at) refl)
 
     pub linking-done : n ≤ i → out ≡ put start (les 2 (linksOf (polygonsAt s 14 n))) out₀
     unfolding gather les

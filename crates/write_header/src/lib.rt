@@ -3,14 +3,17 @@ ghost use mathlib.Core.Path.{_≡_};
 ghost use mathlib.Core.List.{[], _∷_};
 ghost use Prim.Native.Nat.{_+_, _*_, _/_, _%_, _^_, _≤_, _<_};
 ghost use lib.ListN.{length, take};
-ghost use Rattle.fields.specs.Bytes.{les, cat, put};
+ghost use Rattle.fields.specs.Bytes.{les, cat};
+ghost use Rattle.fields.specs.Put.{put};
 ghost use Rattle.fields.specs.Rows.{rowBytes, pack};
-ghost use Rattle.strip.specs.Reading.{portalAt, portalsAt, polygonsAt, afterPolygons, low16, high16};
+ghost use Rattle.strip.specs.Reading.{portalAt, low16, high16};
+ghost use Rattle.strip.specs.Rows.{portalsAt, polygonsAt, afterPolygons};
 ghost use Rattle.cell_record.specs.Record.{headBy};
-ghost use Rattle.areas.specs.Areas.{areaIds};
-ghost use Rattle.write_blocks.specs.Layout.{endOf, Laid};
+ghost use Rattle.areas.specs.Tables.{areaIds};
+ghost use Rattle.write_blocks.specs.Layout.{endOf};
+ghost use Rattle.write_blocks.specs.Laid.{Laid};
 ghost use Rattle.write_pages.specs.Items.{linksOf};
-ghost use Rattle.write_pages.specs.Optional.{blockOf, sizeOf};
+ghost use Rattle.write_blocks.specs.Optional.{blockOf, sizeOf};
 ghost use Rattle.write_pages.specs.Pages.{portalRow, portalItems, padded, headerFirst, headerLast, headerBytes};
 ghost use Rattle.write_header.specs.Front.{placesIn, countsIn};
 use areas::Areas;
@@ -18,9 +21,8 @@ use cell_record::CellRecord;
 use fields::sizes::PORTAL_SIZE;
 use math::num::bits_of_float;
 use math::vec3::Vec3;
+use math::vec3::floats_at;
 use write_blocks::Layout;
-
-pub mod ends;
 
 // Addresses in the pages: of the four lists, the root, portals and links. 0 where there is no block.
 pub struct Addresses {
@@ -163,8 +165,8 @@ fn put_portal(out: &mut [u8], to: usize, strip: &[u32], at: usize, bb_min: Vec3,
     requires { ⌜ at + 11 ≤ length (now strip) ⌝ }
     ensures { λ _. ⌜ now (out .exit) ≡ put to (rowBytes (portalRow «bb_min» «bb_size» (portalAt (now (strip .entry)) at))) (now (out .entry)) ⌝ }
 {
-    let a = cell_record::shorts_at(strip, at + 2, bb_min, bb_size);
-    let b = cell_record::shorts_at(strip, at + 5, bb_min, bb_size);
+    let a = quantise::short::quantise(floats_at(strip, at + 2), bb_min, bb_size);
+    let b = quantise::short::quantise(floats_at(strip, at + 5), bb_min, bb_size);
     let polys = strip[at + 8];
     let areas = portal_areas(strip[at + 9], strip[at + 10]);
     let words = [
@@ -241,7 +243,7 @@ fn put_links(out: &mut [u8], start: usize, strip: &[u32], n: usize)
     let mut i: usize = 0;
     while i < n {
         let p = strip::poly_at(strip, at);
-        let first = at + 4;
+        let first = p.link_at;
         let end = p.vertex_at;
         fields::put_all(out, to, 2, &strip[first..end]);
         to += 2 * p.links;

@@ -1,4 +1,2 @@
 pub mod Words
 pub mod Tables
-pub mod Halves
-pub mod Records

@@ -1,25 +1,23 @@
--- The vertices and the indices in work, as the items of their lists.
+-- The vertices, the indices and the edges in work, as the items of their lists.
 use mathlib.Core.Path.{_≡_, refl, ap, _∙_, subst}
 use mathlib.Core.List.{List, [], _∷_, _++_, map, append-assoc, append-nil}
 use Prim.Native.Nat.{ℕ, zero, suc, _+_, _-_, _*_, _/_, _%_, _^_, _≤_, _<_}
 use native.Mathlib.Omega.{arith}
-use lib.ListN.{length, take, drop, getD, length-drop}
-use lib.Seq.{length-take-le, take-all, drop-at, drop-drop, getD-drop, drop-cons}
-use Rattle.fields.specs.Bytes.{leBytes, les, put}
+use lib.ListN.{length, take, drop, getD}
+use lib.Seq.{length-take-le, drop-at, drop-drop, getD-drop, drop-cons}
+use Rattle.fields.specs.Bytes.{leBytes, les}
+use Rattle.fields.specs.Put.{put}
 use Rattle.fields.specs.Rows.{rowBytes}
 use Rattle.fields.proofs.Bytes.{bytes-join, bytes-mod, le-append}
-use Rattle.fields.proofs.Puts.{put-eq}
-use Rattle.write_blocks.specs.Layout.{Laid}
+use Rattle.fields.proofs.Puts.{put-eq, lent}
+use Rattle.write_blocks.specs.Laid.{Laid}
 use Rattle.write_blocks.specs.Lists.{listBlocks}
 use Rattle.write_blocks.specs.declared.Layout.{Layout}
 use Rattle.distinct.specs.Distinct.{indexOf}
 use Rattle.write_vertices.specs.Table.{tripleAt, met}
-use Rattle.write_pages.specs.Items.{Corner, vertexRow, vertexItems, indexItems}
+use Rattle.write_pages.specs.Items.{Corner, vertexRow, vertexItems, indexItems, edgeItems}
+use Rattle.write_edges.specs.Made.{edgeWords}
 use Rattle.write_lists.specs.Words.{itemOf, itemsIn, numberItems}
-
--- the words that are lent from a place on
-pub lent : (from : ℕ) (ws : List ℕ) → take (length ws - from) (drop from ws) ≡ drop from ws
-lent from ws = take-all (length ws - from) (drop from ws) (omega (arith, length-drop from ws))
 
 -- words that are stored at a place stand there, when they are lent from it on
 pub made : (at : ℕ) (bs ws : List ℕ) → at + length bs ≤ length ws → take (length (put at bs ws) - at) (drop at (put at bs ws)) ≡ bs ++ drop (at + length bs) ws
@@ -83,3 +81,10 @@ unfolding numberItems indexItems rowBytes
 index-items table [] = refl
 index-items table (k ∷ ks) =
     rw append-nil (ap (λ (l : List (List ℕ)). leBytes 2 (indexOf table (k .vertex)) ∷ l) (index-items table ks))
+
+-- ---- edges
+
+pub edge-words : (ids : List ℕ) (ks : List Corner) (rest : List ℕ) → itemsIn 1 8 (length ks) (edgeWords ids ks ++ rest) ≡ edgeItems ids ks
+unfolding itemsIn itemOf edgeWords edgeItems les rowBytes
+edge-words ids [] rest = refl
+edge-words ids (k ∷ ks) rest = rw (edge-words ids ks rest) (simp append-nil)

@@ -6,11 +6,14 @@ use native.Mathlib.Omega.{arith}
 use native.Mathlib.Nat.{mul-suc, mul-zero, sub-zero, mul-sub, mul-le-mul-left}
 use lib.ListN.{length, length-append, take, drop, getD, length-drop}
 use lib.Seq.{length-take-le, drop-drop, getD-drop}
-use Rattle.fields.specs.Bytes.{leBytes, les, cat, put}
+use Rattle.fields.specs.Bytes.{leBytes, les, cat}
+use Rattle.fields.specs.Put.{put}
 use Rattle.fields.proofs.Bytes.{length-les, length-bytes}
 use Rattle.fields.proofs.Puts.{put-next}
-use Rattle.write_blocks.specs.Layout.{behind, endOf, Laid}
-use Rattle.write_blocks.specs.Lists.{partCounts, sizes, Wide}
+use Rattle.write_blocks.specs.Layout.{behind, endOf}
+use Rattle.write_blocks.specs.Laid.{Laid}
+use Rattle.write_blocks.specs.Lists.{partCounts, sizes}
+use Rattle.write_blocks.specs.ListRoom.{Wide}
 use Rattle.write_blocks.specs.declared.Layout.{Layout}
 use Rattle.write_blocks.proofs.Lists.{length-cat}
 use Rattle.write_blocks.proofs.Parts.{Filling, filling, filling-room, filling-turn, filled, Parting, parting, parting-room, parting-turn}

@@ -3,8 +3,7 @@
 use Prim.Native.Nat.{ℕ, zero, suc, _+_, _-_, _*_}
 use mathlib.Core.List.{List, [], _∷_, _++_, map}
 use lib.ListN.{take, drop, getD}
-use Rattle.fields.specs.Bytes.{leBytes, les, cat}
-use Rattle.write_blocks.specs.Lists.{perPart, partCount, chunks}
+use Rattle.fields.specs.Bytes.{leBytes, les}
 
 -- the item of w bytes at the front of the words: s words whole, then of the next what is left
 unfoldable pub itemOf : (s w : ℕ) → List ℕ → List ℕ
@@ -14,10 +13,6 @@ itemOf s w ws = les 4 (take s ws) ++ leBytes (w - 4 * s) (getD ws s 0)
 unfoldable pub itemsIn : (s w n : ℕ) → List ℕ → List (List ℕ)
 itemsIn s w zero ws = []
 itemsIn s w (suc n) ws = itemOf s w ws ∷ itemsIn s w n (drop (s + 1) ws)
-
--- the blocks of n items of w bytes, one for each part
-abbrev pub partsOf : (w n : ℕ) → List (List ℕ) → List (List ℕ)
-partsOf w n items = map cat (chunks (partCount w n) (perPart w) items)
 
 -- numbers as items of w bytes
 unfoldable pub numberItems : ℕ → List ℕ → List (List ℕ)

@@ -1,18 +1,22 @@
-// The four lists: vertices, indices and edges, whose items are made in words of work and from there laid out part by part, and polygons, whose
-// records are built in their blocks. Around the items stand the lists' headers, part tables and offsets.
+// The four lists: vertices, indices and edges, whose items stand in words of work and from there are laid out part by part, and polygons, whose
+// records `write_polygons` builds in their blocks. Around the items stand the lists' headers, part tables and offsets.
 ghost use mathlib.Core.Path.{_≡_};
 ghost use mathlib.Core.List.{[], _∷_};
 ghost use Prim.Native.Nat.{_+_, _-_, _*_, _^_, _≤_, _<_};
 ghost use lib.ListN.{length, take, drop};
-ghost use Rattle.fields.specs.Bytes.{cat, put};
-ghost use Rattle.write_blocks.specs.Layout.{behind, Laid};
-ghost use Rattle.write_blocks.specs.Lists.{partSizes, listSizes, listBlocks, ListRoom};
-ghost use Rattle.write_lists.specs.Words.{itemOf, itemsIn, partsOf, numberItems};
+ghost use Rattle.fields.specs.Bytes.{cat};
+ghost use Rattle.fields.specs.Put.{put};
+ghost use Rattle.write_blocks.specs.Layout.{behind};
+ghost use Rattle.write_blocks.specs.Laid.{Laid};
+ghost use Rattle.write_blocks.specs.Lists.{partSizes, listSizes, listBlocks};
+ghost use Rattle.write_blocks.specs.ListRoom.{ListRoom};
+ghost use Rattle.write_lists.specs.Words.{itemOf, itemsIn, numberItems};
 ghost use Rattle.write_vertices.specs.Table.{met};
 ghost use Rattle.write_plan.specs.Plan.{boxes};
 ghost use Rattle.write_pages.specs.Items.{vertexItems, edgeItems, polygonItems};
-ghost use Rattle.strip.specs.Reading.{polygonsAt, afterPolygons};
-ghost use Rattle.write_lists.specs.Made.{edgeWords, cornersAt};
+ghost use Rattle.strip.specs.Rows.{polygonsAt, afterPolygons};
+ghost use Rattle.write_edges.specs.Made.{edgeWords, cornersAt};
+ghost use Rattle.write_polygons.specs.Parts.{partsOf};
 ghost use Rattle.fields.specs.Sizes.{LIST-VFT-EDGES, LIST-VFT-INDICES, LIST-VFT-POLYS, LIST-VFT-VERTICES};
 use fields::sizes::EDGE_SIZE;
 use fields::sizes::INDEX_SIZE;
@@ -23,9 +27,6 @@ use fields::sizes::LIST_VFT_VERTICES;
 use fields::sizes::POLY_SIZE;
 use fields::sizes::VERTEX_SIZE;
 use write_blocks::Layout;
-
-mod edges;
-mod polygons;
 
 // A part's items take at most a page.
 const PART_SIZE: usize = 16384;
@@ -160,10 +161,10 @@ pub fn lay_edges(
 ) -> Layout
     requires { ⌜ (afterPolygons (now strip) 14 n ≤ length (now strip)) × (corners ≡ length (cornersAt (now strip) n)) × (base + 2 * corners ≤ length (now work))
         × ListRoom (l .at) 8 corners (listSizes 8 corners) ⌝ }
-    ensures { λ r. ⌜ Laid l (listBlocks (l .at) LIST-VFT-EDGES 8 (edgeItems (take len (now (ids .entry))) (cornersAt (now (strip .entry)) n))) r (now (out .entry)) (now (out .exit)) ⌝ }
-    ensures { λ _. ⌜ now (work .exit) ≡ put base (edgeWords (take len (now (ids .entry))) (cornersAt (now (strip .entry)) n)) (now (work .entry)) ⌝ }
+    ensures laid { λ r. ⌜ Laid l (listBlocks (l .at) LIST-VFT-EDGES 8 (edgeItems (take len (now (ids .entry))) (cornersAt (now (strip .entry)) n))) r (now (out .entry)) (now (out .exit)) ⌝ }
+    ensures made { λ _. ⌜ now (work .exit) ≡ put base (edgeWords (take len (now (ids .entry))) (cornersAt (now (strip .entry)) n)) (now (work .entry)) ⌝ }
 {
-    edges::put_edges(strip, n, ids, len, work, base);
+    write_edges::put_edges(strip, n, ids, len, work, base);
     write_list(out, l, LIST_VFT_EDGES, &work[base..], corners, 1, EDGE_SIZE)
 }
 
@@ -181,6 +182,6 @@ pub fn lay_polygons(
     ensures { λ r. ⌜ Laid l (listBlocks (l .at) LIST-VFT-POLYS 48 (polygonItems «area_id» 0 0 0 (polygonsAt (now (strip .entry)) 14 n))) r (now (out .entry)) (now (out .exit)) ⌝ }
 {
     let parts = write_blocks::lay_list_front(out, l, LIST_VFT_POLYS, POLY_SIZE, n);
-    let offsets = polygons::lay_records(out, parts, strip, area_id, n, sides);
+    let offsets = write_polygons::lay_records(out, parts, strip, area_id, n, sides);
     write_blocks::lay_offsets(out, offsets, POLY_SIZE, n)
 }

@@ -9,7 +9,8 @@ use lib.ListN.{length}
 use lib.Dec.{ltb}
 use borrow.Author.Tests.{ltb-false, le-ltb}
 use Rattle.math.specs.declared.vec3.Vec3.{Vec3 as Floats}
-use Rattle.strip.specs.Cell.{NavPoly, Cell, All}
+use Rattle.strip.specs.Cell.{NavPoly, Cell}
+use Rattle.strip.specs.Fits.{All}
 use Rattle.strip.specs.Box.{finiteBox}
 use Rattle.distinct.specs.Distinct.{withNew, distinctFrom}
 use Rattle.distinct.proofs.Final.{length-grows, distinct-append}

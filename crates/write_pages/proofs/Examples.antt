@@ -10,15 +10,17 @@ use Rattle.math.specs.MinMax.{lesser, greater}
 use Rattle.quantise.specs.Short.{short, fraction, clamped, nearestNumber, coordinate}
 use Rattle.quantise.specs.Quarter.{side}
 use Rattle.quantise.specs.Bounds.{fold}
-use Rattle.strip.specs.Cell.{Vec3, NavEdgeEnd, NavEdge, NavPoly, NavPortal, Cell, encode, encodeAs, each, vecWords, headWords, halfWords, edgeWords, polygonHeadAs, polygonWordsAs, portalWords, pointWords}
+use Rattle.strip.specs.Cell.{Vec3, NavEdgeEnd, NavEdge, NavPoly, NavPortal, Cell, encode, each, vecWords, headWords, halfWords, edgeWords, polygonHeadAs, polygonWordsAs, portalWords, pointWords}
 use Rattle.strip.specs.Box.{finiteBox}
+use Rattle.strip.proofs.Plain.{encode-plain}
 use Rattle.distinct.specs.Distinct.{indexOf, withNew, distinctFrom}
 use Rattle.areas.specs.EdgeHalf.{halfWord}
 use Rattle.write_blocks.specs.Layout.{placeOf}
 use Rattle.write_blocks.specs.Lists.{tableBytes, frontBlocks, listBlocks}
 use Rattle.write_pages.specs.Items.{noEdge, gather, tripleIn, cornersOf, named, vertexItems, indexItems, edgeItems, boxOf, polygonItems}
 use Rattle.write_pages.specs.Sectors as Sectors
-use Rattle.write_pages.specs.Sectors.{middle, leaves, between, inside, leafOf, pointsOf, axisMeets, meets, leafIds, grown, treeOf, pointCount, byteCount, leafCounts, preorder, pointItems, leafBlocks, treeBlocks}
+use Rattle.write_pages.specs.Sectors.{middle, leaves, between, inside, leafOf, pointsOf, axisMeets, meets, leafIds, grown, treeOf, pointCount, byteCount, leafCounts, pointItems, leafBlocks, treeBlocks}
+use Rattle.write_pages.specs.Preorder.{preorder}
 use Rattle.write_pages.specs.Pages.{portalItems, padded, headerBytes, vertices, areas, links, sectors, counts, sizesOf, endHeader, endVertices, endIndices, endEdges, endPolygons, endSectors, endPortals, placesOf, sizes, header, blocks, pages}
 use Rattle.write_pages.specs.Checks.{Verdict, fine, refused, firstFault, at, cornerFault, cornersFault, polygonFault, polygonsVerdict, leavesVerdict, cellVerdict}
 use Rattle.write_pages.specs.Reread.{halfAgain, edgeAgain, positionAgain, polygonAgain, portalAgain, pointAgain, reread}
@@ -37,7 +39,7 @@ both a = edge a a
 
 -- what a cell is written as, how it is read again, and what is refused: an equation under `unfolding computed` computes
 unfoldable pub computed : (words work out : ℕ) → Cell → List ℕ × Cell × Verdict
-unfolding les leBytes cat rowBytes pack lesser greater short fraction clamped nearestNumber coordinate side fold indexOf withNew distinctFrom halfWord placeOf tableBytes frontBlocks listBlocks gather tripleIn cornersOf named vertexItems indexItems edgeItems boxOf polygonItems middle leaves between inside leafOf pointsOf axisMeets meets leafIds grown treeOf pointCount byteCount leafCounts preorder pointItems leafBlocks treeBlocks Sectors.sizes portalItems padded headerBytes vertices areas links sectors counts sizesOf sizes endHeader endVertices endIndices endEdges endPolygons endSectors endPortals placesOf header blocks pages add sub mul div lt le eq ofInt ofBits toBits ofFields round units odd size climb span sum neg isNan halfAgain edgeAgain positionAgain polygonAgain portalAgain pointAgain reread encodeAs each vecWords headWords halfWords edgeWords polygonHeadAs polygonWordsAs portalWords pointWords firstFault at cornerFault cornersFault polygonFault polygonsVerdict leavesVerdict finiteBox cellVerdict
+unfolding les leBytes cat rowBytes pack lesser greater short fraction clamped nearestNumber coordinate side fold indexOf withNew distinctFrom halfWord placeOf tableBytes frontBlocks listBlocks gather tripleIn cornersOf named vertexItems indexItems edgeItems boxOf polygonItems middle leaves between inside leafOf pointsOf axisMeets meets leafIds grown treeOf pointCount byteCount leafCounts preorder pointItems leafBlocks treeBlocks Sectors.sizes portalItems padded headerBytes vertices areas links sectors counts sizesOf sizes endHeader endVertices endIndices endEdges endPolygons endSectors endPortals placesOf header blocks pages add sub mul div lt le eq ofInt ofBits toBits ofFields round units odd size climb span sum neg isNan halfAgain edgeAgain positionAgain polygonAgain portalAgain pointAgain reread each vecWords headWords halfWords edgeWords polygonHeadAs polygonWordsAs portalWords pointWords firstFault at cornerFault cornersFault polygonFault polygonsVerdict leavesVerdict finiteBox cellVerdict
 computed words work out c = (pages c, reread c, cellVerdict words work out c)
 
 -- A grid cell with a triangle, a portal and three points. A vertex has a NaN, the last edge is missing, a point lies on four leaves' borders and
@@ -156,7 +158,7 @@ grid-pages = refl
 
 pub grid-again : encode (reread grid) ≡ gridAgain
 unfolding computed grid gridAgain
-grid-again = refl
+grid-again = encode-plain (reread grid)
 
 -- its 65 words ask for 260 words of work, and its pages are 3,508 bytes long
 pub grid-fine : cellVerdict 65 260 3508 grid ≡ fine
@@ -293,7 +295,7 @@ vehicle-pages = refl
 
 pub vehicle-again : encode (reread vehicle) ≡ vehicleAgain
 unfolding computed vehicle vehicleAgain
-vehicle-again = refl
+vehicle-again = encode-plain (reread vehicle)
 
 -- P12: an empty cell with the box and area of another
 abbrev pub emptied : Cell → Cell

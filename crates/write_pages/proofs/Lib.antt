@@ -1,5 +1,4 @@
 pub mod Lists
-pub mod Optional
 pub mod Sizes
 pub mod Firsts
 pub mod Accepted

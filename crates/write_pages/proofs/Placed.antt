@@ -8,7 +8,8 @@ use lib.ListN.{length, length-append}
 use Rattle.quantise.specs.declared.quarter.QuarterBox.{QuarterBox}
 use Rattle.quantise.specs.declared.bounds.Aabb.{Aabb}
 use Rattle.math.specs.declared.vec3.Vec3.{Vec3 as Floats}
-use Rattle.strip.specs.Cell.{Vec3, NavEdge, NavPoly, NavPoint, Cell, All}
+use Rattle.strip.specs.Cell.{Vec3, NavEdge, NavPoly, NavPoint, Cell}
+use Rattle.strip.specs.Fits.{All}
 use Rattle.write_blocks.specs.Lists as Lists
 use Rattle.write_blocks.specs.Lists.{perPart, partCount, partCounts, partSizes, offsetSizes, listSizes}
 use Rattle.write_blocks.specs.Placed.{Small, Placed}
@@ -16,7 +17,7 @@ use Rattle.write_blocks.proofs.Layouts.{small-append, length-lengths}
 use Rattle.write_blocks.proofs.Lists.{list-small, length-counts}
 use Rattle.write_blocks.proofs.Placed.{blocks-placed}
 use Rattle.write_pages.specs.Items.{gather, cornersOf, cornersIn, corners}
-use Rattle.write_pages.specs.Optional.{sizeOf}
+use Rattle.write_blocks.specs.Optional.{sizeOf}
 use Rattle.write_pages.specs.Sectors as Sectors
 use Rattle.write_pages.specs.Sectors.{Sector, grown, treeOf, leafCounts, depthBy, depthOf, rootBox, sub0, sub1, sub2, sub3}
 use Rattle.write_pages.specs.Sectors.Sector.{leaf, node}

@@ -5,18 +5,21 @@ use mathlib.Core.List.{List, [], _∷_, _++_, map}
 use native.Mathlib.Nat.{zero-add}
 use lib.ListN.{length, length-append, length-map}
 use Rattle.fields.specs.Bytes.{les, cat}
-use Rattle.fields.specs.Rows.{rowBytes, rowSize}
+use Rattle.fields.specs.Rows.{rowBytes}
+use Rattle.fields.specs.RowPlaces.{rowSize}
 use Rattle.fields.proofs.Bytes.{length-les}
 use Rattle.fields.proofs.Rows.{length-rows}
 use Rattle.math.specs.declared.vec3.Vec3.{Vec3 as Floats}
 use Rattle.quantise.specs.declared.bounds.Aabb.{Aabb}
 use Rattle.strip.specs.Cell.{NavPoly, NavPortal, NavPoint, Head, Cell}
-use Rattle.write_blocks.specs.Layout.{endOf, lengths, pagesOf}
-use Rattle.write_blocks.specs.Lists.{Wide, listSizes, listBlocks}
+use Rattle.write_blocks.specs.Layout.{endOf, pagesOf}
+use Rattle.write_blocks.specs.Laid.{lengths}
+use Rattle.write_blocks.specs.Lists.{listSizes, listBlocks}
+use Rattle.write_blocks.specs.ListRoom.{Wide}
 use Rattle.write_blocks.proofs.Layouts.{lengths-append, length-blocks}
 use Rattle.write_blocks.proofs.Lists.{length-cat, list-lengths}
 use Rattle.write_pages.specs.Items.{Corner, vertexRow, indexRow, edgeRow, polygonRow, vertexItems, indexItems, edgeItems, polygonItems}
-use Rattle.write_pages.specs.Optional.{blockOf, sizeOf}
+use Rattle.write_blocks.specs.Optional.{blockOf, sizeOf}
 use Rattle.write_pages.specs.Sectors as Sectors
 use Rattle.write_pages.specs.Sectors.{Sector, sectorRow, sectorAddress, from0, from1, from2, from3, pointCount, pointRow, pointItems, leafBlocks, treeBlocks}
 use Rattle.write_pages.specs.Sectors.Sector.{leaf, node}

@@ -11,9 +11,11 @@ use lib.ListN.{length, length-append}
 use Rattle.math.specs.declared.vec3.Vec3.{Vec3 as Floats}
 use Rattle.quantise.specs.declared.quarter.QuarterBox.{QuarterBox}
 use Rattle.quantise.specs.declared.bounds.Aabb.{Aabb}
-use Rattle.strip.specs.Cell.{NavPoint, Cell, All}
+use Rattle.strip.specs.Cell.{NavPoint, Cell}
+use Rattle.strip.specs.Fits.{All}
 use Rattle.write_pages.specs.Items.{floats}
-use Rattle.write_pages.specs.Sectors.{Sector, inside, leafOf, pointsOf, leaves, grown, treeOf, pointCount, preorder, depthOf, rootBox, sub0, sub1, sub2, sub3}
+use Rattle.write_pages.specs.Sectors.{Sector, inside, leafOf, pointsOf, leaves, grown, treeOf, pointCount, depthOf, rootBox, sub0, sub1, sub2, sub3}
+use Rattle.write_pages.specs.Preorder.{preorder}
 use Rattle.write_pages.specs.Sectors.Sector.{leaf, node}
 use Rattle.write_pages.specs.Pages.{sectors}
 use Rattle.write_pages.proofs.Lists.{keep-length}

@@ -4,7 +4,8 @@ use mathlib.Core.Path.{_≡_}
 use mathlib.Core.Bool.{true}
 use mathlib.Core.List.{List, [], _∷_}
 use lib.ListN.{length}
-use Rattle.strip.specs.Cell.{NavPoly, Cell, All}
+use Rattle.strip.specs.Cell.{NavPoly, Cell}
+use Rattle.strip.specs.Fits.{All}
 use Rattle.strip.specs.Box.{finiteBox}
 use Rattle.write_pages.specs.Sectors.{leafCounts}
 use Rattle.write_pages.specs.Pages.{vertices, areas, links, sectors}

@@ -11,7 +11,7 @@ use Rattle.quantise.specs.Bounds.{leastSide, greatestSide}
 use Rattle.quantise.specs.declared.short.Shorts.{Shorts}
 use Rattle.quantise.specs.declared.quarter.QuarterBox.{QuarterBox}
 use Rattle.strip.specs.Cell.{Vec3, NavEdgeEnd, NavEdge, NavPoly}
-pub use Rattle.cell_record.specs.Record.{floats}
+pub use Rattle.cell_record.specs.Floats.{floats}
 use Rattle.distinct.specs.Distinct.{indexOf, distinctFrom}
 use Rattle.areas.specs.Areas.{seeded}
 use Rattle.areas.specs.EdgeHalf.{halfWord, none}

@@ -1,6 +1,6 @@
 pub mod Items
-pub mod Optional
 pub mod Sectors
+pub mod Preorder
 pub mod Pages
 pub mod Checks
 pub mod Reread

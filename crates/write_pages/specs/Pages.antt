@@ -11,7 +11,7 @@ use Rattle.strip.specs.Cell.{NavPortal, Head, Cell}
 use Rattle.write_blocks.specs.Layout.{placeOf, behind, endOf, address, pagesOf}
 use Rattle.write_blocks.specs.Lists.{listSizes, listBlocks}
 use Rattle.write_pages.specs.Items.{floats, Corner, corners, vertexTable, areaTable, linksOf, vertexItems, indexItems, edgeItems, polygonItems}
-use Rattle.write_pages.specs.Optional.{blockOf, sizeOf, addressOf}
+use Rattle.write_blocks.specs.Optional.{blockOf, sizeOf, addressOf}
 use Rattle.write_pages.specs.Sectors as Sectors
 use Rattle.write_pages.specs.Sectors.{Sector, treeOf, treeBlocks, pointCount, byteCount, nanWord}
 use Rattle.fields.specs.Sizes.{EDGE-SIZE, INDEX-SIZE, LIST-SIZE, LIST-VFT-EDGES, LIST-VFT-INDICES, LIST-VFT-POLYS, LIST-VFT-VERTICES, NAVMESH-SIZE, POLY-SIZE, PORTAL-SIZE, SECTOR-SIZE, VERTEX-SIZE}

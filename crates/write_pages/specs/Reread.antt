@@ -2,11 +2,12 @@
 use Prim.Native.Nat.{_%_, _^_}
 use mathlib.Core.List.{map}
 use Rattle.math.specs.declared.vec3.Vec3.{Vec3 as Floats}
-use Rattle.quantise.specs.Short.{shorts, coordinates}
+use Rattle.quantise.specs.Short.{shorts}
+use Rattle.quantise.specs.Coordinates.{coordinates}
 use Rattle.strip.specs.Cell.{Vec3, NavEdgeEnd, NavEdge, NavPoly, NavPortal, NavPoint, Cell}
 use Rattle.cell_record.specs.Record.{bits}
 use Rattle.write_pages.specs.Items.{floats, cornersIn}
-use Rattle.write_pages.specs.Sectors.{preorder}
+use Rattle.write_pages.specs.Preorder.{preorder}
 use Rattle.write_pages.specs.Pages.{loOf, extentOf, sectors}
 
 -- areas are kept in full; poly, unk2 and unk3 are cut to their bits

@@ -18,7 +18,7 @@ use Rattle.quantise.specs.declared.bounds.Aabb.{Aabb}
 use Rattle.strip.specs.Cell.{NavPoly, NavPoint, Head}
 use Rattle.write_blocks.specs.Layout.{placeOf, behind, endOf, address}
 use Rattle.write_pages.specs.Items.{floats, boxOf}
-use Rattle.write_pages.specs.Optional.{blockOf, sizeOf, addressOf}
+use Rattle.write_blocks.specs.Optional.{blockOf, sizeOf, addressOf}
 use Rattle.fields.specs.Sizes.{POINT-SIZE, SECTOR-DATA-SIZE, SECTOR-SIZE}
 
 -- ---- boxes
@@ -131,12 +131,6 @@ unfoldable pub treeOf : Head → List NavPoly → List NavPoint → Sector
 treeOf h ps ts =
     grown (λ q. leafIds q 0 (map boxOf ps)) (λ k. pointsOf (leaves (depthOf h) (rootBox h)) k ts) (depthOf h) 0 (rootBox h)
 
--- how many sectors there are, how many points are stored, and how many bytes count for the total: 96 for a sector, 32 for a leaf, 2 for an id, 8 for
--- a point
-unfoldable pub sectorCount : Sector → ℕ
-sectorCount (leaf b is ts) = 1
-sectorCount (node b t0 t1 t2 t3) = 1 + (sectorCount t0 + (sectorCount t1 + (sectorCount t2 + sectorCount t3)))
-
 unfoldable pub pointCount : Sector → ℕ
 pointCount (leaf b is ts) = length ts
 pointCount (node b t0 t1 t2 t3) = pointCount t0 + (pointCount t1 + (pointCount t2 + pointCount t3))
@@ -149,11 +143,6 @@ byteCount (node b t0 t1 t2 t3) = SECTOR-SIZE + (byteCount t0 + (byteCount t1 + (
 unfoldable pub leafCounts : Sector → List (ℕ × ℕ)
 leafCounts (leaf b is ts) = (length is, length ts) ∷ []
 leafCounts (node b t0 t1 t2 t3) = leafCounts t0 ++ (leafCounts t1 ++ (leafCounts t2 ++ leafCounts t3))
-
--- the points as they are read: preorder goes over subs 3, 2, 1, 0
-unfoldable pub preorder : Sector → List NavPoint
-preorder (leaf b is ts) = ts
-preorder (node b t0 t1 t2 t3) = preorder t3 ++ (preorder t2 ++ (preorder t1 ++ preorder t0))
 
 -- ---- records
 

@@ -21,10 +21,11 @@ use Rattle.write_decide.specs.Steps.{says}
 use Rattle.write_decide.specs.declared.Verdict.{Verdict as Said}
 use Rattle.write_decide.specs.declared.Verdict.the-variants.{Fine, Refused}
 use Rattle.write_decide.specs.declared.Decision.{Decision}
-use Rattle.strip.proofs.Laid.{LaidOut, laid-out}
+use Rattle.strip.proofs.Laid.{Well, well-cell}
 use Rattle.write_plan.specs.Plan.{afterPolygonChecks, Planned}
-use Rattle.write_plan.specs.Ready.{cellAt, Ready}
-use Rattle.write_plan.proofs.Verdicts.{whole-verdict, scanned-cell, cell-at}
+use Rattle.strip.specs.Laid.{cellAt}
+use Rattle.write_plan.specs.Ready.{Ready}
+use Rattle.write_plan.proofs.Verdicts.{whole-verdict, scanned-cell}
 
 -- 2, where the pages are c's
 abbrev short : ℕ → Cell → Verdict
@@ -37,14 +38,14 @@ module _ (s w w' : List ℕ) (d : Decision) where
 
   -- ---- no refusal
 
-  scanned : Planned s w w' d → d .verdict ≡ Fine → scan s ≡ ok (cellAt s (d .counts))
-  scanned P z =
+  formed : Planned s w w' d → d .verdict ≡ Fine → Well s (d .counts)
+  formed P z =
       let f = scanned-cell s d (λ c. beforeLeaves (length s) (length w) (afterPolygonChecks fine c) c) (P .verdict fine) z in
-      f .1 ∙ ap ok (cell-at s (f .0) (d .counts) (f .1) (P .counts z (f .0) (f .1)))
+      well-cell s (f .0) (f .1) (d .counts) (P .counts z (f .0) (f .1))
 
   pub verdict-of : (out : ℕ) → Planned s w w' d → d .verdict ≡ Fine
       → cellVerdict (length s) (length w) out (cellAt s (d .counts)) ≡ at 0 (faultIf (ltb out (length (pages (cellAt s (d .counts))))) 2) fine
-  verdict-of out P z = said out P _ (scanned P z) ∙ ap (λ (v : Said). says v (short out (cellAt s (d .counts)))) z
+  verdict-of out P z = said out P _ (formed P z .is) ∙ ap (λ (v : Said). says v (short out (cellAt s (d .counts)))) z
 
   pub ready : Planned s w w' d → d .verdict ≡ Fine → Ready s w' d
   ready P z =
@@ -53,14 +54,13 @@ module _ (s w w' : List ℕ) (d : Decision) where
       let enough : ltb n n ≡ false = le-ltb n n (omega arith) in
       let none : short n c ≡ fine = rw enough (at-none 0 0 fine refl) in
       let a = accepted (length s) (length w) n c .0 (verdict-of n P z ∙ none) in
-      let l : LaidOut s c = rw (scanned P z) at (laid-out s) in
       record {
-        scanned = scanned P z;
+        scanned = formed P z .is;
         accepted = a .1;
-        tabled = P .tabled z c (scanned P z);
+        tabled = P .tabled z c (formed P z .is);
         held = P .held z;
-        whole = rw (P .counts z c (scanned P z)) (l .body .whole);
-        long = l .long;
+        whole = formed P z .whole;
+        long = formed P z .long;
         room = omega (arith, a .0, P .long);
       }
 

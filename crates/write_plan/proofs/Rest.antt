@@ -6,12 +6,15 @@ use mathlib.Core.Path.{_≡_, refl, ap, sym, _∙_}
 use mathlib.Core.List.{List, [], _∷_, _++_, append-assoc}
 use lib.ListN.{length, getD, take, drop, length-append}
 use lib.Seq.{getD-append-add}
-use Rattle.fields.specs.Bytes.{put}
+use Rattle.fields.specs.Put.{put}
 use Rattle.fields.proofs.Puts.{put-next}
 use Rattle.quantise.specs.declared.bounds.Aabb.{Aabb}
 use Rattle.strip.specs.Cell.{NavPoly, NavPoint}
-use Rattle.strip.specs.Reading.{word, after, polyAt, polygonAt, polygonsAt, afterPolygons, pointAt, pointsAt, headAt}
+use Rattle.strip.specs.Reading.{word, polyAt, pointAt, headAt}
+use Rattle.strip.specs.Rows.{after, polygonsAt, afterPolygons, pointsAt}
+use Rattle.strip.specs.Laid.{firstPoint, Whole}
 use Rattle.strip.specs.declared.Counts.{Counts}
+use Rattle.strip.proofs.Lengths.{poly-count}
 use Rattle.strip.proofs.Steps.{items-length}
 use Rattle.strip.proofs.Judged.{poly-next}
 use Rattle.write_pages.specs.Items.{floats, boxOf, gather}
@@ -20,9 +23,11 @@ use Rattle.write_pages.specs.Checks.{leavesVerdict}
 use Rattle.write_quadtree.specs.Work.{treeBy, FirstRefused, BoxesHeld, LeavesHeld}
 use Rattle.write_quadtree.specs.declared.leaves.LeafCheck.{LeafCheck}
 use Rattle.write_quadtree.proofs.Held.{tree-held}
-use Rattle.write_decide.specs.Decide.{tablesEnd}
+use Rattle.write_decide.specs.Decide.{workPlaces}
+use Rattle.write_decide.specs.declared.WorkPlaces.{WorkPlaces}
 use Rattle.write_decide.proofs.Fronts.{trees-in}
-use Rattle.write_plan.specs.Plan.{boxWords, boxes, leafWords, portalsEnd, pointsIn, restWords, WorkHeld}
+use Rattle.write_decide.proofs.Places.{cut}
+use Rattle.write_plan.specs.Plan.{boxWords, boxes, leafWords, pointsIn, restWords, WorkHeld}
 
 -- ---- room: a polygon has four words or more, and a point four
 
@@ -31,8 +36,8 @@ unfolding after
 polygons-long zero s at = omega arith
 polygons-long (suc n) s at = omega (arith, poly-next s at, polygons-long n s (polyAt s at .next))
 
-pub rest-fits : (s : List ℕ) (n : Counts) → 14 ≤ length s → length s ≡ portalsEnd s n + 4 * n .points + 1
-    → tablesEnd (length s) + 3 * n .polys + n .points ≤ 3 * length s
+pub rest-fits : (s : List ℕ) (n : Counts) → 14 ≤ length s → Whole s n
+    → workPlaces (length s) n .end ≤ 3 * length s
 rest-fits s n l e = omega (arith, trees-in (length s) l .2, polygons-long (n .polys) s 14)
 
 pub length-boxes : (ps : List NavPoly) → length (boxes ps) ≡ 3 * length ps
@@ -45,21 +50,18 @@ unfolding leafWords
 length-leaves bs [] = refl
 length-leaves bs (t ∷ ts) = ap suc (length-leaves bs ts)
 
-pub poly-count : (s : List ℕ) (n : ℕ) → length (polygonsAt s 14 n) ≡ n
-poly-count s n = items-length (polygonAt s) (λ x. polyAt s x .next) n 14
-
 pub point-count : (s : List ℕ) (n : Counts) → length (pointsIn s n) ≡ n .points
-point-count s n = items-length (pointAt s) (λ x. x + 4) (n .points) (portalsEnd s n)
+point-count s n = items-length (pointAt s) (λ x. x + 4) (n .points) (firstPoint s n)
 
-pub rest-stored : (s : List ℕ) (n : Counts) (w w1 w2 : List ℕ) (base first : ℕ) (b : Aabb)
-    → base ≡ tablesEnd (length s) → first ≡ portalsEnd s n → b ≡ rootBox (headAt s 0)
-    → w1 ≡ put base (boxes (polygonsAt s 14 (n .polys))) w
-    → w2 ≡ put (base + 3 * n .polys) (leafWords (leaves (depthBy (word s 1 / 2 ^ 2 % 2)) b) (pointsAt s first (n .points))) w1
-    → w2 ≡ put (tablesEnd (length s)) (restWords s n) w
+pub rest-stored : (s : List ℕ) (n : Counts) (w w1 w2 : List ℕ) (p : WorkPlaces) (first : ℕ) (b : Aabb)
+    → p ≡ workPlaces (length s) n → first ≡ firstPoint s n → b ≡ rootBox (headAt s 0)
+    → w1 ≡ put (p .boxes) (boxes (polygonsAt s 14 (n .polys))) w
+    → w2 ≡ put (p .leaves) (leafWords (leaves (depthBy (word s 1 / 2 ^ 2 % 2)) b) (pointsAt s first (n .points))) w1
+    → w2 ≡ put (workPlaces (length s) n .boxes) (restWords s n) w
 unfolding headAt
-rest-stored s n w w1 w2 base first b eb ef er e1 e2 =
+rest-stored s n w w1 w2 p first b eb ef er e1 e2 =
     let size : length (boxes (polygonsAt s 14 (n .polys))) ≡ 3 * n .polys = length-boxes (polygonsAt s 14 (n .polys)) ∙ ap (λ (k : ℕ). 3 * k) (poly-count s (n .polys)) in
-    e2 ∙ rw (e1, eb, ef, er) (put-next (3 * n .polys) (tablesEnd (length s)) (boxes (polygonsAt s 14 (n .polys))) _ w size)
+    e2 ∙ rw (e1, eb, ef, er) (put-next (3 * n .polys) (workPlaces (length s) n .boxes) (boxes (polygonsAt s 14 (n .polys))) _ w size)
 
 -- ---- the words hold boxes and leaves
 
@@ -87,20 +89,24 @@ leaves-in bs pre (t ∷ ts) =
     (zero', rw (append-assoc, next) at rest)
 
 -- the words that work w holds behind the tables
-module _ (s w : List ℕ) (n : Counts) (held : WorkHeld s n w) (from : ℕ) (here : from ≡ tablesEnd (length s)) where
+module _ (s w : List ℕ) (n : Counts) (held : WorkHeld s n w) (p : WorkPlaces) (here : p ≡ workPlaces (length s) n) where
   abbrev pub boxPart : List ℕ
-  boxPart = take (from + 3 * n .polys - from) (drop from w)
+  boxPart = take (p .leaves - p .boxes) (drop (p .boxes) w)
 
   abbrev pub leafPart : List ℕ
-  leafPart = take (from + 3 * n .polys + n .points - (from + 3 * n .polys)) (drop (from + 3 * n .polys) w)
+  leafPart = take (p .end - p .leaves) (drop (p .leaves) w)
 
   pub box-part : boxPart ≡ boxes (polygonsAt s 14 (n .polys))
-  box-part = let m : from + 3 * n .polys - from ≡ 3 * n .polys = omega arith in rw (m, here) (held .boxes-held)
+  box-part =
+      let c = cut (length s) n here in
+      let m : p .leaves - p .boxes ≡ 3 * n .polys = omega (arith, c) in
+      rw (m, c .boxes) (held .boxes-held)
 
   pub leaf-part : leafPart ≡ leafWords (leaves (depthOf (headAt s 0)) (rootBox (headAt s 0))) (pointsIn s n)
   leaf-part =
-      let m : from + 3 * n .polys + n .points - (from + 3 * n .polys) ≡ n .points = omega arith in
-      rw (m, here) (held .leaves-held)
+      let c = cut (length s) n here in
+      let m : p .end - p .leaves ≡ n .points = omega (arith, c) in
+      rw (m, c .leaves, c .boxes) (held .leaves-held)
 
   -- a word to a point
   pub part-long : length (pointsIn s n) ≡ length leafPart

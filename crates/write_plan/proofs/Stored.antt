@@ -11,13 +11,14 @@ use lib.IntN.{ℤ}
 use mir.Syntax.{w16}
 use mir.Val.{toZ, ofZ}
 use Rattle.quantise.proofs.Quarters.{side-read}
-use Rattle.fields.specs.Bytes.{put}
+use Rattle.fields.specs.Put.{put}
 use Rattle.fields.proofs.Puts.{length-put, put-nil, put-cons, put-one, put-next}
-use Rattle.quantise.specs.Bounds.{everyThird, held, quarterBounds}
+use Rattle.quantise.specs.Bounding.{everyThird, held, quarterBounds}
 use Rattle.quantise.specs.declared.quarter.QuarterBox.{QuarterBox}
 use Rattle.quantise.specs.declared.bounds.Aabb.{Aabb}
 use Rattle.strip.specs.Cell.{Vec3, NavPoly, NavPoint}
-use Rattle.strip.specs.Reading.{word, itemsAt, vecAt, vecsAt, polyAt, polygonOf, polygonAt, polygonsAt, afterPolygons, pointAt, pointsAt}
+use Rattle.strip.specs.Reading.{word, itemsAt, vecAt, vecsAt, polyAt, polygonOf, polygonAt, pointAt}
+use Rattle.strip.specs.Rows.{polygonsAt, afterPolygons, pointsAt}
 use Rattle.strip.specs.declared.Poly.{Poly}
 use Rattle.strip.proofs.Steps.{items-turn, items-done, polygons-turn, after-polygon, next-inside}
 use Rattle.write_pages.specs.Items.{floats, boxOf, gather}

@@ -1,4 +1,4 @@
--- The verdict of a cell is that of `plan`, and then 2; and which cell it is, where an answer has no refusal. Assumes nothing.
+-- The verdict of a cell is that of `plan`, and then 2; and there is a cell, where an answer has no refusal. Assumes nothing.
 use Prim.Native.Nat.{ℕ, zero, suc}
 use native.Mathlib.Omega.{arith}
 use mathlib.Core.Path.{_≡_, refl}
@@ -7,15 +7,12 @@ use lib.ListN.{length}
 use lib.Dec.{ltb}
 use Rattle.strip.specs.Cell.{Cell}
 use Rattle.strip.specs.Scan.{Scanned, ok, fault, scan}
-use Rattle.strip.specs.declared.Counts.{Counts}
-use Rattle.strip.proofs.Laid.{LaidOut, laid-out}
 use Rattle.write_pages.specs.Pages.{links, pages}
 use Rattle.write_pages.specs.Checks.{Verdict, fine, refused, faultIf, firstFault, at, cellVerdict}
 use Rattle.write_decide.specs.Decide.{beforeLeaves, onScan, decisionThen}
 use Rattle.write_decide.specs.declared.Verdict.the-variants.{Fine}
 use Rattle.write_decide.specs.declared.Decision.{Decision}
 use Rattle.write_plan.specs.Plan.{afterPolygonChecks}
-use Rattle.write_plan.specs.Ready.{cellAt}
 
 last-apart : (a b e : ℕ) (v : Verdict) → at 0 (firstFault (a ∷ b ∷ e ∷ [])) v ≡ at 0 (firstFault (a ∷ b ∷ [])) (at 0 e v)
 unfolding firstFault at
@@ -30,8 +27,6 @@ unfolding cellVerdict beforeLeaves afterPolygonChecks
 whole-verdict words work out c =
     rw (last-apart (faultIf (ltb 585 (length (c .portals))) 19) (faultIf (ltb 8192 (length (links c))) 20) (faultIf (ltb out (length (pages c))) 2) fine)
 
--- ---- which cell it is
-
 -- an answer without a refusal is of a well-formed strip
 pub scanned-cell : (s : List ℕ) (d : Decision) (f : Cell → Verdict) → decisionThen d fine ≡ onScan f (scan s) → d .verdict ≡ Fine → (c : Cell) × (scan s ≡ ok c)
 scanned-cell s d f said z = by (scan s) refl
@@ -41,12 +36,3 @@ scanned-cell s d f said z = by (scan s) refl
     by (fault n p) e =
         let no : fine ≡ refused n p = rw (z, e) at said in
         let y : _≡_ {A = ℕ} 0 1 = cc in absurd (omega arith)
-
--- and the cell stands where the counts say
-pub cell-at : (s : List ℕ) (c : Cell) (n : Counts) → scan s ≡ ok c
-    → n ≡ record { polys = length (c .polys); portals = length (c .portals); points = length (c .points) } → c ≡ cellAt s n
-cell-at s c n e en =
-    rw en (by (rw e at (laid-out s)))
-  where
-    by : LaidOut s c → c ≡ cellAt s (record { polys = length (c .polys); portals = length (c .portals); points = length (c .points) })
-    by l = rw (← l .head, ← l .body .polys, ← l .body .portals, ← l .body .points)

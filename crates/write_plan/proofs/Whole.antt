@@ -8,34 +8,37 @@ use lib.ListN.{length, take, drop, length-take, length-drop, length-append}
 use lib.Seq.{ext-getD, getD-take, getD-drop}
 use lib.Dec.{ltb}
 use borrow.Author.Tests.{ltb-false}
-use Rattle.fields.specs.Bytes.{put}
-use Rattle.fields.proofs.Puts.{length-put, before, getD-put-after}
+use Rattle.fields.specs.Put.{put}
+use Rattle.fields.proofs.Puts.{length-put, before, drop-behind}
 use Rattle.fields.proofs.Holds.{Holds, put-held, held-first, held-second, held-taken}
 use Rattle.strip.specs.Cell.{Cell, Head, NavPoly}
-use Rattle.strip.specs.Reading.{headAt, polygonsAt}
+use Rattle.strip.specs.Reading.{headAt}
+use Rattle.strip.specs.Rows.{polygonsAt}
 use Rattle.strip.specs.Scan.{Scanned, ok, fault, scan}
+use Rattle.strip.specs.Laid.{Whole, cellAt}
 use Rattle.strip.specs.declared.Counts.{Counts}
 use Rattle.strip.specs.declared.Refusal.{Refusal}
-use Rattle.strip.proofs.Laid.{LaidOut, laid-out}
+use Rattle.strip.proofs.Laid.{Well, well-cell, cell-is}
 use Rattle.cell_record.specs.Record.{recordOf}
 use Rattle.write_vertices.specs.Table.{tripleAt, met}
 use Rattle.write_vertices.proofs.Triples.{met-ext}
 use Rattle.write_pages.specs.Sectors.{leaves, depthOf, rootBox, leafCounts, treeOf}
 use Rattle.write_pages.specs.Pages.{links, sectors}
-use Rattle.write_pages.specs.Checks.{Verdict, fine, faultIf, firstFault, at, leavesVerdict}
-use Rattle.write_pages.proofs.Firsts.{at-none, passed}
+use Rattle.write_pages.specs.Checks.{Verdict, fine, faultIf, firstFault, at}
+use Rattle.write_pages.proofs.Firsts.{passed}
 use Rattle.write_quadtree.specs.Work.{FirstRefused, passedThen}
 use Rattle.write_quadtree.specs.declared.leaves.LeafCheck.{LeafCheck}
 use Rattle.write_decide.specs.Decide.{beforeLeaves, onScan, decisionThen, trees, indicesAt, tablesEnd, Tabled, DecideDone}
-use Rattle.write_decide.specs.Steps.{says, said}
+use Rattle.write_decide.specs.Steps.{says, VerdictHas}
 use Rattle.write_decide.specs.declared.Verdict.{Verdict as Said}
 use Rattle.write_decide.specs.declared.Verdict.the-variants.{Fine, Refused}
 use Rattle.write_decide.specs.declared.Decision.{Decision}
-use Rattle.write_decide.proofs.Said.{never-both, said-says, at-refused}
+use Rattle.write_decide.proofs.Said.{never-both}
 use Rattle.write_decide.proofs.Fronts.{trees-in}
-use Rattle.write_plan.specs.Plan.{boxes, leafWords, portalsEnd, pointsIn, restWords, WorkHeld, afterPolygonChecks, judged, Planned}
-use Rattle.write_plan.proofs.Verdicts.{scanned-cell, cell-at}
-use Rattle.write_plan.proofs.Rest.{length-boxes, length-leaves, poly-count, point-count}
+use Rattle.write_plan.specs.Plan.{boxes, leafWords, pointsIn, restWords, WorkHeld, afterPolygonChecks, judged, Planned}
+use Rattle.write_plan.proofs.Verdicts.{scanned-cell}
+use Rattle.strip.proofs.Lengths.{poly-count}
+use Rattle.write_plan.proofs.Rest.{length-boxes, length-leaves, point-count}
 
 -- ---- a store behind what is read
 
@@ -48,12 +51,6 @@ module _ (p : ℕ) (bs xs : List ℕ) where
       let less : j < k = omega (arith, l, length-take k (drop i (put p bs xs)), min-le-left k (length (drop i (put p bs xs)))) in
       getD-take k (drop i (put p bs xs)) j 0 less ∙ getD-drop i (put p bs xs) j 0 ∙ before p bs xs (i + j) (omega arith)
       ∙ sym (getD-take k (drop i xs) j 0 less ∙ getD-drop i xs j 0))
-
-  pub drop-behind : (e : ℕ) → p + length bs ≤ e → drop e (put p bs xs) ≡ drop e xs
-  drop-behind e h =
-      ext-getD 0 (drop e (put p bs xs)) (drop e xs)
-      (rw (length-drop e (put p bs xs), length-drop e xs, length-put p bs xs))
-      (λ j l. getD-drop e (put p bs xs) j 0 ∙ getD-put-after p bs xs (e + j) (omega arith) ∙ sym (getD-drop e xs j 0))
 
   met-before : (b n : ℕ) → b + 2 * n ≤ p → met (put p bs xs) b n ≡ met xs b n
   unfolding tripleAt
@@ -106,17 +103,20 @@ module _ (s w w' : List ℕ) (d : Decision) (D : DecideDone s w w' d) where
     unfolding cell
     is = found .1
 
-    laid : LaidOut s cell
-    laid = rw is at (laid-out s)
+    formed : Well s (d .counts)
+    formed = well-cell s cell is (d .counts) (D .counts z cell is)
+
+    stands : cell ≡ cellAt s (d .counts)
+    stands = cell-is s formed cell is
 
     pub long : 14 ≤ length s
-    long = laid .long
+    long = formed .long
 
     pub record-is : d .cell ≡ recordOf (headAt s 0)
-    record-is = D .tabled z cell is .cell ∙ ap recordOf (laid .head)
+    record-is = D .tabled z cell is .cell ∙ ap (λ (c : Cell). recordOf (c .head)) stands
 
-    pub whole : length s ≡ portalsEnd s (d .counts) + 4 * d .counts .points + 1
-    whole = rw (D .counts z cell is) (laid .body .whole)
+    pub whole : Whole s (d .counts)
+    whole = formed .whole
 
     pub room : 4 * length s ≤ length w'
     unfolding beforeLeaves
@@ -154,7 +154,7 @@ module _ (s w w' : List ℕ) (d : Decision) (D : DecideDone s w w' d) where
 
       sectors-are : sectors cell ≡ treeOf (headAt s 0) (polygonsAt s 14 (d .counts .polys)) (pointsIn s (d .counts))
       unfolding sectors
-      sectors-are = ap sectors (cell-at s cell (d .counts) is (D .counts z cell is))
+      sectors-are = ap sectors stands
 
       front-said : (rest : Verdict) → onScan (λ c. beforeLeaves (length s) (length w) (afterPolygonChecks rest c) c) (scan s) ≡ afterPolygonChecks rest cell
       front-said rest =
@@ -182,11 +182,11 @@ module _ (s w w' : List ℕ) (d : Decision) (D : DecideDone s w w' d) where
             q eq
 
         pub at-last : r ≡ LeafCheck.Passed → (f : ℕ) → f ≡ firstFault (faultIf (ltb 585 (d .counts .portals)) 19 ∷ faultIf (ltb 8192 (d .links)) 20 ∷ [])
-            → (v : Said) → v ≡ said 0 f → (q : Decision) → q ≡ judged d v → Planned s w w2 q
+            → (v : Said) → VerdictHas v f → (q : Decision) → q ≡ judged d v → Planned s w w2 q
         unfolding afterPolygonChecks links
         at-last passed f ef v ev q eq =
             let n : d .counts .portals ≡ length (cell .portals) = ap (λ (k : Counts). k .portals) (D .counts z cell is) in
             let l : d .links ≡ length (links cell) = D .tabled z cell is .link-count in
             let same : f ≡ firstFault (faultIf (ltb 585 (length (cell .portals))) 19 ∷ faultIf (ltb 8192 (length (links cell))) 20 ∷ []) = rw (← n, ← l) ef in
             planned v
-            (λ rest. ap (λ (u : Said). says u rest) ev ∙ said-says 0 f rest ∙ ap (λ (x : LeafCheck). passedThen x (at 0 f rest)) (sym passed) ∙ told-leaves (at 0 f rest) ∙ rw (sectors-are, same)) q eq
+            (λ rest. ev rest ∙ ap (λ (x : LeafCheck). passedThen x (at 0 f rest)) (sym passed) ∙ told-leaves (at 0 f rest) ∙ rw (sectors-are, same)) q eq

@@ -9,14 +9,16 @@ use Rattle.quantise.specs.Quarter.{bits16}
 use Rattle.quantise.specs.declared.quarter.QuarterBox.{QuarterBox}
 use Rattle.quantise.specs.declared.bounds.Aabb.{Aabb}
 use Rattle.strip.specs.Cell.{Cell, NavPoly, NavPoint}
-use Rattle.strip.specs.Reading.{headAt, polygonsAt, afterPolygons, pointsAt}
+use Rattle.strip.specs.Reading.{headAt}
+use Rattle.strip.specs.Rows.{polygonsAt, pointsAt}
 use Rattle.strip.specs.Scan.{ok, scan}
+use Rattle.strip.specs.Laid.{cellCounts, firstPoint}
 use Rattle.strip.specs.declared.Counts.{Counts}
 use Rattle.write_pages.specs.Items.{floats, boxOf, gather}
 use Rattle.write_pages.specs.Sectors.{leafOf, leaves, depthOf, rootBox, leafCounts}
 use Rattle.write_pages.specs.Pages.{links, sectors}
 use Rattle.write_pages.specs.Checks.{Verdict, faultIf, firstFault, at, leavesVerdict}
-use Rattle.write_decide.specs.Decide.{beforeLeaves, onScan, decisionThen, tablesEnd, Tabled}
+use Rattle.write_decide.specs.Decide.{beforeLeaves, onScan, decisionThen, workPlaces, Tabled}
 use Rattle.write_decide.specs.declared.Verdict.{Verdict as Said}
 use Rattle.write_decide.specs.declared.Verdict.the-variants.{Fine}
 use Rattle.write_decide.specs.declared.Decision.{Decision}
@@ -38,12 +40,8 @@ leafWords bs ts = map (λ t. leafOf bs (floats (t .position))) ts
 
 -- ---- of a strip s with these counts
 
--- where the portals end, and the points
-abbrev pub portalsEnd : List ℕ → Counts → ℕ
-portalsEnd s n = afterPolygons s 14 (n .polys) + 11 * n .portals
-
 abbrev pub pointsIn : List ℕ → Counts → List NavPoint
-pointsIn s n = pointsAt s (portalsEnd s n) (n .points)
+pointsIn s n = pointsAt s (firstPoint s n) (n .points)
 
 -- what stands behind the tables
 abbrev pub restWords : List ℕ → Counts → List ℕ
@@ -51,9 +49,9 @@ restWords s n = boxes (polygonsAt s 14 (n .polys)) ++ leafWords (leaves (depthOf
 
 -- the words w hold it
 pub record WorkHeld (s : List ℕ) (n : Counts) (w : List ℕ) : Type 0 where
-  pub room : tablesEnd (length s) + 3 * n .polys + n .points ≤ length w
-  pub boxes-held : take (3 * n .polys) (drop (tablesEnd (length s)) w) ≡ boxes (polygonsAt s 14 (n .polys))
-  pub leaves-held : take (n .points) (drop (tablesEnd (length s) + 3 * n .polys) w) ≡ leafWords (leaves (depthOf (headAt s 0)) (rootBox (headAt s 0))) (pointsIn s n)
+  pub room : workPlaces (length s) n .end ≤ length w
+  pub boxes-held : take (3 * n .polys) (drop (workPlaces (length s) n .boxes) w) ≡ boxes (polygonsAt s 14 (n .polys))
+  pub leaves-held : take (n .points) (drop (workPlaces (length s) n .leaves) w) ≡ leafWords (leaves (depthOf (headAt s 0)) (rootBox (headAt s 0))) (pointsIn s n)
 
 -- ---- the verdict
 
@@ -81,4 +79,4 @@ pub record Planned (s w w' : List ℕ) (r : Decision) : Type 0 where
   pub beyond : drop (2 * length s) w' ≡ drop (2 * length s) w
   pub tabled : r .verdict ≡ Fine → (c : Cell) → scan s ≡ ok c → Tabled (length s) (c .head) (c .polys) w' r
   pub held : r .verdict ≡ Fine → WorkHeld s (r .counts) w'
-  pub counts : r .verdict ≡ Fine → (c : Cell) → scan s ≡ ok c → r .counts ≡ record { polys = length (c .polys); portals = length (c .portals); points = length (c .points) }
+  pub counts : r .verdict ≡ Fine → (c : Cell) → scan s ≡ ok c → r .counts ≡ cellCounts c

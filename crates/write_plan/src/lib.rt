@@ -3,34 +3,29 @@ ghost use mathlib.Core.Path.{_≡_};
 ghost use mathlib.Core.List.{[], _∷_};
 ghost use lib.Dec.{ltb};
 ghost use Rattle.write_pages.specs.Checks.{Verdict as Saying, faultIf, firstFault, at, leavesVerdict};
-ghost use Rattle.write_decide.specs.Decide.{tablesEnd};
-ghost use Rattle.write_decide.specs.Steps.{said};
+ghost use Rattle.write_decide.specs.Decide.{workPlaces};
+ghost use Rattle.write_decide.specs.Steps.{VerdictHas};
 ghost use Prim.Native.Nat.{_+_, _*_, _/_, _%_, _^_, _≤_};
 ghost use lib.ListN.{length};
-ghost use Rattle.fields.specs.Bytes.{put};
-ghost use Rattle.strip.specs.Reading.{headAt, polygonOf, polygonsAt, afterPolygons, pointsAt};
+ghost use Rattle.fields.specs.Put.{put};
+ghost use Rattle.strip.specs.Reading.{headAt, polygonOf};
+ghost use Rattle.strip.specs.Rows.{polygonsAt, afterPolygons, pointsAt};
+ghost use Rattle.strip.specs.Laid.{Whole};
 ghost use Rattle.cell_record.specs.Record.{recordOf};
 ghost use Rattle.write_pages.specs.Items.{boxOf};
 ghost use Rattle.write_pages.specs.Sectors.{leaves, depthBy, leafCounts, treeOf};
 ghost use Rattle.write_quadtree.specs.Work.{FirstRefused};
-ghost use Rattle.write_plan.specs.Plan.{sides, boxWords, boxes, leafWords, portalsEnd, pointsIn, restWords, WorkHeld, judged, Planned};
+ghost use Rattle.write_plan.specs.Plan.{boxWords, boxes, leafWords, pointsIn, restWords, WorkHeld, judged, Planned};
 use cell_record::CellRecord;
 use math::vec3::floats_at;
 use quantise::bounds::Aabb;
-use quantise::quarter::bits16_of;
 use strip::Counts;
 use strip::Poly;
 use strip::Refusal;
 use write_decide::Decision;
 use write_decide::Verdict;
 use write_quadtree::leaves::LeafCheck;
-
-// Two sides of a quarter box in one word, the min below.
-fn sides_of(min: i16, max: i16) -> u32
-    ensures { λ r. ⌜ r ≡ sides min max ⌝ }
-{
-    bits16_of(min) + 65536 * bits16_of(max)
-}
+use write_quadtree::leaves::quarter_pair;
 
 // A polygon's quarter box, in three words from `at` on.
 fn put_box(strip: &[u32], p: Poly, work: &mut [u32], at: usize)
@@ -38,9 +33,9 @@ fn put_box(strip: &[u32], p: Poly, work: &mut [u32], at: usize)
     ensures { λ _. ⌜ now (work .exit) ≡ put at (boxWords (boxOf (polygonOf (now (strip .entry)) p))) (now (work .entry)) ⌝ }
 {
     let q = quantise::bounds::quarter_bounds(strip, p.vertex_at, p.vertices);
-    work[at] = sides_of(q.x_min, q.x_max);
-    work[at + 1] = sides_of(q.y_min, q.y_max);
-    work[at + 2] = sides_of(q.z_min, q.z_max);
+    work[at] = quarter_pair(q.x_min, q.x_max);
+    work[at + 1] = quarter_pair(q.y_min, q.y_max);
+    work[at + 2] = quarter_pair(q.z_min, q.z_max);
 }
 
 // The quarter boxes of n polygons, from `base` on.
@@ -87,15 +82,15 @@ fn put_leaves(
 
 // The quarter boxes, then the points' leaves, behind the tables.
 fn put_rest(strip: &[u32], cell: CellRecord, counts: Counts, work: &mut [u32])
-    requires { ⌜ (14 ≤ length (now strip)) × (cell ≡ recordOf (headAt (now strip) 0)) × (length (now strip) ≡ portalsEnd (now strip) counts + 4 * counts .points + 1) × (4 * length (now strip) ≤ length (now work)) ⌝ }
-    ensures { λ _. ⌜ now (work .exit) ≡ put (tablesEnd (length (now (strip .entry)))) (restWords (now (strip .entry)) counts) (now (work .entry)) ⌝ }
+    requires { ⌜ (14 ≤ length (now strip)) × (cell ≡ recordOf (headAt (now strip) 0)) × Whole (now strip) counts × (4 * length (now strip) ≤ length (now work)) ⌝ }
+    ensures { λ _. ⌜ now (work .exit) ≡ put (workPlaces (length (now (strip .entry))) counts .boxes) (restWords (now (strip .entry)) counts) (now (work .entry)) ⌝ }
 {
-    let at = write_decide::tables_end(strip);
+    let places = write_decide::work_places(strip.len(), counts);
     let n = counts.polys;
     let points = counts.points;
-    put_boxes(strip, n, work, at);
+    put_boxes(strip, n, work, places.boxes);
     let b = cell.root_box();
-    let first = strip.len() - 1 - 4 * points;
+    let first = strip::cells::first_point(strip, counts);
     put_leaves(
         strip,
         first,
@@ -103,7 +98,7 @@ fn put_rest(strip: &[u32], cell: CellRecord, counts: Counts, work: &mut [u32])
         cell.content_flags,
         b,
         work,
-        at + 3 * n,
+        places.leaves,
     );
 }
 
@@ -112,17 +107,18 @@ fn check_leaves(strip: &[u32], cell: CellRecord, counts: Counts, work: &[u32]) -
     requires { ⌜ (cell ≡ recordOf (headAt (now strip) 0)) × WorkHeld (now strip) counts (now work) ⌝ }
     ensures { λ r. ⌜ FirstRefused r 0 (leafCounts (treeOf (headAt (now (strip .entry)) 0) (polygonsAt (now (strip .entry)) 14 (counts .polys)) (pointsIn (now (strip .entry)) counts))) ⌝ }
 {
-    let at = write_decide::tables_end(strip);
-    let mid = at + 3 * counts.polys;
-    let end = mid + counts.points;
+    let places = write_decide::work_places(strip.len(), counts);
+    let boxes = places.boxes;
+    let leaves = places.leaves;
+    let end = places.end;
     let b = cell.root_box();
     let depth = write_quadtree::boxes::depth_of(cell.content_flags);
-    write_quadtree::leaves::check_leaves(depth, b, &work[at..mid], &work[mid..end])
+    write_quadtree::leaves::check_leaves(depth, b, &work[boxes..leaves], &work[leaves..end])
 }
 
 // 19 and 20.
 fn count_verdict(portals: usize, links: usize) -> Verdict
-    ensures { λ r. ⌜ r ≡ said 0 (firstFault (faultIf (ltb 585 portals) 19 ∷ faultIf (ltb 8192 links) 20 ∷ [])) ⌝ }
+    ensures { λ r. ⌜ VerdictHas r (firstFault (faultIf (ltb 585 portals) 19 ∷ faultIf (ltb 8192 links) 20 ∷ [])) ⌝ }
 {
     if 585 < portals {
         return Verdict::Refused(Refusal {

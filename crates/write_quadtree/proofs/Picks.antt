@@ -1,6 +1,6 @@
 -- Counting by a test, one turn at a time, and the test of a leaf's quarter box on words. Assumes nothing.
 use Prim.Native.Nat.{ℕ, zero, suc, _+_, _-_, _*_, _/_, _%_, _≤_, _<_}
-use mathlib.Core.Path.{_≡_, refl, ap, _∙_}
+use mathlib.Core.Path.{_≡_, refl, sym, ap, _∙_}
 use mathlib.Core.Bool.{Bool, true, false, cond}
 use mathlib.Core.List.{List, [], _∷_}
 use native.Mathlib.Omega.{arith}
@@ -8,11 +8,12 @@ use lib.IntN.{ℤ, pos, negsuc}
 use lib.Signed.{leZ, mag}
 use lib.Dec.{eqb, ltb}
 use lib.ListN.{length, getD}
-use borrow.Author.Tests.{lt-ltb, le-ltb, ltb-true, ltb-false}
+use borrow.Author.Tests.{eq-eqb, ne-eqb, eqb-true, eqb-false, lt-ltb, le-ltb, ltb-true, ltb-false}
 use mir.Syntax.{w16}
 use mir.Val.{SFits, toZ, ofZ}
 use mir.ValLaws.{toZ-ofZ}
-use Rattle.quantise.specs.Quarter.{bits16, int16}
+use Rattle.quantise.specs.Quarter.{bits16}
+use Rattle.quantise.specs.Int16.{int16}
 use Rattle.quantise.specs.declared.quarter.QuarterBox.{QuarterBox}
 use Rattle.strip.specs.Cell.{NavPoint}
 use Rattle.strip.specs.Reading.{itemsAt}
@@ -22,9 +23,17 @@ use Rattle.write_quadtree.specs.Work.{boxAt, boxesAt, boxesIn, pickedFro
 
 -- ---- one turn
 
+eqb-swapped : (a b : ℕ) (t : Bool) → eqb a b ≡ t → eqb a b ≡ eqb b a
+eqb-swapped a b true e = e ∙ sym (eq-eqb b a (sym (eqb-true a b e)))
+eqb-swapped a b false e = e ∙ sym (ne-eqb b a (λ q. eqb-false a b e (sym q)))
+
 pub keep-one : (b : Bool) → cond b 1 0 ≤ 1
 keep-one true = omega arith
 keep-one false = omega arith
+
+-- whichever number a test names first
+pub one-swapped : (a b : ℕ) → _≡_ {A = ℕ} (cond (eqb a b) 1 0) (cond (eqb b a) 1 0)
+one-swapped a b = ap (λ (t : Bool). cond {A = ℕ} t 1 0) (eqb-swapped a b (eqb a b) refl)
 
 pub keep-few : {A : Type 0} (b : Bool) (x : A) (xs : List A) (n : ℕ) → length xs ≤ n → length (cond b (x ∷ xs) xs) ≤ suc n
 keep-few b x xs n h = omega (arith, keep-length b x xs, keep-one b)

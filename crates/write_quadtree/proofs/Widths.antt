@@ -34,3 +34,7 @@ module _ (w n : ℕ) (wide : w ≡ 4 ^ n) (some : n ≡ 0 → ⊥) where
 
   pub quarter-room : (k : ℕ) → k + 4 ^ n < 2 ^ 32 → k + w / 4 + w / 4 + w / 4 + 4 ^ (n - 1) < 2 ^ 32
   quarter-room k h = omega (arith, four, quarter-width)
+
+  -- what a recursion over the tree asks one split down, of a box whose leaves are numbered from k on
+  pub one-down : (t k : ℕ) → n < suc t → k + 4 ^ n < 2 ^ 32 → (n - 1 < t) × (w / 4 ≡ 4 ^ (n - 1)) × (k + w / 4 + w / 4 + w / 4 + 4 ^ (n - 1) < 2 ^ 32)
+  one-down t k h room = (omega (arith, down n some), quarter-width, quarter-room k room)

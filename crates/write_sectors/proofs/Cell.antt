@@ -4,11 +4,13 @@ use mathlib.Core.Path.{_≡_, refl}
 use mathlib.Core.List.{List, _++_}
 use native.Mathlib.Omega.{arith}
 use lib.ListN.{length, length-append}
-use Rattle.strip.specs.Cell.{Head, Cell, All}
-use Rattle.write_blocks.specs.Layout.{endOf, Laid}
+use Rattle.strip.specs.Cell.{Head, Cell}
+use Rattle.strip.specs.Fits.{All}
+use Rattle.write_blocks.specs.Layout.{endOf}
+use Rattle.write_blocks.specs.Laid.{Laid}
 use Rattle.write_blocks.specs.Lists.{listSizes}
 use Rattle.write_blocks.proofs.Layouts.{end-append, end-ge}
-use Rattle.write_pages.specs.Optional.{sizeOf}
+use Rattle.write_blocks.specs.Optional.{sizeOf}
 use Rattle.write_pages.specs.Sectors as Sectors
 use Rattle.write_pages.specs.Sectors.{Sector, pointCount, leafCounts, leaves, depthBy, depthOf, rootBox, treeOf, treeBlocks}
 use Rattle.write_pages.specs.Sectors.Sector.{leaf, node}
@@ -18,8 +20,8 @@ use Rattle.strip.proofs.Alls.{all-apart}
 use Rattle.write_pages.proofs.Placed.{pages-short}
 use Rattle.write_pages.proofs.Sizes.{pages-length}
 use Rattle.write_quadtree.proofs.LeafVerdicts.{leaves-length}
-use Rattle.write_sectors.specs.declared.SectorCursor.{SectorCursor}
-use Rattle.write_sectors.specs.Written.{TreeRoom, Wrote}
+use Rattle.write_leaves.specs.declared.SectorCursor.{SectorCursor}
+use Rattle.write_leaves.specs.Written.{TreeRoom, Wrote}
 use Rattle.write_sectors.proofs.Steps.{laid-of}
 
 -- ---- its points

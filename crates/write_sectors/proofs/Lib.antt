@@ -1,5 +1,2 @@
-pub mod Records
-pub mod Keeping
-pub mod Leaves
 pub mod Steps
 pub mod Cell

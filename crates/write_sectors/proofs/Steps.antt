@@ -5,23 +5,26 @@ use mathlib.Core.List.{List, [], _∷_, _++_}
 use native.Mathlib.Nat.{pow-suc}
 use native.Mathlib.Omega.{arith}
 use lib.ListN.{length}
-use Rattle.fields.specs.Bytes.{put, zeros}
+use Rattle.fields.specs.Bytes.{zeros}
+use Rattle.fields.specs.Put.{put}
 use Rattle.fields.specs.Rows.{rowBytes}
 use Rattle.fields.proofs.Rows.{length-rows}
 use Rattle.math.specs.declared.vec3.Vec3.{Vec3 as Floats}
 use Rattle.quantise.specs.declared.quarter.QuarterBox.{QuarterBox}
 use Rattle.quantise.specs.declared.bounds.Aabb.{Aabb}
-use Rattle.strip.specs.Cell.{NavPoint, All}
-use Rattle.write_blocks.specs.Layout.{placeOf, behind, endOf, Laid}
-use Rattle.write_blocks.proofs.Layouts.{end-append, end-ge, laid-then, laid-before}
+use Rattle.strip.specs.Cell.{NavPoint}
+use Rattle.strip.specs.Fits.{All}
+use Rattle.write_blocks.specs.Layout.{placeOf, behind, endOf}
+use Rattle.write_blocks.specs.Laid.{allocated, Laid}
+use Rattle.write_blocks.proofs.Layouts.{end-append, end-ge, laid-end, laid-then, laid-before}
 use Rattle.write_pages.specs.Accepted.{FewIn}
-use Rattle.write_pages.specs.Optional.{sizeOf}
+use Rattle.write_blocks.specs.Optional.{sizeOf}
 use Rattle.write_pages.specs.Sectors.{Sector, pointCount, leafCounts, sectorRow, sizes, sectorAddress, from0, from1, from2, from3, treeBlocks, grown, sub0, sub1, sub2, sub3}
 use Rattle.write_pages.specs.Sectors.Sector.{leaf, node}
 use Rattle.strip.proofs.Alls.{all-apart}
 use Rattle.write_pages.proofs.Sizes.{tree-lengths}
-use Rattle.write_sectors.specs.declared.SectorCursor.{SectorCursor}
-use Rattle.write_sectors.specs.Written.{TreeRoom, Wrote}
+use Rattle.write_leaves.specs.declared.SectorCursor.{SectorCursor}
+use Rattle.write_leaves.specs.Written.{TreeRoom, Wrote}
 
 -- where the writer stands
 pub record Stand (p : SectorCursor) (end leaf' first : ℕ) : Type 0 where
@@ -44,7 +47,7 @@ module _ (bb-min bb-size : Floats) where
       → Stand r (endOf end (sizes t)) (k + n) (first + pointCount t)
   stand-of {t} {n} {p} s w =
       record {
-        ends = w .laid .ends ∙ ap (endOf (p .layout .at)) (tree-lengths bb-min bb-size (p .layout .at) (p .first) t) ∙ ap (λ (e : ℕ). endOf e (sizes t)) (s .ends);
+        ends = laid-end (w .laid) ∙ ap (endOf (p .layout .at)) (tree-lengths bb-min bb-size (p .layout .at) (p .first) t) ∙ ap (λ (e : ℕ). endOf e (sizes t)) (s .ends);
         leaves = w .next ∙ ap (λ (j : ℕ). j + n) (s .leaves);
         points = w .points ∙ ap (λ (j : ℕ). j + pointCount t) (s .points);
       }
@@ -156,14 +159,14 @@ module _ (bb-min bb-size : Floats) (ids : QuarterBox → List ℕ) (stored : ℕ
             next3 = moved-room e3 stand3 (room3 b g0 g1 g2 g3 as-node)
 
             -- all four, and the sector, which is stored last
-            pub grown-wrote : {p4 : SectorCursor} {y3 ys : List ℕ} {at m : ℕ} (xs : List ℕ)
+            pub grown-wrote : {p4 : SectorCursor} {y3 ys : List ℕ} {at m : ℕ} (xs : List ℕ) → p0 .layout ≡ allocated (spot .layout) 96
                 → x0 ≡ put (spot .layout .at) (zeros (placeOf (spot .layout .at) 96 - spot .layout .at)) xs
                 → Wrote bb-min bb-size (grown ids stored d (p3 .leaf) c3) (4 ^ d) p3 p4 y2 y3
                 → at ≡ placeOf (spot .layout .at) 96
                 → ys ≡ put at (rowBytes (sectorRow b 0 (sectorAddress (p0 .layout .at)) (sectorAddress (p1 .layout .at)) (sectorAddress (p2 .layout .at)) (sectorAddress (p3 .layout .at)))) y3
                 → m ≡ suc d → Wrote bb-min bb-size (grown ids stored m (spot .leaf) b) (4 ^ m) spot p4 xs ys
             unfolding grown treeBlocks pointCount
-            grown-wrote {p4} {y3} xs p w3 a e f =
+            grown-wrote {p4} {y3} xs own p w3 a e f =
                 let end : ℕ = spot .layout .at in
                 let v3 = moved e3 stand3 w3 in
                 let s4 = stand-of bb-min bb-size stand3 v3 in
@@ -172,7 +175,7 @@ module _ (bb-min bb-size : Floats) (ids : QuarterBox → List ℕ) (stored : ℕ
                 let l2 = laid-of bb-min bb-size stand2 (moved e2 stand2 w2) in
                 let l3 = laid-of bb-min bb-size stand3 v3 in
                 let row = sectorRow b 0 (sectorAddress (from0 end)) (sectorAddress (from1 end g0)) (sectorAddress (from2 end g0 g1)) (sectorAddress (from3 end g0 g1 g2)) in
-                let z = laid-before {l = spot .layout} (length-rows row) (s0 .ends) (laid-then l0 (laid-then l1 (laid-then l2 l3))) in
+                let z = laid-before {l = spot .layout} (length-rows row) own (laid-then l0 (laid-then l1 (laid-then l2 l3))) in
                 let q : 4 ^ suc d ≡ 4 ^ d * 4 = pow-suc 4 d in
                 rw f (record {
                   laid = rw (e, a, s0 .ends, stand1 .ends, stand2 .ends, stand3 .ends) z;

@@ -5,7 +5,8 @@ use native.Mathlib.Numerals.{add-one}
 use mathlib.Core.Path.{_≡_, ap, sym, _∙_}
 use mathlib.Core.List.{List}
 use lib.ListN.{length, set}
-use Rattle.fields.specs.Bytes.{put, zeros}
+use Rattle.fields.specs.Bytes.{zeros}
+use Rattle.fields.specs.Put.{put}
 use Rattle.fields.proofs.Puts.{put-nil, put-cons, past-end}
 use Rattle.write_vertices.specs.Table.{cleared}
 

@@ -2,13 +2,15 @@
 use Prim.Native.Nat.{ℕ, _+_, _*_, _/_, _≤_, _<_, min}
 use native.Mathlib.Omega.{arith}
 use native.Mathlib.Nat.{min-le-left, min-le-right, le-min}
-use mathlib.Core.Path.{_≡_, refl, sym, _∙_}
+use mathlib.Core.Path.{_≡_, refl, ap, sym, _∙_}
 use mathlib.Core.List.{List, []}
 use lib.ListN.{length}
 use borrow.Author.Tests.{le-leb, lt-leb}
-use Rattle.distinct.specs.Distinct.{distinctFrom, numbersFrom, Excess, nowhere, from, excessFrom}
+use Rattle.strip.specs.Outcome.{refusal}
+use Rattle.distinct.specs.Distinct.{distinctFrom}
+use Rattle.distinct.specs.Numbers.{numbersFrom, Excess, nowhere, from, excessFrom}
 use Rattle.distinct.proofs.Left.{drop-more}
-use Rattle.write_vertices.specs.Vertices.{allOf}
+use Rattle.write_vertices.specs.Vertices.{allOf, allPaper}
 use Rattle.write_vertices.specs.Table.{met, InWork, NumberedAll}
 use Rattle.write_vertices.specs.declared.All.{All}
 use Rattle.write_vertices.specs.declared.All.the-variants.{Count, Short}
@@ -33,9 +35,9 @@ no-triple w = record {
 }
 
 -- a numbering's answer is never Short
-not-short : (e : Excess) (n : ℕ) → allOf e n ≡ Short → ⊥
+not-short : (e : Excess) (n : ℕ) → allOf e n ≡ refusal 1 0 → ⊥
 not-short nowhere n q = let z : _≡_ {A = ℕ} 0 1 = cc in omega arith
-not-short (from i) n q = let z : _≡_ {A = ℕ} 0 1 = cc in omega arith
+not-short (from i) n q = let z : _≡_ {A = ℕ} 14 1 = cc in omega arith
 
 -- some trees, and no more than triples
 pub trees-fit : (m b : ℕ) → 0 < m → b ≡ min m 65536 → (0 < b) × (b ≤ 65536) × (b ≤ m)
@@ -55,5 +57,5 @@ enough xs w w' m b r lx h eb a =
       numbers = λ n e. rw lx (a .numbered n e .1);
       vertices = λ n e. rw (lx, ← eb) (a .numbered n e .0);
       rest = rw lx (drop-more (m + (b + 2 * m)) (4 * m) few w' w (a .rest));
-      short = λ e. absurd (not-short (excessFrom 65536 [] 0 xs) (length (distinctFrom [] xs)) (sym (a .answer) ∙ e));
+      short = λ e. absurd (not-short (excessFrom 65536 [] 0 xs) (length (distinctFrom [] xs)) (sym (a .answer) ∙ ap allPaper e));
     }

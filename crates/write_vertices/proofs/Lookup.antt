@@ -1,4 +1,4 @@
--- The three answers of `vertex_index` are what `Looked` says.
+-- The three answers of `vertex_index` are what `LookedUp` says.
 use Prim.Native.Nat.{ℕ, _+_, _≤_, _<_}
 use native.Mathlib.Omega.{arith}
 use mathlib.Core.Path.{_≡_, refl, ap, sym, _∙_}
@@ -6,8 +6,10 @@ use mathlib.Core.Bool.{true, false}
 use mathlib.Core.List.{List, [], _∷_, _++_}
 use lib.ListN.{length}
 use borrow.Author.Tests.{lt-ltb, le-ltb}
-use Rattle.distinct.specs.Distinct.{indexOf, isIn, upTo}
-use Rattle.write_vertices.specs.Vertices.{numberOf}
+use Rattle.strip.specs.Outcome.{values}
+use Rattle.distinct.specs.Distinct.{indexOf, isIn}
+use Rattle.distinct.specs.Numbers.{upTo}
+use Rattle.write_vertices.specs.Vertices.{paper, numberOf}
 use Rattle.write_vertices.specs.Table.{triple, met, added, Table, Finds, Ends, TableRoom, LookedUp}
 use Rattle.write_vertices.specs.declared.Numbered.the-variants.{Vertex, Full}
 use Rattle.distinct.proofs.Laws.{index-at, index-none, with-old, length-fresh, fresh-index, up-old, up-new, up-full}
@@ -16,20 +18,20 @@ use Rattle.write_vertices.proofs.Adding.{met-added, table-added, drop-a
 
 -- the answer and the list after it, of the list alone
 module _ (ts : List ℕ) (x : ℕ) where
-  answer-old : length ts ≤ 65536 → isIn ts x ≡ true → (Vertex (indexOf ts x) (length ts) ≡ numberOf ts x) × (upTo 65536 ts x ≡ ts)
+  answer-old : length ts ≤ 65536 → isIn ts x ≡ true → ((place : ℕ) → paper (Vertex (indexOf ts x) (length ts)) place ≡ numberOf ts x place) × (upTo 65536 ts x ≡ ts)
   answer-old few e =
       let up = up-old 65536 ts x e few in
-      (rw (up .0, with-old ts x e), up .1)
+      (λ place. rw (up .0, with-old ts x e), up .1)
 
-  answer-new : length ts < 65536 → isIn ts x ≡ false → (Vertex (length ts) (length ts + 1) ≡ numberOf ts x) × (upTo 65536 ts x ≡ ts ++ (x ∷ []))
+  answer-new : length ts < 65536 → isIn ts x ≡ false → ((place : ℕ) → paper (Vertex (length ts) (length ts + 1)) place ≡ numberOf ts x place) × (upTo 65536 ts x ≡ ts ++ (x ∷ []))
   answer-new lt e =
       let up = up-new 65536 ts x e lt in
-      (rw (up .0, length-fresh ts x e, fresh-index ts x e), up .1)
+      (λ place. rw (up .0, length-fresh ts x e, fresh-index ts x e), up .1)
 
-  answer-full : 65536 ≤ length ts → isIn ts x ≡ false → (Full ≡ numberOf ts x) × (upTo 65536 ts x ≡ ts)
+  answer-full : 65536 ≤ length ts → isIn ts x ≡ false → ((place : ℕ) → paper Full place ≡ numberOf ts x place) × (upTo 65536 ts x ≡ ts)
   answer-full ge e =
       let up = up-full 65536 ts x e ge in
-      (rw (up .0), up .1)
+      (λ place. rw (up .0), up .1)
 
 module _ (t : List ℕ) (b n x : ℕ) where
   -- a vertex with x, when no two are equal, is the first
@@ -47,13 +49,13 @@ module _ (t : List ℕ) (b n x : ℕ) where
   looked-old i T f =
       let here = index-found T i (f .below) (f .equal) in
       let a = answer-old (met t b n) x (omega (arith, T .few, length-met t b n)) (lt-ltb (indexOf (met t b n) x) (length (met t b n)) (omega (arith, f .below, length-met t b n))) in
-      record { answer = ap (λ (k : ℕ). Vertex k n) (sym here) ∙ (rw length-met at (a .0)); now-met = sym (a .1); table = T; rest = refl; long = refl }
+      record { answer = λ place. ap (λ (k : ℕ). values (k, n)) (sym here) ∙ (rw length-met at (a .0 place)); now-met = sym (a .1); table = T; rest = refl; long = refl }
 
   pub looked-new : (s : ℕ) → TableRoom t b n x → n < 65536 → Ends t b n x s → LookedUp t (added t b n x s) b n x (Vertex n (n + 1))
   looked-new s R lt E =
       let a = answer-new (met t b n) x (omega (arith, length-met t b n)) (missing (E .none)) in
       record {
-        answer = rw length-met at (a .0);
+        answer = λ place. rw length-met at (a .0 place);
         now-met = met-added t b n x s R lt E ∙ sym (a .1);
         table = table-added t b n x s R lt E;
         rest = drop-added t b n x s R lt E;

@@ -7,10 +7,13 @@ use mathlib.Core.List.{List, [], _++_}
 use lib.ListN.{length, getD, set, drop, length-replicate, getD-replicate, List·getD-append}
 use lib.Seq.{drop-at}
 use lib.Dec.{leb}
-use Rattle.distinct.specs.Distinct.{indexOf, withNew, distinctFrom, numbersFrom}
-use Rattle.write_vertices.specs.Vertices.{numberOf, countAfter, answerAll}
+use Rattle.strip.specs.Outcome.{Paper, refusal, values}
+use Rattle.distinct.specs.Distinct.{indexOf, withNew, distinctFrom}
+use Rattle.distinct.specs.Numbers.{numbersFrom}
+use Rattle.write_vertices.specs.Vertices.{paper, numberOf, countAfter, allPaper, answerAll}
 use Rattle.write_vertices.specs.Table.{tripleAt, met, halfAt, Link, root, child, cleared, Table, LookedUp}
-use Rattle.fields.specs.Bytes.{put, zeros}
+use Rattle.fields.specs.Bytes.{zeros}
+use Rattle.fields.specs.Put.{put}
 use Rattle.fields.proofs.Puts.{length-put, put-whole}
 use Rattle.write_vertices.specs.declared.Numbered.{Numbered}
 use Rattle.write_vertices.specs.declared.Numbered.the-variants.{Vertex, Full}
@@ -22,21 +25,20 @@ use Rattle.write_vertices.proofs.Links.{half-zero}
 use Rattle.distinct.proofs.Left.{Left, drop-more, left-start, left-turn, left-over, done-excess, done-distinct, done-numbers}
 
 -- what an answer says of the test that it goes by
-pub vertex-in : (s : Bool) (i j m n : ℕ) → Vertex i m ≡ cond s (Vertex j n) Full → (s ≡ true) × (i ≡ j) × (m ≡ n)
-vertex-in true i j m n e = (refl, cc, cc)
-vertex-in false i j m n e = let z : _≡_ {A = ℕ} 0 1 = cc in absurd (omega arith)
+pub vertex-in : (s : Bool) (i j m n : ℕ) {r : Numbered} → r ≡ Vertex i m → paper r 0 ≡ cond s (values (j, n)) (refusal 14 0) → (s ≡ true) × (i ≡ j) × (m ≡ n)
+vertex-in true i j m n e h = let same : _≡_ {A = Paper (ℕ × ℕ)} (values (i, m)) (values (j, n)) = rw e at h in
+    let pair : _≡_ {A = ℕ × ℕ} (i, m) (j, n) = cc in
+    (refl, ap (λ (p : ℕ × ℕ). p .0) pair, ap (λ (p : ℕ × ℕ). p .1) pair)
+vertex-in false i j m n e h = let other : _≡_ {A = Paper (ℕ × ℕ)} (values (i, m)) (refusal 14 0) = rw e at h in let z : _≡_ {A = ℕ} 0 1 = cc in absurd (omega arith)
 
-pub full-in : (s : Bool) (j n : ℕ) → Full ≡ cond s (Vertex j n) Full → s ≡ false
-full-in true j n e = let z : _≡_ {A = ℕ} 0 1 = cc in absurd (omega arith)
-full-in false j n e = refl
+pub full-in : (s : Bool) (j n : ℕ) {r : Numbered} → r ≡ Full → paper r 0 ≡ cond s (values (j, n)) (refusal 14 0) → s ≡ false
+full-in true j n e h = let other : _≡_ {A = Paper (ℕ × ℕ)} (refusal 14 0) (values (j, n)) = rw e at h in let z : _≡_ {A = ℕ} 0 1 = cc in absurd (omega arith)
+full-in false j n e h = refl
 
 -- an answer has one triple more at most
-pub count-le : (ts : List ℕ) (x n : ℕ) → length ts ≡ n → countAfter (numberOf ts x) n ≤ n + 1
-count-le ts x n e = by (leb (length (withNew ts x)) 65536)
-  where
-    by : (s : Bool) → countAfter (cond s (Vertex (indexOf ts x) (length (withNew ts x))) Full) n ≤ n + 1
-    by true = omega (arith, length-with ts x)
-    by false = omega arith
+pub count-le : (ts : List ℕ) (x n : ℕ) → length ts ≡ n → (r : Numbered) → paper r 0 ≡ numberOf ts x 0 → countAfter r n ≤ n + 1
+count-le ts x n e (Vertex i m) h = omega (arith, vertex-in (leb (length (withNew ts x)) 65536) i (indexOf ts x) m (length (withNew ts x)) refl h .2, length-with ts x)
+count-le ts x n e Full h = omega arith
 
 -- a table of no vertex
 module _ (t : List ℕ) (b : ℕ) (l : b ≤ length t) where
@@ -81,7 +83,7 @@ module _ (t : List ℕ) (b : ℕ) (l : b ≤ length t) where
 
 -- the answer r for the m triples xs, with the table from t to t' and the numbers from o to o'
 pub record AllNumbered (xs : List ℕ) (m b : ℕ) (t t' o o' : List ℕ) (r : All) : Type 0 where
-  pub answer : r ≡ answerAll xs
+  pub answer : allPaper r ≡ answerAll xs
   pub numbered : (n : ℕ) → r ≡ Count n → (met t' b n ≡ distinctFrom [] xs) × (o' ≡ numbersFrom [] xs ++ drop m o)
   pub rest : drop (b + 2 * m) t' ≡ drop (b + 2 * m) t
   pub kept : drop m o' ≡ drop m o
@@ -125,13 +127,13 @@ module _ {xs : List ℕ} {m b : ℕ} {t₀ o₀ t o : List ℕ} {n i x : ℕ} {t
 
   rest-more : drop (b + 2 * m) t' ≡ drop (b + 2 * m) t₀
   rest-more =
-      let few : countAfter r n ≤ n + 1 = rw (s .looked .answer) (count-le (met t b n) x n (length-met t b n)) in
+      let few : countAfter r n ≤ n + 1 = count-le (met t b n) x n (length-met t b n) r (s .looked .answer 0) in
       drop-more (b + 2 * countAfter r n) (b + 2 * m) (omega (arith, s .going .few, s .more)) t' t (s .looked .rest) ∙ s .going .rest
 
   -- x has a number: what holds before the next triple
   module _ {k n' : ℕ} (er : r ≡ Vertex k n') where
     is-in : (leb (length (withNew (met t b n) x)) 65536 ≡ true) × (k ≡ indexOf (met t b n) x) × (n' ≡ length (withNew (met t b n) x))
-    is-in = vertex-in _ _ _ _ _ (sym er ∙ s .looked .answer)
+    is-in = vertex-in _ _ _ _ _ er (s .looked .answer 0)
 
     -- the number fits a word
     pub number-le : k ≤ 65536
@@ -150,7 +152,7 @@ module _ {xs : List ℕ} {m b : ℕ} {t₀ o₀ t o : List ℕ} {n i x : ℕ} {t
   -- x is a 65,537th
   pub over : r ≡ Full → AllNumbered xs m b t₀ t' o₀ o (Over i)
   over er = record {
-    answer = rw (left-over 65536 [] xs o₀ (met t b n) o i x (s .going .left) inside (s .key) (full-in (leb (length (withNew (met t b n) x)) 65536) _ _ (sym er ∙ s .looked .answer)));
+    answer = rw (left-over 65536 [] xs o₀ (met t b n) o i x (s .going .left) inside (s .key) (full-in (leb (length (withNew (met t b n) x)) 65536) _ _ er (s .looked .answer 0)));
     numbered = λ n' e. let z : _≡_ {A = ℕ} 0 1 = cc in absurd (omega arith);
     rest = rest-more;
     kept = drop-more i m (omega (arith, s .more)) o o₀ (s .going .left .kept);

@@ -9,7 +9,8 @@ use borrow.Rule.Slice.PartMut.{putMid}
 use Rattle.write_vertices.specs.Table.{cleared, InWork}
 use Rattle.write_vertices.specs.declared.All.{All}
 use Rattle.write_vertices.proofs.Numbering.{AllNumbered, uncleared}
-use Rattle.write_vertices.proofs.Parts.{lent, back-take, back-drop}
+use Rattle.fields.proofs.Puts.{lent}
+use Rattle.write_vertices.proofs.Parts.{back-take, back-drop}
 
 -- numbers and table apart, as one slice
 pub in-work : (xs : List ℕ) (m b : ℕ) (w w' : List ℕ) (r : All) → AllNumbered xs m b (drop m w) (drop m w') (take m w) (take m w') r → InWork xs m b w w' r
@@ -22,7 +23,7 @@ in-work xs m b w w' r a = record {
 -- the tail was cleared first
 module _ (m b : ℕ) (w : List ℕ) (h : m ≤ length w) (e : List ℕ) (l : length e ≡ length (take (length w - m) (drop m w))) (ec : e ≡ cleared (take (length w - m) (drop m w)) b) where
   pub tail-cleared : drop m (putMid m (length w - m) w e) ≡ cleared (drop m w) b
-  tail-cleared = back-drop m w h e l ∙ ec ∙ ap (λ (z : List ℕ). cleared z b) (lent m w h)
+  tail-cleared = back-drop m w h e l ∙ ec ∙ ap (λ (z : List ℕ). cleared z b) (lent m w)
 
   pub finish : b + m ≤ length w → (xs w' : List ℕ) (r : All)
       → AllNumbered xs m b (drop m (putMid m (length w - m) w e)) (drop m w') (take m (putMid m (length w - m) w e)) (take m w') r

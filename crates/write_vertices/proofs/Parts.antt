@@ -4,14 +4,10 @@ use native.Mathlib.Omega.{arith}
 use mathlib.Core.Path.{_≡_, ap, _∙_}
 use mathlib.Core.List.{List, _++_, append-nil}
 use lib.ListN.{length, set, take, drop, length-drop, length-set, drop-of-length-le}
-use lib.Seq.{take-all, take-set-lt, drop-set-lt, drop-at, length-take-le}
+use lib.Seq.{take-set-lt, drop-set-lt, drop-at, length-take-le}
 use borrow.Rule.Slice.PartMut.{putMid, take-put, same-len-mid}
 
 module _ (m : ℕ) (w : List ℕ) (h : m ≤ length w) where
-  -- the tail as it is lent
-  pub lent : take (length w - m) (drop m w) ≡ drop m w
-  lent = take-all (length w - m) (drop m w) (omega (arith, length-drop m w))
-
   module _ (e : List ℕ) (l : length e ≡ length (take (length w - m) (drop m w))) where
     -- the slice when it is back
     pub back-take : take m (putMid m (length w - m) w e) ≡ take m w

@@ -10,8 +10,9 @@ use mathlib.Core.List.{List, [], _∷_, _++_}
 use lib.ListN.{length, getD, take, drop, set}
 use lib.Dec.{ltb}
 use Rattle.fields.specs.Bytes.{over, zeros}
-use Rattle.distinct.specs.Distinct.{upTo, distinctFrom, numbersFrom}
-use Rattle.write_vertices.specs.Vertices.{numberOf, countAfter, answerAll, answerWith}
+use Rattle.distinct.specs.Distinct.{distinctFrom}
+use Rattle.distinct.specs.Numbers.{upTo, numbersFrom}
+use Rattle.write_vertices.specs.Vertices.{paper, numberOf, countAfter, allPaper, answerAll, answerWith}
 use Rattle.write_vertices.specs.declared.Found.{Found}
 use Rattle.write_vertices.specs.declared.Found.the-variants.{At, End}
 use Rattle.write_vertices.specs.declared.Numbered.{Numbered}
@@ -137,7 +138,7 @@ pub record TableRoom (t : List ℕ) (b n x : ℕ) : Type 0 where
 
 -- t' is the table t of n vertices after x was looked up, with the answer r. No word behind the table's last vertex is changed
 pub record LookedUp (t t' : List ℕ) (b n x : ℕ) (r : Numbered) : Type 0 where
-  pub answer : r ≡ numberOf (met t b n) x
+  pub answer : (place : ℕ) → paper r place ≡ numberOf (met t b n) x place
   pub now-met : met t' b (countAfter r n) ≡ upTo 65536 (met t b n) x
   pub table : Table t' b (countAfter r n)
   pub rest : drop (b + 2 * countAfter r n) t' ≡ drop (b + 2 * countAfter r n) t
@@ -145,14 +146,14 @@ pub record LookedUp (t t' : List ℕ) (b n x : ℕ) (r : Numbered) : Type 0 wher
 
 -- the answer r for the m triples xs, with the words from w to w': the m numbers first, and the table from m on
 pub record InWork (xs : List ℕ) (m b : ℕ) (w w' : List ℕ) (r : All) : Type 0 where
-  pub answer : r ≡ answerAll xs
+  pub answer : allPaper r ≡ answerAll xs
   pub numbered : (n : ℕ) → r ≡ Count n → (met (drop m w') b n ≡ distinctFrom [] xs) × (take m w' ≡ numbersFrom [] xs)
   pub rest : drop (m + (b + 2 * m)) w' ≡ drop (m + (b + 2 * m)) w
 
 -- the answer r for the triples xs, with the words from w to w': where there are enough, the numbers first, and behind them the table on
 -- as many trees as there are triples, or 65536; where there are too few, nothing is changed
 pub record NumberedAll (xs w w' : List ℕ) (r : All) : Type 0 where
-  pub answer : r ≡ answerWith (length w) xs
+  pub answer : allPaper r ≡ answerWith (length w) xs
   pub numbers : (n : ℕ) → r ≡ Count n → take (length xs) w' ≡ numbersFrom [] xs
   pub vertices : (n : ℕ) → r ≡ Count n → met (drop (length xs) w') (min (length xs) 65536) n ≡ distinctFrom [] xs
   pub rest : drop (4 * length xs) w' ≡ drop (4 * length xs) w

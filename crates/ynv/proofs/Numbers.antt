@@ -11,7 +11,8 @@ use Rattle.ynv_read.proofs.Theorems.{refused-named}
 use Rattle.ynv_write.specs.Serialize.{serializeOutcome}
 use Rattle.ynv_write.proofs.Theorems as Writer
 use Rattle.seams.specs.Seams.{seamOutcome}
-use Rattle.seams.proofs.Theorems.{refused-three}
+use Rattle.seams.proofs.Theorems as Seams
+use Rattle.strip.proofs.Faults as Faults
 use Rattle.cell_grid.specs.Grid.{boundsOutcome}
 use Rattle.cell_grid.proofs.Refusals.{refused-five}
 
@@ -23,7 +24,7 @@ pub writes-above-zero : (strip : List ℕ) (work out : ℕ) {number place : ℕ}
 writes-above-zero strip work out e = Writer.refused-above-zero strip work out e
 
 pub seams-above-zero : (strip : List ℕ) {number place : ℕ} → seamOutcome strip ≡ refused number place → 0 < number
-seams-above-zero strip {number} {place} e = omega (arith, refused-three strip number place e .0)
+seams-above-zero strip {number} {place} e = Faults.refused-above-zero (Seams.refused-named strip number place e)
 
 pub bounds-above-zero : (cx cy : ℕ) {number place : ℕ} → boundsOutcome cx cy ≡ refused number place → 0 < number
 bounds-above-zero cx cy {number} {place} e = omega (arith, refused-five cx cy number place e .0)

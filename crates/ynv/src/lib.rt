@@ -1,22 +1,19 @@
-// The exported library: C entries, each of which takes every argument. How they answer stands in `answers`.
+// The exported library: C entries, each of which takes every argument. Their bodies stand in the crates of their calls, and how they answer in `answers`.
 ghost use mathlib.Core.Path.{_≡_};
 ghost use lib.ListN.{length};
 ghost use Rattle.fields.specs.Bytes.{over};
 ghost use Rattle.strip.specs.Outcome.{shown, left};
 ghost use Rattle.ynv_read.specs.Parse.{parseOutcome};
+ghost use Rattle.read_entry.specs.Entries.{parsedWords};
 ghost use Rattle.ynv_write.specs.Serialize.{serializeOutcome};
+ghost use Rattle.write_entry.specs.Entries.{writtenWords};
 ghost use Rattle.seams.specs.Seams.{seamOutcome};
+ghost use Rattle.seams.specs.Entries.{seamWords};
 ghost use Rattle.picking.specs.Picking.{pickOutcome, spotOutcome};
 ghost use Rattle.picking.specs.Entries.{foundWords, spotWords};
 ghost use Rattle.cell_grid.specs.Grid.{cellAt, boundsOutcome};
+ghost use Rattle.cell_grid.specs.Entries.{cellWords, boundsWords};
 ghost use Rattle.answers.specs.Words.{numberOf, answerWords};
-ghost use Rattle.ynv.specs.Entries.{parsedWords, writtenWords, seamWords, cellWords, boundsWords};
-use answers::accept;
-use answers::refuse;
-use cell_grid::BoundsAnswer;
-use seams::SeamAnswer;
-use ynv_read::ParseAnswer;
-use ynv_write::SerializeAnswer;
 
 // Reads a cell's pages into the lent strip: the words of the strip, polygons, portals, points and the sectors visited.
 #[no_mangle]
@@ -30,17 +27,7 @@ pub extern "C" fn ynv_parse<'a>(
     ensures { λ _. ⌜ now (answer .exit) ≡ over (answerWords parsedWords (shown (parseOutcome (now (system .entry)) (now (graphics .entry)) (length (now (strip .entry)))))) (now (answer .entry)) ⌝ }
     ensures { λ _. ⌜ now (strip .exit) ≡ left (parseOutcome (now (system .entry)) (now (graphics .entry)) (length (now (strip .entry)))) (now (strip .entry)) ⌝ }
 {
-    match ynv_read::parse_ynv(system, graphics, strip) {
-        ParseAnswer::Parsed(p) => accept(
-            answer,
-            p.words as u64,
-            p.polys as u64,
-            p.portals as u64,
-            p.points as u64,
-            p.sectors as u64,
-        ),
-        ParseAnswer::Refused(r) => refuse(answer, r),
-    }
+    read_entry::parse_entry(system, graphics, strip, answer)
 }
 
 // Writes a strip's cell into the lent pages: their length in bytes. `work` is for the call's own use: four words to a word of the strip.
@@ -56,10 +43,7 @@ pub extern "C" fn ynv_serialize(
     ensures { λ _. ⌜ now (pages .exit) ≡ left (serializeOutcome (now (strip .entry)) (length (now (work .entry))) (length (now (pages .entry)))) (now (pages .entry)) ⌝ }
     ensures { λ _. ⌜ length (now (work .exit)) ≡ length (now (work .entry)) ⌝ }
 {
-    match ynv_write::serialize_ynv(strip, work, pages) {
-        SerializeAnswer::Written(w) => accept(answer, w.length as u64, 0, 0, 0, 0),
-        SerializeAnswer::Refused(r) => refuse(answer, r),
-    }
+    write_entry::serialize_entry(strip, work, pages, answer)
 }
 
 // How many halves of all the strip's edges lie towards a neighbour.
@@ -68,10 +52,7 @@ pub extern "C" fn ynv_count_seams(strip: &[u32], answer: &mut [u64; 8]) -> u32
     ensures { λ r. ⌜ r ≡ numberOf (shown (seamOutcome (now (strip .entry)))) ⌝ }
     ensures { λ _. ⌜ now (answer .exit) ≡ over (answerWords seamWords (shown (seamOutcome (now (strip .entry))))) (now (answer .entry)) ⌝ }
 {
-    match seams::count_seams(strip) {
-        SeamAnswer::Count(n) => accept(answer, n, 0, 0, 0, 0),
-        SeamAnswer::Refused(r) => refuse(answer, r),
-    }
+    seams::seams_entry(strip, answer)
 }
 
 // The lowest-numbered polygon that contains a spot, in shorts of the cell's box: 1 and its number, or 0 where none does.
@@ -98,8 +79,7 @@ pub extern "C" fn ynv_cell_for_position(x: f32, y: f32, answer: &mut [u64; 8]) -
     ensures { λ r. ⌜ r ≡ 0 ⌝ }
     ensures { λ _. ⌜ now (answer .exit) ≡ over (cellWords (cellAt x y)) (now (answer .entry)) ⌝ }
 {
-    let c = cell_grid::cell_for_position(x, y);
-    accept(answer, c.x as u64, c.y as u64, 0, 0, 0)
+    cell_grid::cell_entry(x, y, answer)
 }
 
 // The four sides of a cell as the bits of floats: least x, least y, greatest x, greatest y.
@@ -108,15 +88,5 @@ pub extern "C" fn ynv_cell_bounds(cx: u32, cy: u32, answer: &mut [u64; 8]) -> u3
     ensures { λ r. ⌜ r ≡ numberOf (shown (boundsOutcome cx cy)) ⌝ }
     ensures { λ _. ⌜ now (answer .exit) ≡ over (answerWords boundsWords (shown (boundsOutcome cx cy))) (now (answer .entry)) ⌝ }
 {
-    match cell_grid::cell_bounds(cx, cy) {
-        BoundsAnswer::Bounds(b) => accept(
-            answer,
-            math::num::bits_of_float(b.x0) as u64,
-            math::num::bits_of_float(b.y0) as u64,
-            math::num::bits_of_float(b.x1) as u64,
-            math::num::bits_of_float(b.y1) as u64,
-            0,
-        ),
-        BoundsAnswer::Refused(r) => refuse(answer, r),
-    }
+    cell_grid::bounds_entry(cx, cy, answer)
 }

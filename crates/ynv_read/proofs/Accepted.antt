@@ -11,7 +11,8 @@ use Rattle.strip.specs.Box.{finiteBox}
 use Rattle.read_lists.specs.Lists.{readableAt, listed}
 use Rattle.read_sectors.specs.Walk.{walk}
 use Rattle.read_sectors.specs.Walk as Walk
-use Rattle.read_polygons.specs.Polygons.{limitsOf, tallyFrom}
+use Rattle.read_polygons.specs.Polygons.{limitsOf}
+use Rattle.read_polygon_tally.specs.Tally.{tallyFrom}
 use Rattle.ynv_read.specs.Reading.{made, check, onPaper, onWalk, header, rootAt, head, source, polygons, portalCount, cellOf, onHead, onLists, afterWalk, readCell}
 use Rattle.ynv_read.proofs.Checks.{check-in, paper-in, walk-in}
 

@@ -8,27 +8,29 @@ use lib.ListN.{length}
 use Rattle.fields.specs.Bytes.{leAt}
 use Rattle.resource.specs.Section.{resolved}
 use Rattle.strip.specs.declared.Refusal.{Refusal}
-use Rattle.read_lists.specs.Lists.{total, tableOf, listed, Readable}
+use Rattle.read_lists.specs.Lists.{total, tableOf, listed}
+use Rattle.read_lists.specs.Listed.{Readable}
 use Rattle.read_polygon_words.proofs.Words.{links-are, length-links}
-use Rattle.read_polygons.specs.declared.Limits.{Limits}
-use Rattle.read_polygons.specs.declared.ListsAnswer.{ListsAnswer}
-use Rattle.read_polygons.specs.declared.ListsAnswer.the-variants.{Lists}
-use Rattle.read_polygons.specs.declared.ListsAnswer.the-variants.{Refused as Turned}
-use Rattle.read_polygons.specs.declared.PolysAnswer.{PolysAnswer}
-use Rattle.read_polygons.specs.declared.PolysAnswer.the-variants.{Words}
-use Rattle.read_polygons.specs.declared.PolysAnswer.the-variants.{Refused as Stopped}
-use Rattle.read_polygons.specs.Polygons.{limitsOf, tallyFrom, paper}
+use Rattle.read_list_set.specs.declared.Limits.{Limits}
+use Rattle.read_list_set.specs.declared.ListsAnswer.{ListsAnswer}
+use Rattle.read_list_set.specs.declared.ListsAnswer.the-variants.{Lists}
+use Rattle.read_list_set.specs.declared.ListsAnswer.the-variants.{Refused as Turned}
+use Rattle.read_polygon_tally.specs.declared.PolysAnswer.{PolysAnswer}
+use Rattle.read_polygon_tally.specs.declared.PolysAnswer.the-variants.{Words}
+use Rattle.read_polygon_tally.specs.declared.PolysAnswer.the-variants.{Refused as Stopped}
+use Rattle.read_polygons.specs.Polygons.{limitsOf}
+use Rattle.read_polygon_tally.specs.Tally.{tallyFrom}
+use Rattle.read_polygon_tally.specs.Steps.{paper, Small}
 use Rattle.strip.specs.Outcome.{Paper, values, refusal, refusalOf}
-use Rattle.read_polygons.specs.Passes.{itemsIn, Small}
-use Rattle.read_polygons.specs.Listed.{listsOf, ListsRead, Counts}
-use Rattle.read_polygons.specs.Listed as Listed
+use Rattle.read_list_set.specs.Items.{itemsIn}
+use Rattle.read_list_set.specs.Listed.{listsOf, ListsRead, Counts}
+use Rattle.read_list_set.specs.Listed as Listed
 use Rattle.read_polygons.proofs.Exact.{tally-made}
-use Rattle.read_polygons.proofs.Runs.{length-items}
+use Rattle.read_list_set.proofs.Runs.{length-items}
 use Rattle.read_lists.proofs.Lists.{whole-of, not-whole}
 use Rattle.strip.specs.Cell.{encode}
 use Rattle.ynv_read.specs.declared.ListAddresses.{ListAddresses}
 use Rattle.ynv_read.specs.declared.Parsed.{Parsed}
-use Rattle.ynv_read.specs.declared.ParseAnswer.the-variants as ParseAnswer
 use Rattle.ynv_read.specs.declared.ListsCheck.{ListsCheck}
 use Rattle.ynv_read.specs.declared.ListsCheck.the-variants as ListsCheck
 use Rattle.ynv_read.specs.Reading.{Reading, made, refused, onPaper, header, source, polygons, portalCount, portals, rootAt, cellOf, onWalk, onHead, onLists, afterWalk, readCell}
@@ -46,6 +48,7 @@ use Rattle.ynv_read.specs.declared.ParseAnswer.{ParseAnswer}
 use Rattle.ynv_read.specs.declared.Check.{Check}
 use Rattle.ynv_read.specs.declared.Check.the-variants as Check
 use Rattle.ynv_read.specs.Parse.{countsOf}
+use Rattle.ynv_read.specs.Parse as Parse
 use Rattle.ynv_read.specs.Passes.{answerOf, passedThen, addresses, linkBytes, polysWords, ListsReady, Tallied, ListsChecked}
 use Rattle.ynv_read.proofs.Lengths.{polys-count, portals-count, points-count, encode-length}
 
@@ -167,7 +170,7 @@ module _ (S G : List ℕ) {a : ListAddresses} (ea : a ≡ addresses (header S G)
 -- ---- passedThen the walk
 
 module _ (S G : List ℕ) {r : ListsCheck} (er : ListsChecked S G r) where
-  pub rest-stopped : {q : Refusal} → r ≡ ListsCheck.Refused q → (points : List (List ℕ)) (k : ℕ) → ParseAnswer.Refused q ≡ answerOf (afterWalk S G points k)
+  pub rest-stopped : {q : Refusal} → r ≡ ListsCheck.Refused q → (points : List (List ℕ)) (k : ℕ) → refusalOf q ≡ answerOf (afterWalk S G points k)
   unfolding afterWalk
   rest-stopped {q} e points k =
       let stops : (rest : Reading) → onLists S G rest ≡ refused (q .number) (q .place) = subst (ListsChecked S G) e er in
@@ -178,7 +181,7 @@ module _ (S G : List ℕ) {r : ListsCheck} (er : ListsChecked S G r) where
     tallied = subst (ListsChecked S G) e er
 
     module _ {pc : ℕ} (ec : (pc ≡ portalCount S G) × (pc < 2 ^ 32)) {ps : List ℕ} (ep : ps ≡ portals S G) where
-      pub portals-stop : length ps < 28 * pc → (points : List (List ℕ)) (k : ℕ) → ParseAnswer.Refused (record { number = 39; place = 0 }) ≡ answerOf (afterWalk S G points k)
+      pub portals-stop : length ps < 28 * pc → (points : List (List ℕ)) (k : ℕ) → refusal 39 0 ≡ answerOf (afterWalk S G points k)
       unfolding afterWalk portals
       portals-stop h points k =
           let short = rw (ep, ec .0) at h in
@@ -186,7 +189,7 @@ module _ (S G : List ℕ) {r : ListsCheck} (er : ListsChecked S G r) where
           sym (ap answerOf is)
 
       pub parsed : 28 * pc ≤ length ps → (points : List (List ℕ)) (k : ℕ) {pn : ℕ} → length points ≡ pn
-          → ParseAnswer.Parsed (record { words = 14 + w + 11 * pc + 4 * pn + 1; polys = n; portals = pc; points = pn; sectors = k }) ≡ answerOf (afterWalk S G points k)
+          → values (record { words = 14 + w + 11 * pc + 4 * pn + 1; polys = n; portals = pc; points = pn; sectors = k }) ≡ answerOf (afterWalk S G points k)
       unfolding afterWalk portals cellOf
       parsed h points k {pn} en =
           let long = rw (ep, ec .0) at h in
@@ -200,7 +203,7 @@ module _ (S G : List ℕ) {r : ListsCheck} (er : ListsChecked S G r) where
           ap (λ (a : ℕ). make a n pc pn) words ∙ ap (λ (a : ℕ). make (length (encode (cellOf S G points))) a pc pn) polys
           ∙ ap (λ (a : ℕ). make (length (encode (cellOf S G points))) (length (cellOf S G points .polys)) a pn) ports
           ∙ ap (λ (a : ℕ). make (length (encode (cellOf S G points))) (length (cellOf S G points .polys)) (length (cellOf S G points .portals)) a) pts in
-          ap ParseAnswer.Parsed same ∙ sym (ap answerOf is)
+          ap values same ∙ sym (ap answerOf is)
 
 -- ---- the walk
 
@@ -214,7 +217,7 @@ passed-far S G passes z = by (readableAt S G 0x5000_0000 368) (rw z at (passes (
     by false e = let n : _≡_ {A = ℕ} 30 0 = cc in omega arith
 
 module _ (S G : List ℕ) {x : Check} (ex : (rest : Reading) → onHead S G rest ≡ passedThen x rest) where
-  pub head-stopped : {q : Refusal} → x ≡ Check.Refused q → ParseAnswer.Refused q ≡ answerOf (readCell S G)
+  pub head-stopped : {q : Refusal} → x ≡ Check.Refused q → refusalOf q ≡ answerOf (readCell S G)
   unfolding readCell
   head-stopped {q} e =
       let is : readCell S G ≡ refused (q .number) (q .place) = ex _ ∙ rw e in
@@ -227,7 +230,7 @@ module _ (S G : List ℕ) {x : Check} (ex : (rest : Reading) → onHead S G rest
     at-root : Tree.paper a ≡ shown (treeOutcome S G (rootAt S G))
     at-root = ea .0 ∙ ap (λ (n : ℕ). shown (treeOutcome S G n)) er
 
-    pub tree-stopped : {q : Refusal} → a ≡ TreeAnswer.Refused q → ParseAnswer.Refused q ≡ answerOf (readCell S G)
+    pub tree-stopped : {q : Refusal} → a ≡ TreeAnswer.Refused q → refusalOf q ≡ answerOf (readCell S G)
     unfolding readCell
     tree-stopped {q} f =
         let w = walk S G 4096 (rootAt S G ∷ []) in
@@ -243,9 +246,9 @@ module _ (S G : List ℕ) {x : Check} (ex : (rest : Reading) → onHead S G rest
       pub few-points : t .points ≤ 65535 * 4096
       few-points = let small : Tree.Small (TreeAnswer.Tree t) = rw f at (ea .1) in small
 
-      pub decided : {r : ParseAnswer} → ((points : List (List ℕ)) → length points ≡ t .points → r ≡ answerOf (afterWalk S G points (t .sectors))) → r ≡ answerOf (readCell S G)
+      pub decided : (r : ParseAnswer) → ((points : List (List ℕ)) → length points ≡ t .points → Parse.paper r ≡ answerOf (afterWalk S G points (t .sectors))) → Parse.paper r ≡ answerOf (readCell S G)
       unfolding readCell
-      decided {r} g =
+      decided r g =
           let found = accepted S G (rootAt S G) (sym (ap Tree.paper f) ∙ at-root) in
           let is : readCell S G ≡ afterWalk S G (found .points) (t .sectors) =
           passes _ ∙ ap (λ (w : Walked). onWalk w (afterWalk S G)) (found .is) ∙ ap (afterWalk S G (found .points)) (sym (found .sectors-are)) in

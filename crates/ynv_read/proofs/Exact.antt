@@ -26,7 +26,7 @@ use Rattle.read_sectors.specs.Walk.{walk}
 use Rattle.read_sectors.specs.Walk as Walk
 use Rattle.read_sectors.proofs.Exact.{walk-sound, walk-complete}
 use Rattle.read_polygons.specs.Polygons as Polygons
-use Rattle.read_polygons.specs.Passes.{itemsIn}
+use Rattle.read_list_set.specs.Items.{itemsIn}
 use Rattle.read_polygons.proofs.Exact.{tally-made, made-tally}
 use Rattle.ynv_read.specs.Reading.{made, header, rootAt, root, head, itemsAt, source, polygons, portalCount, portals, cellOf, onHead, onLists, afterWalk, readCell}
 use Rattle.ynv_read.proofs.Accepted.{accepted}

@@ -7,24 +7,27 @@ use mathlib.Core.Bool.{true}
 use mathlib.Core.List.{List, [], _∷_, _++_, map}
 use lib.ListN.{length, length-append, set}
 use borrow.Author.Tests.{le-leb, lt-leb}
-use Rattle.fields.specs.Bytes.{leAt, put}
+use Rattle.fields.specs.Bytes.{leAt}
+use Rattle.fields.specs.Put.{put}
 use Rattle.fields.specs.Rows.{pack}
 use Rattle.fields.proofs.Puts.{put-next, put-one, put-whole}
 use Rattle.strip.specs.Cell.{Vec3, Cell, headWords, polygonWords, endWords, encode, each}
 use Rattle.strip.specs.Box.{finiteBox}
-use Rattle.strip.specs.Outcome.{shown, left}
+use Rattle.strip.specs.Outcome.{shown, left, values, refusalOf}
 use Rattle.strip.specs.Outcome as Outcome
 use Rattle.strip.specs.declared.Refusal.{Refusal}
 use Rattle.read_grammar.specs.Derives.{areaOf, backOf}
-use Rattle.read_lists.specs.Lists.{readableAt, total, tableOf, Readable}
+use Rattle.read_lists.specs.Lists.{readableAt, total, tableOf}
+use Rattle.read_lists.specs.Listed.{Readable}
 use Rattle.read_lists.proofs.Lists.{length-whole}
 use Rattle.read_sectors.specs.Walk.{walk}
 use Rattle.read_sectors.specs.Walk as Walk
 use Rattle.read_sectors.specs.Write.{pointsIn, pointsWords, HasRoom}
-use Rattle.read_polygon_words.specs.Words.{linksOf}
+use Rattle.read_polygon_words.specs.Front.{linksOf}
 use Rattle.read_polygon_words.proofs.Words.{links-are}
 use Rattle.read_polygons.specs.Polygons.{Source, limitsOf, polygonMade}
-use Rattle.read_polygons.specs.Passes.{itemsIn, sourceOf, Passed}
+use Rattle.read_list_set.specs.Items.{itemsIn}
+use Rattle.read_polygons.specs.Passes.{sourceOf, Passed}
 use Rattle.read_polygons.proofs.Exact.{tally-made}
 use Rattle.ynv_read.specs.declared.ListAddresses.{ListAddresses}
 use Rattle.cell_record.specs.declared.CellRecord.{CellRecord}
@@ -35,9 +38,10 @@ use Rattle.ynv_read.specs.Reading.{Reading, made, refused, header, rootA
 use Rattle.ynv_read.specs.Parse.{paper, countsOf, parseOutcome}
 use Rattle.ynv_read.specs.Passes.{answerOf, addresses, linkBytes, polysWords, portalsWords, Given, ListsReady, ReadyFor, PolysFit, Fillable}
 use Rattle.ynv_read.proofs.Accepted.{accepted}
-use Rattle.read_polygons.proofs.Runs.{length-items}
+use Rattle.read_list_set.proofs.Runs.{length-items}
 use Rattle.ynv_read.proofs.Heads.{back-is}
-use Rattle.ynv_read.proofs.Lengths.{head-length, polys-count, portals-length, points-length, encode-is, encode-length}
+use Rattle.strip.proofs.Plain.{head-length}
+use Rattle.ynv_read.proofs.Lengths.{polys-count, portals-length, points-length, encode-is, encode-length}
 
 -- ---- polygons
 
@@ -157,23 +161,23 @@ filled S G e x₀ {x₁} {x₂} {x₃} {x₄} {r₁} {r₂} {r₃} e₁ (n₂, e
 
 -- ---- the answer
 
-module _ (S G : List ℕ) {r : ParseAnswer} (er : (r ≡ answerOf (readCell S G)) × ReadyFor S G r) where
+module _ (S G : List ℕ) {r : ParseAnswer} (er : (paper r ≡ answerOf (readCell S G)) × ReadyFor S G r) where
   pub parse-stopped : {q : Refusal} → r ≡ ParseAnswer.Refused q → (old : List ℕ)
       → (paper (ParseAnswer.Refused q) ≡ shown (parseOutcome S G (length old))) × (old ≡ left (parseOutcome S G (length old)) old)
   unfolding parseOutcome
   parse-stopped {q} e old =
-      let is : readCell S G ≡ refused (q .number) (q .place) = by (readCell S G) (sym (er .0) ∙ e) in
+      let is : readCell S G ≡ refused (q .number) (q .place) = by (readCell S G) (sym (er .0) ∙ ap paper e) in
       rw is (refl, refl)
     where
-      by : (x : Reading) → answerOf x ≡ ParseAnswer.Refused q → x ≡ refused (q .number) (q .place)
+      by : (x : Reading) → answerOf x ≡ refusalOf q → x ≡ refused (q .number) (q .place)
       by (refused number place) f = cc
       by (made c k) f = let z : _≡_ {A = ℕ} 0 1 = cc in absurd (omega arith)
 
   module _ {p : Parsed} (e : r ≡ ParseAnswer.Parsed p) where
     made-of : (c : Cell) × (k : ℕ) × (readCell S G ≡ made c k) × (countsOf c k ≡ p)
-    made-of = by (readCell S G) refl (sym (er .0) ∙ e)
+    made-of = by (readCell S G) refl (sym (er .0) ∙ ap paper e)
       where
-        by : (x : Reading) → readCell S G ≡ x → answerOf x ≡ ParseAnswer.Parsed p → (c : Cell) × (k : ℕ) × (readCell S G ≡ made c k) × (countsOf c k ≡ p)
+        by : (x : Reading) → readCell S G ≡ x → answerOf x ≡ values p → (c : Cell) × (k : ℕ) × (readCell S G ≡ made c k) × (countsOf c k ≡ p)
         by (made c k) f g = (c, k, f, cc)
         by (refused number place) f g = let z : _≡_ {A = ℕ} 0 1 = cc in absurd (omega arith)
 

@@ -1,24 +1,18 @@
 -- How many words a cell makes, part by part. Assumes nothing.
 use Prim.Native.Nat.{ℕ, _+_, _*_}
 use native.Mathlib.Omega.{arith}
-use mathlib.Core.Path.{_≡_, refl, ap, _∙_}
+use mathlib.Core.Path.{_≡_, ap, _∙_}
 use mathlib.Core.List.{List, _++_, map}
 use lib.ListN.{length, length-append, length-map}
 use Rattle.fields.specs.Bytes.{cut}
-use Rattle.strip.specs.Cell.{Head, vecWords, headWords, portalWords, pointWords, endWords, encode, encodeAs}
+use Rattle.strip.specs.Cell.{headWords, portalWords, pointWords, endWords, encode}
+use Rattle.strip.proofs.Plain.{length-each, head-length, portal-length, point-length, encode-plain}
 use Rattle.read_grammar.specs.Derives.{backOf, portalOf, pointOf}
 use Rattle.fields.proofs.Cuts.{cut-length}
-use Rattle.read_records.proofs.Items.{length-each}
-use Rattle.read_records.proofs.Stores.{portal-length}
 use Rattle.read_polygons.specs.Polygons.{polygonMade}
 use Rattle.read_sectors.specs.Write.{pointsWords}
-use Rattle.read_sectors.proofs.Stores.{point-length}
 use Rattle.ynv_read.specs.Reading.{head, source, polygons, portalCount, portals, cellOf}
 use Rattle.ynv_read.specs.Passes.{polysWords, portalsWords}
-
-pub head-length : (h : Head) → length (headWords h) ≡ 14
-unfolding headWords vecWords
-head-length h = refl
 
 module _ (S G : List ℕ) where
   pub polys-count : length (map (polygonMade (source S G)) (polygons S G)) ≡ length (polygons S G)
@@ -41,8 +35,8 @@ module _ (S G : List ℕ) where
 
     -- the strip is its parts, one after the other
     pub encode-is : encode (cellOf S G points) ≡ headWords (head S G) ++ polysWords S G ++ portalsWords S G ++ pointsWords (backOf (head S G)) points ++ endWords
-    unfolding encodeAs cellOf polysWords portalsWords pointsWords
-    encode-is = refl
+    unfolding cellOf polysWords portalsWords pointsWords
+    encode-is = encode-plain (cellOf S G points)
 
     pub encode-length : length (encode (cellOf S G points)) ≡ 14 + length (polysWords S G) + 11 * portalCount S G + 4 * length points + 1
     encode-length =

@@ -17,9 +17,10 @@ use Rattle.read_lists.proofs.Accepted.{listed-refused}
 use Rattle.read_sectors.specs.Sector.{goodData, pointsOf}
 use Rattle.read_sectors.specs.Walk.{Walked, walk, also, checked, sectorAt}
 use Rattle.read_sectors.specs.Walk as Walk
-use Rattle.read_polygons.specs.declared.Limits.{Limits}
-use Rattle.read_polygons.specs.Polygons.{limitsOf, tallyFrom}
-use Rattle.read_polygons.proofs.Exact.{tally-refused}
+use Rattle.read_list_set.specs.declared.Limits.{Limits}
+use Rattle.read_polygons.specs.Polygons.{limitsOf}
+use Rattle.read_polygon_tally.specs.Tally.{tallyFrom}
+use Rattle.read_polygon_tally.proofs.Tallies.{tally-refused}
 use Rattle.ynv_read.specs.Reading.{Reading, made, refused, check, onPaper, onWalk, header, rootAt, head, source, polygons, portalCount, cellOf, onHead, onLists, afterWalk, readCell}
 use Rattle.ynv_read.specs.Theorems.{Named, bad-header, no-root, bad-sector, many-sectors, bad-data, bad-box, bad-list, bad-counts, bad-run, bad-index, bad-portals}
 

@@ -12,7 +12,8 @@ use lib.Dec.{leb}
 use lib.ListN.{length}
 use borrow.Author.Tests.{leb-true, leb-false, le-leb, lt-leb}
 use Rattle.fields.specs.Rows.{pack}
-use Rattle.strip.specs.Cell.{Cell, vecWords, headWords, encode, encodeAs, each}
+use Rattle.strip.specs.Cell.{Cell, vecWords, headWords, encode, each}
+use Rattle.strip.proofs.Plain.{encode-plain, length-encode}
 use Rattle.strip.specs.Scan.{Scanned, scan}
 use Rattle.strip.specs.Outcome as Outcome
 use Rattle.read_grammar.specs.Derives.{Derives}
@@ -121,7 +122,8 @@ module _ (S G : List ℕ) (n : ℕ) where
 -- P12's vehicle is read, into any strip of 15 words or more, whatever the graphics section
 pub p12-read : (G : List ℕ) (n : ℕ) → 15 ≤ n
     → parseOutcome vehiclePages G n ≡ Outcome.done (record { words = 15; polys = 0; portals = 0; points = 0; sectors = 1 }) vehicleStrip
-unfolding vehicleCell encodeAs headWords vecWords each pack
+unfolding vehicleCell headWords vecWords each pack
 p12-read G n h =
+    let words : length (encode vehicleCell) ≡ 15 = length-encode vehicleCell in
     accepted-exactly vehiclePages G n (record { words = 15; polys = 0; portals = 0; points = 0; sectors = 1 }) vehicleStrip .1
-    (record { derived = record { sectors = 1; cell = vehicleCell; makes = p12-makes G; strip = refl }; fits = h; counts = refl })
+    (record { derived = record { sectors = 1; cell = vehicleCell; makes = p12-makes G; strip = sym (encode-plain vehicleCell) }; fits = h; counts = rw words })

@@ -5,13 +5,16 @@ use mathlib.Core.List.{List, map}
 use lib.ListN.{length}
 use Rattle.fields.specs.Bytes.{leAt, cut}
 use Rattle.resource.specs.Section.{resolved}
+use Rattle.strip.specs.Outcome.{Paper, refusal, values}
 use Rattle.strip.specs.Cell.{Cell, each, polygonWords, portalWords, encode}
 use Rattle.read_grammar.specs.Derives.{backOf, portalOf}
-use Rattle.read_lists.specs.Lists.{tableOf, Readable}
+use Rattle.read_lists.specs.Lists.{tableOf}
+use Rattle.read_lists.specs.Listed.{Readable}
 use Rattle.read_polygons.specs.Polygons.{limitsOf, polygonMade}
 use Rattle.read_polygons.specs.Passes.{Passed}
 use Rattle.cell_record.specs.Record.{recordOf}
 use Rattle.cell_record.specs.declared.CellRecord.{CellRecord}
+use Rattle.ynv_read.specs.declared.Parsed.{Parsed}
 use Rattle.ynv_read.specs.declared.ParseAnswer.{ParseAnswer}
 use Rattle.ynv_read.specs.declared.ParseAnswer.the-variants as ParseAnswer
 use Rattle.ynv_read.specs.declared.ListAddresses.{ListAddresses}
@@ -22,10 +25,10 @@ use Rattle.ynv_read.specs.declared.ListsCheck.the-variants as ListsCheck
 use Rattle.ynv_read.specs.Reading.{Reading, made, refused, header, root, head, source, polygons, portalCount, portals, onLists, readCell}
 use Rattle.ynv_read.specs.Parse.{countsOf}
 
--- the answer that a reading asks for, if the strip is long enough
-abbrev pub answerOf : Reading → ParseAnswer
-answerOf (made c sectors) = ParseAnswer.Parsed (countsOf c sectors)
-answerOf (refused number place) = ParseAnswer.Refused (record { number = number; place = place })
+-- what the answer on a reading says, if the strip is long enough
+abbrev pub answerOf : Reading → Paper Parsed
+answerOf (made c sectors) = values (countsOf c sectors)
+answerOf (refused number place) = refusal number place
 
 -- a run of checks, before the rest
 abbrev pub passedThen : Check → Reading → Reading

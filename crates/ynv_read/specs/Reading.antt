@@ -11,8 +11,9 @@ use Rattle.strip.specs.Outcome.{Paper, values, refusal}
 use Rattle.read_grammar.specs.Polygons.{linksAt}
 use Rattle.read_grammar.specs.Derives.{areaOf, backOf, headOf, portalOf, pointOf}
 use Rattle.read_lists.specs.Lists.{readableAt, tableOf, listed}
-use Rattle.read_polygons.specs.Polygons.{Source, limitsOf, polygonMade, tallyFrom}
-use Rattle.read_polygons.specs.Passes.{itemsIn}
+use Rattle.read_polygons.specs.Polygons.{Source, limitsOf, polygonMade}
+use Rattle.read_polygon_tally.specs.Tally.{tallyFrom}
+use Rattle.read_list_set.specs.Items.{itemsIn}
 use Rattle.read_sectors.specs.Walk.{Walked, walk}
 use Rattle.read_sectors.specs.Walk as Walk
 

@@ -4,7 +4,8 @@ ghost use mathlib.Core.Path.{_≡_};
 ghost use mathlib.Core.List.{List, [], _∷_};
 ghost use Prim.Native.Nat.{ℕ, _+_, _*_, _/_, _^_, _≤_, _<_};
 ghost use lib.ListN.{length};
-ghost use Rattle.fields.specs.Bytes.{leAt, put};
+ghost use Rattle.fields.specs.Bytes.{leAt};
+ghost use Rattle.fields.specs.Put.{put};
 ghost use Rattle.strip.specs.Cell.{Cell, encode};
 ghost use Rattle.strip.specs.Box.{finiteVec, finiteBox};
 ghost use Rattle.strip.specs.Outcome.{shown, left};
@@ -22,12 +23,12 @@ use fields::sizes::PORTAL_SIZE;
 use fields::sizes::SECTOR_SIZE;
 use fields::u32_le;
 use fields::u64_le;
+use read_list_set::ListsAnswer;
+use read_list_set::read_lists;
 use read_lists::list_table;
-use read_polygons::ListsAnswer;
-use read_polygons::PolysAnswer;
-use read_polygons::check_polygons;
+use read_polygon_tally::PolysAnswer;
+use read_polygon_tally::check_polygons;
 use read_polygons::put_polygons;
-use read_polygons::read_lists;
 use read_records::cell::put_cell;
 use read_records::cell::record_of;
 use read_records::portal::put_portals;
@@ -216,7 +217,7 @@ fn decide_rest<'a>(
     tree: Tree,
 ) -> ParseAnswer
     requires { ⌜ (now header ≡ Reading.header (now system) (now graphics)) × (tree .points ≤ 65535 * 4096) ⌝ }
-    ensures { λ r. ⌜ ((points : List (List ℕ)) → length points ≡ tree .points → r ≡ answerOf (afterWalk (now (system .entry)) (now (graphics .entry)) points (tree .sectors))) × ReadyFor (now (system .entry)) (now (graphics .entry)) r ⌝ }
+    ensures { λ r. ⌜ ((points : List (List ℕ)) → length points ≡ tree .points → paper r ≡ answerOf (afterWalk (now (system .entry)) (now (graphics .entry)) points (tree .sectors))) × ReadyFor (now (system .entry)) (now (graphics .entry)) r ⌝ }
 {
     match check_lists(system, graphics, header) {
         ListsCheck::Refused(r) => ParseAnswer::Refused(r),
@@ -242,7 +243,7 @@ fn decide_rest<'a>(
 // All checks but the last: whether the strip is long enough.
 fn decide<'a>(system: &'a [u8], graphics: &'a [u8], header: &'a [u8], root: &'a [u8]) -> ParseAnswer
     requires { ⌜ HeaderRoot (now system) (now graphics) (now header) (now root) ⌝ }
-    ensures { λ r. ⌜ (r ≡ answerOf (readCell (now (system .entry)) (now (graphics .entry)))) × ReadyFor (now (system .entry)) (now (graphics .entry)) r ⌝ }
+    ensures { λ r. ⌜ (paper r ≡ answerOf (readCell (now (system .entry)) (now (graphics .entry)))) × ReadyFor (now (system .entry)) (now (graphics .entry)) r ⌝ }
 {
     match check_head(header, root) {
         Check::Refused(r) => ParseAnswer::Refused(r),

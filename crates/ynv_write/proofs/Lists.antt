@@ -1,34 +1,39 @@
 -- The four lists of a planned strip: what each asks for, and that together they are the lists of its cell's pages. Assumes nothing.
-use Prim.Native.Nat.{ℕ, _+_, _*_, _/_, _-_, _≤_}
+use Prim.Native.Nat.{ℕ, _+_, _*_, _-_, _≤_}
 use mathlib.Core.Path.{_≡_, sym, ap, subst, _∙_}
 use mathlib.Core.List.{List}
 use native.Mathlib.Omega.{arith}
 use lib.ListN.{length, take, drop}
-use Rattle.fields.specs.Bytes.{put}
-use Rattle.fields.proofs.Puts.{length-put}
+use Rattle.fields.specs.Put.{put}
+use Rattle.fields.proofs.Puts.{length-put, drop-behind}
 use Rattle.strip.specs.Cell.{Cell}
-use Rattle.strip.specs.Reading.{headAt, polygonsAt, afterPolygons}
-use Rattle.areas.specs.Areas.{areaIds}
+use Rattle.strip.specs.Reading.{headAt}
+use Rattle.strip.specs.Rows.{polygonsAt, afterPolygons}
+use Rattle.areas.specs.Tables.{areaIds}
 use Rattle.cell_record.proofs.Fields.{area-is}
 use Rattle.write_vertices.specs.Table.{met}
-use Rattle.write_blocks.specs.Layout.{behind, endOf, Laid}
-use Rattle.write_blocks.specs.Lists.{listSizes, listBlocks, Wide, ListRoom}
+use Rattle.write_blocks.specs.Layout.{behind, endOf}
+use Rattle.write_blocks.specs.Laid.{Laid}
+use Rattle.write_blocks.specs.Lists.{listSizes, listBlocks}
+use Rattle.write_blocks.specs.ListRoom.{Wide, ListRoom}
 use Rattle.write_blocks.specs.declared.Layout.{Layout}
-use Rattle.write_blocks.proofs.Layouts.{laid-then}
+use Rattle.write_blocks.proofs.Layouts.{laid-end, laid-then}
 use Rattle.write_pages.specs.Items.{vertexItems, indexItems, edgeItems, polygonItems}
 use Rattle.write_pages.specs.Pages.{allCorners, vertices, areas, sectors, counts, endHeader, endVertices, endIndices, endEdges, endPolygons}
 use Rattle.write_pages.proofs.Sizes.{list-size, wide-vertices, wide-indices, wide-edges, wide-polygons, length-vertices, length-indices, length-edges, length-polygons}
-use Rattle.write_decide.specs.Decide.{trees, indicesAt, tablesEnd}
+use Rattle.write_decide.specs.Decide.{trees, indicesAt, tablesEnd, workPlaces}
 use Rattle.write_decide.specs.declared.Decision.{Decision}
+use Rattle.write_decide.specs.declared.WorkPlaces.{WorkPlaces}
 use Rattle.write_plan.specs.Plan.{boxes}
-use Rattle.write_plan.specs.Ready.{cellAt, Ready}
+use Rattle.strip.specs.Laid.{cellAt}
+use Rattle.write_plan.specs.Ready.{Ready}
 use Rattle.write_lists.specs.Words.{numberItems}
-use Rattle.write_lists.specs.Made.{edgeWords, cornersAt}
+use Rattle.write_edges.specs.Made.{edgeWords, cornersAt}
 use Rattle.write_vertices.proofs.Triples.{length-met}
-use Rattle.write_plan.proofs.Rest.{poly-count, box-part}
-use Rattle.write_plan.proofs.Whole.{drop-behind}
+use Rattle.strip.proofs.Lengths.{poly-count}
+use Rattle.write_plan.proofs.Rest.{box-part}
 use Rattle.write_lists.proofs.Tables.{index-items}
-use Rattle.write_lists.proofs.Halves.{length-words}
+use Rattle.write_edges.proofs.Halves.{length-words}
 use Rattle.ynv_write.specs.Filled.{listsOf, Left}
 use Rattle.ynv_write.proofs.Rooms.{rooms}
 use Rattle.fields.specs.Sizes.{LIST-VFT-EDGES, LIST-VFT-INDICES, LIST-VFT-POLYS, LIST-VFT-VERTICES}
@@ -39,7 +44,7 @@ use Rattle.fields.specs.Sizes.{LIST-VFT-EDGES, LIST-VFT-INDICES, LIST-VFT-POLYS
 list-step : {l r : Layout} (end vft w n : ℕ) (items : List (List ℕ)) {xs ys : List ℕ} → Wide w items → length items ≡ n → l .at ≡ end
     → Laid l (listBlocks (l .at) vft w items) r xs ys → (r .at ≡ endOf end (listSizes w n)) × Laid l (listBlocks end vft w items) r xs ys
 list-step {l} {r} end vft w n items {xs} {ys} wide e at f =
-    (f .ends ∙ rw (list-size (l .at) vft w n items wide e, at), subst (λ (k : ℕ). Laid l (listBlocks k vft w items) r xs ys) at f)
+    (laid-end f ∙ rw (list-size (l .at) vft w n items wide e, at), subst (λ (k : ℕ). Laid l (listBlocks k vft w items) r xs ys) at f)
 
 pub four-laid : (c : Cell) {h lv li le lp : Layout} {x0 x1 x2 x3 x4 : List ℕ}
     → Laid h (listBlocks (endHeader (counts c) (sectors c)) LIST-VFT-VERTICES 6 (vertexItems (vertices c))) lv x0 x1
@@ -74,7 +79,7 @@ module _ (s w : List ℕ) (d : Decision) (R : Ready s w d) where
       (omega (arith, here, R .tabled .few-vertices, R .tabled .few-corners, R .room), rw many-vertices (rooms (cellAt s (d .counts)) (R .accepted) .vertices q e))
 
   pub indices-ask : (q : ℕ) → q ≡ endVertices (counts (cellAt s (d .counts))) (sectors (cellAt s (d .counts)))
-      → (at : ℕ) → at ≡ trees (length s) → (at + 2 * (length s / 3) + d .corners ≤ length w) × ListRoom q 2 (d .corners) (listSizes 2 (d .corners))
+      → (at : ℕ) → at ≡ indicesAt (length s) → (at + d .corners ≤ length w) × ListRoom q 2 (d .corners) (listSizes 2 (d .corners))
   unfolding endVertices endHeader counts
   indices-ask q e at here =
       (omega (arith, here, R .tabled .few-corners, R .room), rw (R .tabled .corner-count) (rooms (cellAt s (d .counts)) (R .accepted) .indices q e))
@@ -102,14 +107,14 @@ module _ (s w : List ℕ) (d : Decision) (R : Ready s w d) where
       list-step (endHeader (counts (cellAt s (d .counts))) (sectors (cellAt s (d .counts)))) LIST-VFT-VERTICES 6 (length vs) (vertexItems vs) (wide-vertices vs) (length-vertices vs) e
       (subst (λ (ts : List ℕ). Laid l (listBlocks (l .at) LIST-VFT-VERTICES 6 (vertexItems ts)) r xs ys) same f)
 
-  pub indices-step : {l r : Layout} {xs ys : List ℕ} → l .at ≡ endVertices (counts (cellAt s (d .counts))) (sectors (cellAt s (d .counts))) → (at : ℕ) → at ≡ trees (length s)
-      → Laid l (listBlocks (l .at) LIST-VFT-INDICES 2 (numberItems 2 (take (d .corners) (drop (at + 2 * (length s / 3)) w)))) r xs ys
+  pub indices-step : {l r : Layout} {xs ys : List ℕ} → l .at ≡ endVertices (counts (cellAt s (d .counts))) (sectors (cellAt s (d .counts))) → (at : ℕ) → at ≡ indicesAt (length s)
+      → Laid l (listBlocks (l .at) LIST-VFT-INDICES 2 (numberItems 2 (take (d .corners) (drop at w)))) r xs ys
       → (r .at ≡ endIndices (counts (cellAt s (d .counts))) (sectors (cellAt s (d .counts)))) × Laid l (listBlocks (endVertices (counts (cellAt s (d .counts))) (sectors (cellAt s (d .counts)))) LIST-VFT-INDICES 2 (indexItems (vertices (cellAt s (d .counts))) (allCorners (cellAt s (d .counts))))) r xs ys
   unfolding endIndices counts vertices
   indices-step {l} {r} {xs} {ys} e at here f =
       let vs = vertices (cellAt s (d .counts)) in
       let ks = allCorners (cellAt s (d .counts)) in
-      let same : numberItems 2 (take (d .corners) (drop (at + 2 * (length s / 3)) w)) ≡ indexItems vs ks = rw (here, R .tabled .indices) (index-items vs ks) in
+      let same : numberItems 2 (take (d .corners) (drop at w)) ≡ indexItems vs ks = rw (here, R .tabled .indices) (index-items vs ks) in
       list-step (endVertices (counts (cellAt s (d .counts))) (sectors (cellAt s (d .counts)))) LIST-VFT-INDICES 2 (length ks) (indexItems vs ks) (wide-indices vs ks) (length-indices vs ks) e
       (subst (λ (is : List (List ℕ)). Laid l (listBlocks (l .at) LIST-VFT-INDICES 2 is) r xs ys) same f)
 
@@ -159,13 +164,13 @@ module _ (s w : List ℕ) (d : Decision) (R : Ready s w d) where
         same : length w' ≡ length w
         same = rw e (length-put at (edgeWords ids (cornersAt s (d .counts .polys))) w)
 
-    pub polygons-ask : (q : ℕ) → q ≡ endEdges (counts (cellAt s (d .counts))) (sectors (cellAt s (d .counts))) → (from : ℕ) → from ≡ tablesEnd (length s)
+    pub polygons-ask : (q : ℕ) → q ≡ endEdges (counts (cellAt s (d .counts))) (sectors (cellAt s (d .counts))) → (places : WorkPlaces) → places ≡ workPlaces (length s) (d .counts)
         → (afterPolygons s 14 (d .counts .polys) ≤ length s)
-        × (take (from + 3 * d .counts .polys - from) (drop from w') ≡ boxes (polygonsAt s 14 (d .counts .polys)))
+        × (take (places .leaves - places .boxes) (drop (places .boxes) w') ≡ boxes (polygonsAt s 14 (d .counts .polys)))
         × ListRoom q 48 (d .counts .polys) (listSizes 48 (d .counts .polys))
     unfolding endEdges endIndices endVertices endHeader counts
-    polygons-ask q e from here = (
+    polygons-ask q e places here = (
       polys-inside,
-      box-part s w' (d .counts) (work-left .kept .held) from here,
+      box-part s w' (d .counts) (work-left .kept .held) places here,
       rw many-polys at (rooms (cellAt s (d .counts)) (R .accepted) .polygons q e),
     )

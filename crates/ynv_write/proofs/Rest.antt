@@ -1,31 +1,30 @@
 -- Portals and links behind the sectors: what each asks for, and that the three together are the rest of the pages. Assumes nothing.
-use Prim.Native.Nat.{ℕ, _+_, _*_, _-_, _^_, _≤_, _<_}
+use Prim.Native.Nat.{ℕ, _+_, _*_, _^_, _≤_, _<_}
 use mathlib.Core.Path.{_≡_, sym, subst, _∙_}
 use mathlib.Core.List.{List}
 use native.Mathlib.Omega.{arith}
 use lib.ListN.{length}
 use Rattle.fields.specs.Bytes.{les, cat}
 use Rattle.math.specs.declared.vec3.Vec3.{Vec3 as Floats}
-use Rattle.strip.specs.Reading.{headAt, polygonsAt, afterPolygons, portalsAt}
+use Rattle.strip.specs.Reading.{headAt}
+use Rattle.strip.specs.Rows.{polygonsAt, afterPolygons, portalsAt}
 use Rattle.strip.specs.declared.Counts.{Counts}
-use Rattle.write_blocks.specs.Layout.{endOf, Laid}
+use Rattle.write_blocks.specs.Layout.{endOf}
+use Rattle.write_blocks.specs.Laid.{Laid}
 use Rattle.write_blocks.specs.declared.Layout.{Layout}
-use Rattle.write_blocks.proofs.Layouts.{laid-then}
+use Rattle.write_blocks.proofs.Layouts.{laid-end, laid-then}
 use Rattle.write_pages.specs.Items.{floats, linksOf}
-use Rattle.write_pages.specs.Optional.{blockOf, sizeOf}
+use Rattle.write_blocks.specs.Optional.{blockOf, sizeOf}
 use Rattle.write_pages.specs.Pages.{loOf, extentOf, links, sectors, counts, portalItems, endPortals}
 use Rattle.write_pages.proofs.Sizes.{block-size, length-portals}
-use Rattle.write_plan.specs.Ready.{cellAt}
-use Rattle.write_sectors.specs.declared.SectorCursor.{SectorCursor}
-use Rattle.write_header.proofs.Planned.{portals-many}
+use Rattle.strip.specs.Laid.{firstPortal, cellAt}
+use Rattle.write_leaves.specs.declared.SectorCursor.{SectorCursor}
+use Rattle.write_ends.proofs.Planned.{portals-many}
 use Rattle.ynv_write.specs.Filled.{WorkKept, SectorsFilled, restOf, RestFilled}
 use Rattle.ynv_write.proofs.Rooms.{portals-below, links-below}
 
 module _ (s w : List ℕ) (n : Counts) (K : WorkKept s w n) {l : Layout} {xs ys : List ℕ} {spot : SectorCursor} (f : SectorsFilled (cellAt s n) l xs ys spot) where
-  module _ (first : ℕ) (here : first ≡ length s - 1 - 4 * n .points - 11 * n .portals) where
-    first-is : first ≡ afterPolygons s 14 (n .polys)
-    first-is = omega (arith, here, K .whole)
-
+  module _ (first : ℕ) (first-is : first ≡ firstPortal s n) where
     pub portals-ask : (first + 11 * n .portals ≤ length s) × (endOf (spot .layout .at) (sizeOf (28 * n .portals)) < 2 ^ 28)
     portals-ask =
         let many : length (cellAt s n .portals) ≡ n .portals = sym (portals-many s n) in
@@ -44,7 +43,7 @@ module _ (s w : List ℕ) (n : Counts) (K : WorkKept s w n) {l : Layout} {xs ys 
       portals-end =
           let ps = cellAt s n .portals in
           let bb-size : _ = block-size (28 * length ps) (cat (portalItems (loOf (cellAt s n)) (extentOf (cellAt s n)) ps)) (length-portals (loOf (cellAt s n)) (extentOf (cellAt s n)) ps) in
-          portals-laid .ends ∙ rw (bb-size, f .ends)
+          laid-end portals-laid ∙ rw (bb-size, f .ends)
 
       pub links-ask : (m : ℕ) → m ≡ length (links (cellAt s n))
           → (afterPolygons s 14 (n .polys) ≤ length s) × (m ≡ length (linksOf (polygonsAt s 14 (n .polys)))) × (endOf (r .at) (sizeOf (2 * m)) < 2 ^ 28)

@@ -7,17 +7,17 @@ use lib.ListN.{length}
 use Rattle.strip.specs.Cell.{Cell}
 use Rattle.write_blocks.specs.Layout.{endOf, behind}
 use Rattle.write_blocks.specs.Lists.{partCount, partSizes, offsetSizes, listSizes}
-use Rattle.write_blocks.proofs.Layouts.{end-ge}
-use Rattle.write_pages.specs.Optional.{sizeOf}
+use Rattle.write_blocks.proofs.Layouts.{end-ge, end-sum, at-of}
+use Rattle.write_blocks.specs.Optional.{sizeOf}
 use Rattle.write_pages.specs.Sectors as Sectors
 use Rattle.write_pages.specs.Sectors.{Sector, byteCount}
 use Rattle.write_pages.specs.Sectors.Sector.{leaf, node}
 use Rattle.write_pages.specs.Pages.{allCorners, vertices, links, sectors, counts, endHeader, endVertices, endIndices, endEdges, endPolygons, endSectors, endPortals}
 use Rattle.write_pages.specs.Accepted.{Accepted}
 use Rattle.write_pages.proofs.Placed.{few-corners, pages-short}
-use Rattle.write_header.specs.Ends.{pagesEnd}
-use Rattle.write_header.proofs.Behind.{end-sum, ListRooms, list-rooms}
-use Rattle.write_header.proofs.Cells.{sum-tree, cell-end}
+use Rattle.write_ends.specs.Ends.{pagesEnd}
+use Rattle.write_ends.proofs.Behind.{ListRooms, list-rooms}
+use Rattle.write_ends.proofs.Cells.{sum-tree, cell-end}
 use Rattle.ynv_write.specs.Filled.{ListsFilled, RestFilled, Near}
 use Rattle.ynv_write.specs.declared.ListEnds.{ListEnds}
 use Rattle.ynv_write.specs.declared.RestEnds.{RestEnds}
@@ -33,6 +33,11 @@ root-near : (end : ℕ) (t : Sector) → behind end 96 ≤ endOf end (Sectors.si
 unfolding Sectors.sizes
 root-near end (leaf b is ts) = first-near end 96 (sizeOf (2 * length is) ++ (sizeOf (8 * length ts) ++ (32 ∷ [])))
 root-near end (node b t0 t1 t2 t3) = first-near end 96 (Sectors.sizes t0 ++ (Sectors.sizes t1 ++ (Sectors.sizes t2 ++ Sectors.sizes t3)))
+
+-- the lists begin behind the header
+pub header-at : (c : Cell) {xs ys : List ℕ} {a : ListEnds} → ListsFilled c xs ys a → a .header .at ≡ endHeader (counts c) (sectors c)
+unfolding endHeader
+header-at c f = at-of (f .header)
 
 module _ (c : Cell) (acc : Accepted c) where
   -- ---- ends
@@ -70,7 +75,7 @@ module _ (c : Cell) (acc : Accepted c) where
     pub all-near : (q m : ℕ) → q ≡ length (c .portals) → m ≡ length (links c) → Near a b q m
     unfolding endSectors endEdges endIndices endVertices endHeader counts
     all-near q m eq em = record {
-      vertices = rw (f .header) (omega (arith, rooms .vertices _ refl .below, header-near (endHeader (counts c) (sectors c)) 6 (length (vertices c))));
+      vertices = rw (header-at c f) (omega (arith, rooms .vertices _ refl .below, header-near (endHeader (counts c) (sectors c)) 6 (length (vertices c))));
       indices = rw (f .vertices) (omega (arith, rooms .indices _ refl .below, header-near (endVertices (counts c) (sectors c)) 2 (length (allCorners c))));
       edges = rw (f .indices) (omega (arith, rooms .edges _ refl .below, header-near (endIndices (counts c) (sectors c)) 8 (length (allCorners c))));
       polygons = rw (f .edges) (omega (arith, rooms .polygons _ refl .below, header-near (endEdges (counts c) (sectors c)) 48 (length (c .polys))));

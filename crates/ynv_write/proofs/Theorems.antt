@@ -11,7 +11,8 @@ use Rattle.strip.specs.Cell.{Cell}
 use Rattle.strip.specs.Scan.{Scanned, ok, fault, scan}
 use Rattle.strip.specs.Outcome as Outcome
 use Rattle.strip.specs.Check.{onCell}
-use Rattle.strip.proofs.Faults.{Fault, scan-fault}
+use Rattle.strip.proofs.Faults.{Refused, scan-fault}
+use Rattle.strip.proofs.Faults as Faults
 use Rattle.write_blocks.specs.Placed.{Placed}
 use Rattle.write_pages.specs.Pages.{blocks, pages}
 use Rattle.write_pages.specs.Checks.{Verdict, fine, refused, onVerdict, cellVerdict, cellOutcome}
@@ -70,9 +71,9 @@ module _ (strip : List ℕ) (work out : ℕ) where
 
   -- ---- refused
 
-  -- 3 is a badly formed strip's, and any other refusal one of its cell's
+  -- a refusal is the strip's (3, badly formed) or one of its cell's
   pub refused-named : {number place : ℕ} → serializeOutcome strip work out ≡ Outcome.refused number place
-      → ((number ≡ 3) × Fault strip place) ⊎ ((c : Cell) × (scan strip ≡ ok c) × Named c number place)
+      → Refused strip number place ⊎ ((c : Cell) × (scan strip ≡ ok c) × Named c number place)
   unfolding serializeOutcome
   refused-named {number} {place} e =
       ⊎-elim
@@ -81,4 +82,4 @@ module _ (strip : List ℕ) (work out : ℕ) where
       (scan-refused (scan strip) e)
 
   pub refused-above-zero : {number place : ℕ} → serializeOutcome strip work out ≡ Outcome.refused number place → 0 < number
-  refused-above-zero e = ⊎-elim (λ three. omega (arith, three .0)) (λ other. above-zero (other .2)) (refused-named e)
+  refused-above-zero e = ⊎-elim Faults.refused-above-zero (λ other. above-zero (other .2)) (refused-named e)

@@ -6,19 +6,21 @@ use native.Mathlib.Omega.{arith}
 use lib.ListN.{length}
 use lib.Dec.{ltb}
 use borrow.Author.Tests.{lt-ltb, le-ltb}
-use Rattle.fields.specs.Bytes.{put, zeros}
+use Rattle.fields.specs.Bytes.{zeros}
+use Rattle.fields.specs.Put.{put}
 use Rattle.fields.proofs.Puts.{put-nil}
 use Rattle.strip.specs.Cell.{Cell}
 use Rattle.strip.specs.Outcome.{refused, done, values, shown}
 use Rattle.strip.specs.Reading.{word, headAt}
 use Rattle.cell_record.specs.Record.{headBy}
 use Rattle.cell_record.proofs.Fields.{head-is, word-box}
-use Rattle.areas.specs.Areas.{areaIds}
-use Rattle.write_blocks.specs.Layout.{placeOf, pagesOf, Laid}
+use Rattle.areas.specs.Tables.{areaIds}
+use Rattle.write_blocks.specs.Layout.{placeOf, pagesOf}
+use Rattle.write_blocks.specs.Laid.{empty, allocated, Laid}
 use Rattle.write_blocks.specs.declared.Layout.{Layout}
 use Rattle.write_blocks.proofs.Layouts.{laid-then, laid-before}
 use Rattle.write_pages.specs.Pages as Pages
-use Rattle.write_pages.specs.Pages.{Places, headerBytes, vertices, areas, links, sectors, counts, placesOf, header, blocks, pages, endHeader}
+use Rattle.write_pages.specs.Pages.{Places, headerBytes, vertices, areas, links, sectors, counts, placesOf, header, blocks, pages}
 use Rattle.write_pages.specs.Sectors.{byteCount}
 use Rattle.write_pages.specs.Checks.{fine, faultIf, at, onVerdict}
 use Rattle.write_pages.proofs.Sizes.{header-length}
@@ -27,14 +29,15 @@ use Rattle.strip.specs.declared.Refusal.{Refusal}
 use Rattle.write_decide.specs.declared.Verdict.the-variants.{Fine, Refused}
 use Rattle.write_decide.specs.declared.Decision.{Decision}
 use Rattle.write_plan.specs.Plan.{Planned}
-use Rattle.write_plan.specs.Ready.{cellAt, Ready}
+use Rattle.strip.specs.Laid.{cellAt}
+use Rattle.write_plan.specs.Ready.{Ready}
 use Rattle.write_plan.proofs.Ready.{ready, verdict-of, refused-so}
-use Rattle.write_header.proofs.Planned.{vertex-count, polygon-count, portal-count, link-count}
+use Rattle.write_ends.proofs.Planned.{vertex-count, polygon-count, portal-count, link-count}
 use Rattle.ynv_write.specs.Serialize.{writtenOf, serializeOutcome}
 use Rattle.ynv_write.specs.Filled.{listsOf, restOf, Left, ListsFilled, RestFilled, placesBy, Near, countsBy, Few, Filled}
 use Rattle.ynv_write.specs.declared.ListEnds.{ListEnds}
 use Rattle.ynv_write.specs.declared.RestEnds.{RestEnds}
-use Rattle.ynv_write.proofs.Rooms.{all-near, bytes-few}
+use Rattle.ynv_write.proofs.Rooms.{header-at, all-near, bytes-few}
 
 -- ---- of a cell's pages
 
@@ -54,13 +57,12 @@ place-first = refl
 skips-nothing : (xs : List ℕ) → put 0 (zeros (placeOf 0 368 - 0)) xs ≡ xs
 skips-nothing xs = rw place-first (put-nil 0 xs)
 
-header-last : (c : Cell) {a b : Layout} {xs ys : List ℕ} → a .at ≡ endHeader (counts c) (sectors c) → Laid a (listsOf c ++ restOf c) b xs ys
+header-last : (c : Cell) {a b : Layout} {xs ys : List ℕ} → a ≡ allocated empty 368 → Laid a (listsOf c ++ restOf c) b xs ys
     → put 0 (header c) ys ≡ put 0 (pages c) xs
-unfolding endHeader pages
+unfolding pages
 header-last c {a} {b} {xs} {ys} e f =
-    let front : Layout = record { at = 0 } in
-    let all : Laid front (header c ∷ (listsOf c ++ restOf c)) b xs (put (placeOf 0 368) (header c) ys) =
-    laid-before {l = front} (header-long c) e (subst (λ (zs : List ℕ). Laid a (listsOf c ++ restOf c) b zs ys) (sym (skips-nothing xs)) f) in
+    let all : Laid empty (header c ∷ (listsOf c ++ restOf c)) b xs (put (placeOf 0 368) (header c) ys) =
+    laid-before {l = empty} (header-long c) e (subst (λ (zs : List ℕ). Laid a (listsOf c ++ restOf c) b zs ys) (sym (skips-nothing xs)) f) in
     ap (λ (k : ℕ). put k (header c) ys) (sym place-first) ∙ all .bytes ∙ ap (λ (bs : List (List ℕ)). put 0 (pagesOf bs) xs) (blocks-apart c)
 
 -- ---- of a planned strip
@@ -82,7 +84,7 @@ module _ (s w : List ℕ) (d : Decision) (R : Ready s w d) where
 
     places-are : placesBy a b (d .counts .portals) (d .links) ≡ placesOf (counts (cellAt s (d .counts))) (sectors (cellAt s (d .counts)))
     unfolding placesOf counts
-    places-are = rw (f .header, f .vertices, f .indices, f .edges, f .polygons, g .sectors-end, g .portals-end, ← (portal-count s w d R), ← (link-count s w d R))
+    places-are = rw (header-at (cellAt s (d .counts)) f, f .vertices, f .indices, f .edges, f .polygons, g .sectors-end, g .portals-end, ← (portal-count s w d R), ← (link-count s w d R))
 
     areas-are : areaIds (d .areas) ≡ areas (cellAt s (d .counts))
     unfolding areas

@@ -4,23 +4,25 @@ use Prim.Native.Nat.{ℕ, _+_, _*_, _^_, _≤_, _<_}
 use mathlib.Core.Path.{_≡_}
 use mathlib.Core.List.{List, _++_}
 use lib.ListN.{length, drop}
-use Rattle.fields.specs.Bytes.{les, cat, put}
+use Rattle.fields.specs.Bytes.{les, cat}
+use Rattle.fields.specs.Put.{put}
 use Rattle.strip.specs.Cell.{Cell}
 use Rattle.strip.specs.declared.Counts.{Counts}
-use Rattle.areas.specs.Areas.{areaIds}
-use Rattle.write_blocks.specs.Layout.{endOf, Laid}
+use Rattle.areas.specs.Tables.{areaIds}
+use Rattle.write_blocks.specs.Layout.{endOf}
+use Rattle.write_blocks.specs.Laid.{empty, allocated, Laid}
 use Rattle.write_blocks.specs.Lists.{listBlocks}
 use Rattle.write_blocks.specs.declared.Layout.{Layout}
 use Rattle.write_pages.specs.Items.{vertexItems, indexItems, edgeItems, polygonItems}
-use Rattle.write_pages.specs.Optional.{blockOf, sizeOf, addressOf}
+use Rattle.write_blocks.specs.Optional.{blockOf, sizeOf, addressOf}
 use Rattle.write_pages.specs.Sectors.{treeBlocks, pointCount}
 use Rattle.write_pages.specs.Pages as Pages
 use Rattle.write_pages.specs.Pages.{Places, loOf, extentOf, allCorners, vertices, areas, links, sectors, counts, portalItems, endHeader, endVertices, endIndices, endEdges, endPolygons, endSectors, endPortals, pages}
 use Rattle.write_pages.specs.Accepted.{Accepted}
 use Rattle.write_decide.specs.declared.Decision.{Decision}
-use Rattle.write_plan.specs.Plan.{portalsEnd, WorkHeld}
-use Rattle.write_plan.specs.Ready.{cellAt}
-use Rattle.write_sectors.specs.declared.SectorCursor.{SectorCursor}
+use Rattle.strip.specs.Laid.{Whole, cellAt}
+use Rattle.write_plan.specs.Plan.{WorkHeld}
+use Rattle.write_leaves.specs.declared.SectorCursor.{SectorCursor}
 use Rattle.ynv_write.specs.declared.ListEnds.{ListEnds}
 use Rattle.ynv_write.specs.declared.RestEnds.{RestEnds}
 use Rattle.fields.specs.Sizes.{LIST-VFT-EDGES, LIST-VFT-INDICES, LIST-VFT-POLYS, LIST-VFT-VERTICES}
@@ -46,7 +48,7 @@ module _ (c : Cell) where
 pub record WorkKept (s w : List ℕ) (n : Counts) : Type 0 where
   pub accepted : Accepted (cellAt s n)
   pub held : WorkHeld s n w
-  pub whole : length s ≡ portalsEnd s n + 4 * n .points + 1
+  pub whole : Whole s n
   pub long : 14 ≤ length s
 
 -- and how work is left, by now w', which was w: no word behind twice the strip's is changed
@@ -59,7 +61,7 @@ pub record Left (s : List ℕ) (n : Counts) (w w' : List ℕ) : Type 0 where
 
 -- the lists
 pub record ListsFilled (c : Cell) (xs ys : List ℕ) (r : ListEnds) : Type 0 where
-  pub header : r .header .at ≡ endHeader (counts c) (sectors c)
+  pub header : r .header ≡ allocated empty 368
   pub vertices : r .vertices .at ≡ endVertices (counts c) (sectors c)
   pub indices : r .indices .at ≡ endIndices (counts c) (sectors c)
   pub edges : r .edges .at ≡ endEdges (counts c) (sectors c)

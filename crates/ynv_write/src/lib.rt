@@ -2,19 +2,22 @@
 ghost use mathlib.Core.Path.{_≡_};
 ghost use Prim.Native.Nat.{_+_, _*_, _≤_};
 ghost use lib.ListN.{length};
-ghost use Rattle.fields.specs.Bytes.{put};
-ghost use Rattle.strip.specs.Reading.{headAt, afterPolygons};
+ghost use Rattle.fields.specs.Put.{put};
+ghost use Rattle.strip.specs.Reading.{headAt};
+ghost use Rattle.strip.specs.Rows.{afterPolygons};
 ghost use Rattle.cell_record.specs.Record.{recordOf};
-ghost use Rattle.areas.specs.Areas.{areaIds};
-ghost use Rattle.write_blocks.specs.Layout.{Laid};
-ghost use Rattle.write_blocks.specs.Lists.{listSizes, listBlocks, ListRoom};
+ghost use Rattle.areas.specs.Tables.{areaIds};
+ghost use Rattle.write_blocks.specs.Laid.{Laid};
+ghost use Rattle.write_blocks.specs.Lists.{listSizes, listBlocks};
+ghost use Rattle.write_blocks.specs.ListRoom.{ListRoom};
 ghost use Rattle.write_pages.specs.Items.{edgeItems};
-ghost use Rattle.write_lists.specs.Made.{edgeWords, cornersAt};
+ghost use Rattle.write_edges.specs.Made.{edgeWords, cornersAt};
 ghost use Rattle.strip.specs.Outcome.{shown, left};
 ghost use Rattle.write_pages.specs.Sectors.{byteCount};
 ghost use Rattle.write_pages.specs.Pages.{links, counts, sectors, endPolygons};
 ghost use Rattle.write_header.specs.Front.{placesIn, countsIn};
-ghost use Rattle.write_plan.specs.Ready.{cellAt, Ready};
+ghost use Rattle.strip.specs.Laid.{cellAt};
+ghost use Rattle.write_plan.specs.Ready.{Ready};
 ghost use Rattle.ynv_write.specs.Serialize.{paper, serializeOutcome};
 ghost use Rattle.ynv_write.specs.Filled.{WorkKept, Left, ListsFilled, SectorsFilled, RestFilled, placesBy, Near, countsBy, Few, Filled};
 ghost use Rattle.fields.specs.Sizes.{LIST-VFT-EDGES};
@@ -26,13 +29,15 @@ use fields::sizes::PORTAL_SIZE;
 use fields::sizes::SECTOR_SIZE;
 use strip::Counts;
 use strip::Refusal;
+use strip::cells::first_point;
+use strip::cells::first_portal;
 use write_blocks::Layout;
 use write_decide::Decision;
 use write_decide::Verdict;
 use write_header::Addresses;
 use write_header::Totals;
-use write_sectors::Points;
-use write_sectors::SectorCursor;
+use write_leaf_items::Points;
+use write_leaves::SectorCursor;
 
 // What an accepted strip came to: the pages' length in bytes.
 pub struct Written {
@@ -74,8 +79,8 @@ fn fill_edges(
 ) -> Layout
     requires { ⌜ (afterPolygons (now strip) 14 n ≤ length (now strip)) × (corners ≡ length (cornersAt (now strip) n)) × (base + 2 * corners ≤ length (now work))
         × ListRoom (l .at) 8 corners (listSizes 8 corners) ⌝ }
-    ensures { λ r. ⌜ Laid l (listBlocks (l .at) LIST-VFT-EDGES 8 (edgeItems (areaIds areas) (cornersAt (now (strip .entry)) n))) r (now (pages .entry)) (now (pages .exit)) ⌝ }
-    ensures { λ _. ⌜ now (work .exit) ≡ put base (edgeWords (areaIds areas) (cornersAt (now (strip .entry)) n)) (now (work .entry)) ⌝ }
+    ensures pages { λ r. ⌜ Laid l (listBlocks (l .at) LIST-VFT-EDGES 8 (edgeItems (areaIds areas) (cornersAt (now (strip .entry)) n))) r (now (pages .entry)) (now (pages .exit)) ⌝ }
+    ensures work { λ _. ⌜ now (work .exit) ≡ put base (edgeWords (areaIds areas) (cornersAt (now (strip .entry)) n)) (now (work .entry)) ⌝ }
 {
     let ids = areas.ids;
     write_lists::lay_edges(pages, l, strip, n, corners, &ids, areas.len, work, base)
@@ -84,20 +89,28 @@ fn fill_edges(
 // The four lists, behind the place that is kept for the header. Edges are made in work, in the words of vertices that are laid out by then.
 fn fill_lists(pages: &mut [u8], strip: &[u32], d: Decision, work: &mut [u32]) -> ListEnds
     requires { ⌜ Ready (now strip) (now work) d ⌝ }
-    ensures { λ r. ⌜ ListsFilled (cellAt (now (strip .entry)) (d .counts)) (now (pages .entry)) (now (pages .exit)) r ⌝ }
-    ensures { λ _. ⌜ Left (now (strip .entry)) (d .counts) (now (work .entry)) (now (work .exit)) ⌝ }
+    ensures pages { λ r. ⌜ ListsFilled (cellAt (now (strip .entry)) (d .counts)) (now (pages .entry)) (now (pages .exit)) r ⌝ }
+    ensures work { λ _. ⌜ Left (now (strip .entry)) (d .counts) (now (work .entry)) (now (work .exit)) ⌝ }
 {
-    let words = strip.len();
-    let at = write_decide::tree_count(words);
     let counts = d.counts;
+    let places = write_decide::work_places(strip.len(), counts);
     let n = counts.polys;
     let corners = d.corners;
     let header = Layout::new().alloc(NAVMESH_SIZE);
-    let vertices = write_lists::lay_vertices(pages, header, work, at, d.vertices);
-    let indices = write_lists::lay_indices(pages, vertices, work, at + 2 * (words / 3), corners);
-    let edges = fill_edges(pages, indices, strip, n, corners, d.areas, work, at);
-    let boxes = write_decide::tables_end(strip);
-    let end = boxes + 3 * n;
+    let vertices = write_lists::lay_vertices(pages, header, work, places.vertices, d.vertices);
+    let indices = write_lists::lay_indices(pages, vertices, work, places.indices, corners);
+    let edges = fill_edges(
+        pages,
+        indices,
+        strip,
+        n,
+        corners,
+        d.areas,
+        work,
+        places.vertices,
+    );
+    let boxes = places.boxes;
+    let leaves = places.leaves;
     let cell = d.cell;
     let polygons = write_lists::lay_polygons(
         pages,
@@ -105,7 +118,7 @@ fn fill_lists(pages: &mut [u8], strip: &[u32], d: Decision, work: &mut [u32]) ->
         strip,
         cell.area_id,
         n,
-        &work[boxes..end],
+        &work[boxes..leaves],
     );
     ListEnds {
         header,
@@ -129,14 +142,15 @@ fn fill_sectors<'a>(
         × (cell ≡ recordOf (headAt (now strip) 0)) ⌝ }
     ensures { λ r. ⌜ SectorsFilled (cellAt (now (strip .entry)) n) l (now (pages .entry)) (now (pages .exit)) r ⌝ }
 {
-    let at = write_decide::tables_end(strip);
-    let mid = at + 3 * n.polys;
-    let end = mid + n.points;
+    let places = write_decide::work_places(strip.len(), n);
+    let boxes = places.boxes;
+    let leaves = places.leaves;
+    let end = places.end;
     let b = cell.root_box();
     let bb_min = cell.bb_min;
     let bb_size = cell.bb_size;
     let points = Points {
-        at: strip.len() - 1 - 4 * n.points,
+        at: first_point(strip, n),
         bb_min,
         bb_size,
     };
@@ -151,8 +165,8 @@ fn fill_sectors<'a>(
         spot,
         b,
         depth,
-        &work[at..mid],
-        &work[mid..end],
+        &work[boxes..leaves],
+        &work[leaves..end],
         strip,
         points,
     )
@@ -177,7 +191,7 @@ fn fill_rest<'a>(
     let bb_size = cell.bb_size;
     let spot = fill_sectors(pages, strip, cell, counts, work, l);
     let sectors = spot.layout;
-    let first = strip.len() - 1 - 4 * counts.points - 11 * counts.portals;
+    let first = first_portal(strip, counts);
     let portals = write_header::lay_portals(
         pages,
         sectors,
@@ -203,13 +217,13 @@ fn addresses(d: Decision, lists: ListEnds, rest: RestEnds) -> Addresses
 {
     let counts = d.counts;
     Addresses {
-        vertices: write_sectors::address_of(lists.header, LIST_SIZE),
-        indices: write_sectors::address_of(lists.vertices, LIST_SIZE),
-        edges: write_sectors::address_of(lists.indices, LIST_SIZE),
-        polygons: write_sectors::address_of(lists.edges, LIST_SIZE),
-        root: write_sectors::address_of(lists.polygons, SECTOR_SIZE),
-        portals: write_sectors::address_of(rest.sectors, PORTAL_SIZE * counts.portals),
-        links: write_sectors::address_of(rest.portals, 2 * d.links),
+        vertices: write_blocks::address_of(lists.header, LIST_SIZE),
+        indices: write_blocks::address_of(lists.vertices, LIST_SIZE),
+        edges: write_blocks::address_of(lists.indices, LIST_SIZE),
+        polygons: write_blocks::address_of(lists.edges, LIST_SIZE),
+        root: write_blocks::address_of(lists.polygons, SECTOR_SIZE),
+        portals: write_blocks::address_of(rest.sectors, PORTAL_SIZE * counts.portals),
+        links: write_blocks::address_of(rest.portals, 2 * d.links),
     }
 }
 
@@ -263,15 +277,15 @@ pub fn serialize_ynv(strip: &[u32], work: &mut [u32], pages: &mut [u8]) -> Seria
     let verdict = d.verdict;
     match verdict {
         Verdict::Fine => {
-            let reach = write_header::ends::pages_end(strip, d, work);
-            let length = reach.at;
+            let extent = write_ends::pages_end(strip, d, work);
+            let length = extent.end.at;
             if pages.len() < length {
                 return SerializeAnswer::Refused(Refusal {
                     number: 2,
                     place: 0,
                 });
             }
-            fill(strip, d, reach.bytes, work, pages);
+            fill(strip, d, extent.sectors, work, pages);
             SerializeAnswer::Written(Written { length })
         }
         Verdict::Refused(r) => SerializeAnswer::Refused(r),

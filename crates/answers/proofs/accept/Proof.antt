@@ -1,4 +1,4 @@
--- `answers::accept` meets its contract: the words are stored one by one.
+-- `answers::accept` meets its contract: the words are stored one by one, and each is the value of its number.
 use mathlib.Core.Path.{refl}
 use denote.Ref.{now}
 use Rattle.answers.specs.Words.{filled}
@@ -7,43 +7,36 @@ use borrow.Author.Needs.{needs}
 use Rattle.answers.proofs.accept.Statement.{statement}
 use Rattle.answers.proofs.accept.Tie as tie
 
-element-write-answer : tie.Need-element-write-answer
-element-write-answer c = search needs
-
-element-write-answer-2 : tie.Need-element-write-answer-2
-element-write-answer-2 c = search needs
-
-element-write-answer-3 : tie.Need-element-write-answer-3
-element-write-answer-3 c = search needs
-
-element-write-answer-4 : tie.Need-element-write-answer-4
-element-write-answer-4 c = search needs
-
-element-write-answer-5 : tie.Need-element-write-answer-5
-element-write-answer-5 c = search needs
-
-element-write-answer-6 : tie.Need-element-write-answer-6
-element-write-answer-6 c = search needs
-
-element-write-answer-7 : tie.Need-element-write-answer-7
-element-write-answer-7 c = search needs
-
-element-write-answer-8 : tie.Need-element-write-answer-8
-element-write-answer-8 c = search needs
-
 returns : tie.Need-returns
-returns c = let a = c .args in (refl, stored-first (filled (a .a) (a .b) (a .c) (a .d) (a .e)) (now (a .answer)))
+returns c =
+    let c7 = c .before in
+    let c6 = c7 .before in
+    let c5 = c6 .before in
+    let c4 = c5 .before in
+    let c3 = c4 .before in
+    let c2 = c3 .before in
+    let c1 = c2 .before in
+    let a = c1 .before .before .args in
+    (refl, rw (c1 .value-at .ensures, c2 .value-at2 .ensures, c3 .value-at3 .ensures, c4 .value-at4 .ensures, c5 .value-at5 .ensures, c6 .value-at6 .ensures, c7 .value-at7 .ensures, c .value-at8 .ensures) (stored-first (filled (now (a .values))) (now (a .answer))))
 
 pub accept-spec : {M : Type 1} → statement M
 accept-spec =
     tie.close
     (tie.spec
-    element-write-answer
-    element-write-answer-2
-    element-write-answer-3
-    element-write-answer-4
-    element-write-answer-5
-    element-write-answer-6
-    element-write-answer-7
-    element-write-answer-8
+    (λ c κs. search needs)
+    (λ c. search needs)
+    (λ c κs. search needs)
+    (λ c. search needs)
+    (λ c κs. search needs)
+    (λ c. search needs)
+    (λ c κs. search needs)
+    (λ c. search needs)
+    (λ c κs. search needs)
+    (λ c. search needs)
+    (λ c κs. search needs)
+    (λ c. search needs)
+    (λ c κs. search needs)
+    (λ c. search needs)
+    (λ c κs. search needs)
+    (λ c. search needs)
     returns)

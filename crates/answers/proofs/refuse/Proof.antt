@@ -1,4 +1,4 @@
--- `answers::refuse` meets its contract.
+-- `answers::refuse` meets its contract: the number is returned, and the place stands in the first word by `stored-first`.
 use mathlib.Core.Path.{refl}
 use mathlib.Core.List.{[], _∷_}
 use denote.Ref.{now}

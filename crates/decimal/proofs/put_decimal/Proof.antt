@@ -5,7 +5,7 @@ use mathlib.Core.List.{List, [], _∷_}
 use Prim.Native.Nat.{ℕ, _+_, _/_, _%_, _≤_, _<_}
 use native.Mathlib.Omega.{arith}
 use lib.ListN.{length}
-use Rattle.fields.specs.Bytes.{put}
+use Rattle.fields.specs.Put.{put}
 use Rattle.fields.proofs.Puts.{length-put, put-before}
 use Rattle.decimal.specs.Text.{digit, decimal}
 use Rattle.decimal.proofs.Decimal.{one-digit, more-digits, length-one, length-more, some-digit}

@@ -7,7 +7,7 @@ use native.Mathlib.Omega.{arith}
 use native.Mathlib.Numerals.{add-one}
 use lib.ListN.{length, length-set, getD, drop, drop-of-length-le}
 use lib.Seq.{drop-cons}
-use Rattle.fields.specs.Bytes.{put}
+use Rattle.fields.specs.Put.{put}
 use Rattle.fields.proofs.Puts.{past-end, put-nil, put-cons}
 use Rattle.decimal.proofs.put_text.Statement.{statement}
 use Rattle.decimal.proofs.put_text.Tie as tie

@@ -4,7 +4,8 @@ use mathlib.Core.Path.{_≡_, refl, sym, _∙_}
 use Prim.Native.Nat.{_-_}
 use native.Mathlib.Omega.{arith}
 use lib.ListN.{length, length-set}
-use Rattle.fields.specs.Bytes.{leBytes, put}
+use Rattle.fields.specs.Bytes.{leBytes}
+use Rattle.fields.specs.Put.{put}
 use Rattle.fields.proofs.Puts.{past-end, put-nil, put-lowest}
 use Rattle.fields.proofs.put_le.Statement.{statement}
 use Rattle.fields.proofs.put_le.Tie as tie

@@ -1,7 +1,8 @@
 -- `fields::put_u32` meets its contract: near the end it is two halves of 2 bytes side by side, by the law over the width.
 use mathlib.Core.Path.{sym}
 use borrow.Author.Needs.{needs}
-use Rattle.fields.proofs.Puts.{past-end, put-join}
+use denote.Ref.{now}
+use Rattle.fields.proofs.Puts.{past-end, put-halves}
 use Rattle.fields.proofs.put_u32.Statement.{statement}
 use Rattle.fields.proofs.put_u32.Tie as tie
 
@@ -39,7 +40,9 @@ same-length-2 : tie.Need-same-length-2
 same-length-2 c = search needs
 
 returns-3 : tie.Need-returns-3
-returns-3 c = rw (← put-join 2) cc
+returns-3 c =
+    let a = c .before .before .before .before .before .before .before .before .before .before .before .args in
+    put-halves 2 (a .v) (a .off) (now (a .b)) (c .before .before .before .before .before .before .put-u16 .ensures) (c .before .before .put-u162 .ensures)
 
 pub put-u32-spec : {M : Type 1} → statement M
 put-u32-spec =

@@ -1,4 +1,4 @@
--- `fields::put_u8` meets its contract.
+-- `fields::put_u8` meets its contract: a store past the end changes nothing by `past-end`, and any other is the callee's.
 use mathlib.Core.Path.{sym}
 use borrow.Author.Needs.{needs}
 use Rattle.fields.proofs.Puts.{past-end}

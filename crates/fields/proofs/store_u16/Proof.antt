@@ -1,6 +1,7 @@
 -- `fields::store_u16` meets its contract: two halves of one byte side by side, by the law over the width.
 use borrow.Author.Needs.{needs}
-use Rattle.fields.proofs.Puts.{put-join}
+use denote.Ref.{now}
+use Rattle.fields.proofs.Puts.{put-halves}
 use Rattle.fields.proofs.store_u16.Statement.{statement}
 use Rattle.fields.proofs.store_u16.Tie as tie
 
@@ -23,7 +24,9 @@ same-length : tie.Need-same-length
 same-length c = search needs
 
 returns : tie.Need-returns
-returns c = rw (← put-join 1) cc
+returns c =
+    let a = c .before .before .before .before .before .before .before .before .before .args in
+    put-halves 1 (a .v) (a .off) (now (a .b)) (c .before .before .before .before .before .before .store-u8 .ensures) (c .before .before .store-u82 .ensures)
 
 pub store-u16-spec : {M : Type 1} → statement M
 store-u16-spec =

@@ -1,6 +1,7 @@
 -- `fields::store_u32` meets its contract: two halves of 2 bytes side by side, by the law over the width.
 use borrow.Author.Needs.{needs}
-use Rattle.fields.proofs.Puts.{put-join}
+use denote.Ref.{now}
+use Rattle.fields.proofs.Puts.{put-halves}
 use Rattle.fields.proofs.store_u32.Statement.{statement}
 use Rattle.fields.proofs.store_u32.Tie as tie
 
@@ -23,7 +24,9 @@ same-length : tie.Need-same-length
 same-length c = search needs
 
 returns : tie.Need-returns
-returns c = rw (← put-join 2) cc
+returns c =
+    let a = c .before .before .before .before .before .before .before .before .before .args in
+    put-halves 2 (a .v) (a .off) (now (a .b)) (c .before .before .before .before .before .before .store-u16 .ensures) (c .before .before .store-u162 .ensures)
 
 pub store-u32-spec : {M : Type 1} → statement M
 store-u32-spec =

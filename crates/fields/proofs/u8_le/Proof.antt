@@ -1,4 +1,4 @@
--- `fields::u8_le` meets its contract.
+-- `fields::u8_le` meets its contract: past the end a field is 0 by `past`, and otherwise it is the callee's equation.
 use mathlib.Core.Path.{sym}
 use borrow.Author.Needs.{needs}
 use Rattle.fields.proofs.Bytes.{past}

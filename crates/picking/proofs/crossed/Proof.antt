@@ -9,7 +9,9 @@ use Rattle.picking.proofs.crossed.Tie as tie
 returns : tie.Need-returns
 unfolding crossed
 returns c =
-    let a = c .before .before .before .before .before .before .before .args in
+    let midway = c .before .before .before .before .before in
+    let entry = midway .before .before in
+    let a = entry .args in
     rw (le-leb (a .a .y) (a .s .y) (omega arith), le-leb (a .b .y) (a .s .y) (omega arith))
 
 left-of-side-requires : tie.Need-left-of-side-requires
@@ -18,7 +20,9 @@ left-of-side-requires c κs = search needs
 returns-2 : tie.Need-returns-2
 unfolding crossed
 returns-2 c =
-    let a = c .before .before .before .before .before .before .before .before .args in
+    let midway = c .before .before .before .before .before in
+    let entry = midway .before .before .before in
+    let a = entry .args in
     rw (le-leb (a .a .y) (a .s .y) (omega arith), lt-leb (a .b .y) (a .s .y) (omega arith)) (c .left-of-side .ensures)
 
 left-of-side-requires-2 : tie.Need-left-of-side-requires-2
@@ -27,13 +31,17 @@ left-of-side-requires-2 c κs = search needs
 returns-3 : tie.Need-returns-3
 unfolding crossed
 returns-3 c =
-    let a = c .before .before .before .before .before .before .before .before .args in
+    let midway = c .before .before .before .before .before in
+    let entry = midway .before .before .before in
+    let a = entry .args in
     rw (lt-leb (a .a .y) (a .s .y) (omega arith), le-leb (a .b .y) (a .s .y) (omega arith)) (c .left-of-side2 .ensures)
 
 returns-4 : tie.Need-returns-4
 unfolding crossed
 returns-4 c =
-    let a = c .before .before .before .before .before .before .before .args in
+    let midway = c .before .before .before .before .before in
+    let entry = midway .before .before in
+    let a = entry .args in
     rw (lt-leb (a .a .y) (a .s .y) (omega arith), lt-leb (a .b .y) (a .s .y) (omega arith))
 
 pub crossed-spec : {M : Type 1} → statement M

@@ -6,7 +6,8 @@ use mathlib.Core.List.{map}
 use native.Mathlib.Nat.{zero-add, sub-zero}
 use native.Mathlib.Omega.{arith}
 use Rattle.strip.specs.Reading.{vecsAt}
-use Rattle.picking.specs.Picking.{one, crossings}
+use Rattle.strip.specs.Tests.{one}
+use Rattle.picking.specs.Picking.{crossings}
 use Rattle.picking.specs.Vertices.{spotOn, vertexSpot}
 use Rattle.picking.proofs.Laws.{crossings-turn, crossings-done}
 use Rattle.picking.proofs.crossings.Statement.{statement}
@@ -47,8 +48,10 @@ loop-less c = omega arith
 
 loop-again : tie.Need-loop-again Inv-loop μ-loop
 loop-again c =
-    let a = c .before .before .before .before .before .before .args in
-    let l = c .before .before .before .before .loop in
+    let at-loop = c .before .before .before .before in
+    let entry = at-loop .before .before in
+    let a = entry .args in
+    let l = at-loop .loop in
     let ws = a .strip .now in
     let next = c .before .before .read-vertex .ensures in
     let counted = c .one .ensures .0 ∙ ap one (c .before .crossed .ensures) in

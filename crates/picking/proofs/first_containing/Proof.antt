@@ -6,7 +6,8 @@ use mathlib.Core.Logic.{_⊎_, inl, inr, ⊎-elim}
 use mathlib.Core.Path.{_≡_, refl, ap, sym, _∙_}
 use native.Mathlib.Nat.{sub-zero}
 use native.Mathlib.Omega.{arith}
-use Rattle.strip.specs.Reading.{headAt, polyAt, polygonsAt, afterPolygons}
+use Rattle.strip.specs.Reading.{headAt, polyAt}
+use Rattle.strip.specs.Rows.{polygonsAt, afterPolygons}
 use Rattle.strip.specs.Outcome.{values}
 use Rattle.strip.proofs.Steps.{parts, after-polygon, next-inside}
 use Rattle.picking.specs.Picking.{contains, found, firstFrom}
@@ -42,8 +43,10 @@ poly-at-requires c κs =
 
 contains-requires : tie.Need-contains-requires Inv-loop μ-loop
 contains-requires c κs =
-    let a = c .before .before .before .before .before .before .args in
-    let l = c .before .before .loop in
+    let at-loop = c .before .before in
+    let entry = at-loop .before .before .before .before in
+    let a = entry .args in
+    let l = at-loop .loop in
     let e = c .poly-at .ensures in
     omega (arith, parts _ _ _ e, next-inside (a .strip .now) (l .at) (l .i) (a .n) (length (a .strip .now)) (omega arith) (l .inv .2) _ e)
 
@@ -56,13 +59,16 @@ loop-less c = omega arith
 loop-again : tie.Need-loop-again Inv-loop μ-loop
 unfolding headAt
 loop-again c =
-    let a = c .before .before .before .before .before .before .before .before .args in
+    let after-axis-at2 = c .before .before .before .before .before in
+    let after-axis-at = after-axis-at2 .before in
+    let entry = after-axis-at .before .before in
+    let a = entry .args in
     let l = c .before .before .before .before .loop in
     let ws = a .strip .now in
     let test = contains (headAt ws 0) (a .s) in
     let k : l .i < a .n = omega arith in
     let e = c .before .before .poly-at .ensures in
-    let m = rw (c .before .before .before .before .before .before .axis-at .ensures, c .before .before .before .before .before .axis-at2 .ensures) at (c .before .contains .ensures) in (
+    let m = rw (after-axis-at .axis-at .ensures, after-axis-at2 .axis-at2 .ensures) at (c .before .contains .ensures) in (
       omega arith,
       ⊎-elim (λ w. omega arith) (λ w. omega arith) (c .if1 .came),
       omega (arith, after-polygon ws (l .at) (l .i) (a .n) k _ e),
@@ -82,8 +88,10 @@ returns c =
 
 returns-2 : tie.Need-returns-2 Inv-loop μ-loop
 returns-2 c =
-    let a = c .before .before .before .before .before .before .args in
-    let l = c .before .before .loop in
+    let at-loop = c .before .before in
+    let entry = at-loop .before .before .before .before in
+    let a = entry .args in
+    let l = at-loop .loop in
     ap values
     (sym
     (⊎-elim

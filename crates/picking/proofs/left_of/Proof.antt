@@ -10,9 +10,12 @@ use Rattle.picking.proofs.left_of.Tie as tie
 returns : tie.Need-returns
 unfolding leftOf
 returns c =
-    let a = c .before .before .before .before .before .before .before .before .before .args in
-    let one = c .before .before .before .before .before .before .times in
-    let two = c .before .before .before .times2 in
+    let after-times2 = c .before .before .before in
+    let after-times = after-times2 .before .before .before in
+    let entry = after-times .before .before .before in
+    let a = entry .args in
+    let one = after-times .times in
+    let two = after-times2 .times2 in
     let three = c .times3 in
     let low = a .low in
     let high = a .high in

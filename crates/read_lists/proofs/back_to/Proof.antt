@@ -1,4 +1,4 @@
--- `lists::back_to` meets its contract. The loop's invariant: the cursor stands at a part. The measure is that part's number.
+-- `read_lists::back_to` meets its contract. The loop's invariant: the cursor stands at a part. The measure is that part's number.
 use native.Mathlib.Omega.{arith}
 use borrow.Author.Needs.{needs}
 use Rattle.read_lists.specs.Lists.{countAt}

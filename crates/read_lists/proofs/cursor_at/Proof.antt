@@ -1,4 +1,4 @@
--- `lists::cursor_at` meets its contract.
+-- `read_lists::cursor_at` meets its contract: its two fields are those of the part's entry in the table, 16 bytes to an entry.
 use Rattle.read_lists.specs.Lists.{countAt, addressAt}
 use borrow.Author.Needs.{needs}
 use Rattle.read_lists.proofs.cursor_at.Statement.{statement}

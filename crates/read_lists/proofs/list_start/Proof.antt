@@ -1,4 +1,4 @@
--- `lists::list_start` meets its contract.
+-- `read_lists::list_start` meets its contract: before part 0 no item stands, which is what `cursor_at` asks of the number that it is given.
 use mathlib.Core.Path.{refl}
 use Rattle.read_lists.specs.Lists.{before}
 use borrow.Author.Needs.{needs}

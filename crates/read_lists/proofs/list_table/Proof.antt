@@ -1,4 +1,4 @@
--- `lists::list_table` meets its contract.
+-- `read_lists::list_table` meets its contract: the second resolved part, by the address and the count that the header's fields are.
 use mathlib.Core.Path.{_∙_}
 use Rattle.read_lists.specs.Lists.{tableOf, header}
 use borrow.Author.Needs.{needs}

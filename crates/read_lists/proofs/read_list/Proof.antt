@@ -1,4 +1,4 @@
--- `lists::read_list` meets its contract. The loop's invariant: the parts before k are good, and total is how many items they have. The measure is the parts that are left.
+-- `read_lists::read_list` meets its contract. The loop's invariant: the parts before k are good, and total is how many items they have. The measure is the parts that are left.
 use Rattle.read_lists.proofs.ReadList.{none, bad-header, bad-table, bad-part, part-refused, adds-up, not-up, more-good}
 use Rattle.read_lists.proofs.Lists.{product, before-next}
 use borrow.Author.Needs.{needs}
@@ -101,10 +101,24 @@ loop-again c =
     )
 
 returns-5 : tie.Need-returns-5 Inv-loop μ-loop
-returns-5 c = (adds-up _ _ _ _ _ (c .before .before .before .before .before .before .before .before .before .if1 .left) (c .before .before .before .before .before .before .before .before .resolve .ensures .0) (c .before .before .before .before .before .before .before .if2 .left) (c .before .before .before .before .list-table .ensures) (c .before .before .before .before .before .u32-le2 .ensures) (c .before .before .before .if3 .left) (c .before .before .loop .inv .1) (c .before .before .loop .inv .3) (omega arith) (c .before .before .before .before .before .before .u32-le .ensures) (c .if5 .taken), search needs)
+returns-5 c =
+    let at-loop = c .before .before in
+    let after-table = at-loop .before .before in
+    let after-header = after-table .before .before .before .before in (
+      adds-up _ _ _ _ _ (after-header .before .if1 .left) (after-header .resolve .ensures .0) (after-table .before .before .before .if2 .left) (after-table .list-table .ensures) (after-table .before .u32-le2 .ensures) (at-loop .before .if3 .left) (at-loop .loop .inv .1) (at-loop .loop .inv .3)
+          (omega arith) (after-table .before .before .u32-le .ensures) (omega (arith, c .if5 .taken)),
+      search needs,
+    )
 
 returns-6 : tie.Need-returns-6 Inv-loop μ-loop
-returns-6 c = (not-up _ _ _ _ _ (c .before .before .before .before .before .before .before .before .before .if1 .left) (c .before .before .before .before .before .before .before .before .resolve .ensures .0) (c .before .before .before .before .before .before .before .if2 .left) (c .before .before .before .before .list-table .ensures) (c .before .before .before .before .before .u32-le2 .ensures) (c .before .before .before .if3 .left) (c .before .before .loop .inv .1) (c .before .before .loop .inv .3) (omega arith) (c .before .before .before .before .before .before .u32-le .ensures) (c .if5 .left), tt)
+returns-6 c =
+    let at-loop = c .before .before in
+    let after-table = at-loop .before .before in
+    let after-header = after-table .before .before .before .before in (
+      not-up _ _ _ _ _ (after-header .before .if1 .left) (after-header .resolve .ensures .0) (after-table .before .before .before .if2 .left) (after-table .list-table .ensures) (after-table .before .u32-le2 .ensures) (at-loop .before .if3 .left) (at-loop .loop .inv .1) (at-loop .loop .inv .3)
+          (omega arith) (after-table .before .before .u32-le .ensures) (λ z. c .if5 .left (omega (arith, z))),
+      tt,
+    )
 
 pub read-list-spec : {M : Type 1} → statement M
 read-list-spec =

@@ -1,4 +1,4 @@
--- `lists::seek` meets its contract.
+-- `read_lists::seek` meets its contract: a cursor whose part holds the item stays as it is, and otherwise `walk_to` finds its part.
 use native.Mathlib.Omega.{arith}
 use borrow.Author.Needs.{needs}
 use Rattle.read_lists.proofs.Lists.{inside-of}

@@ -1,4 +1,4 @@
--- `lists::walk_to` meets its contract. The loop's invariant: the cursor stands at a part that doesn't begin behind item i. The measure is what is left of the table.
+-- `read_lists::walk_to` meets its contract. The loop's invariant: the cursor stands at a part that doesn't begin behind item i. The measure is what is left of the table.
 use Prim.Native.Nat.{_-_, _≤_}
 use native.Mathlib.Omega.{arith}
 use borrow.Author.Needs.{needs}
@@ -26,16 +26,16 @@ add-if1 c =
     omega (arith, within s (inside-of s lo (c .before .before .before .before .pre .1)), c .before .before .before .before .pre)
 
 add-cursor-at : tie.Need-add-cursor-at Inv-loop μ-loop
-add-cursor-at c = let (s, lo) = c .before .before .before .loop .inv in omega (arith, forth s lo (c .before .if1 .taken) (c .before .before .before .before .before .before .pre .1))
+add-cursor-at c = let (s, lo) = c .before .before .before .loop .inv in omega (arith, forth s lo (omega (arith, c .before .if1 .taken)) (c .before .before .before .before .before .before .pre .1))
 
 add-cursor-at-2 : tie.Need-add-cursor-at-2 Inv-loop μ-loop
 add-cursor-at-2 c = search needs
 
 cursor-at-requires : tie.Need-cursor-at-requires Inv-loop μ-loop
-cursor-at-requires c κs = let (s, lo) = c .before .before .before .before .loop .inv in (forth s lo (c .before .before .if1 .taken) (c .before .before .before .before .before .before .before .pre .1), next s)
+cursor-at-requires c κs = let (s, lo) = c .before .before .before .before .loop .inv in (omega (arith, forth s lo (omega (arith, c .before .before .if1 .taken)) (c .before .before .before .before .before .before .before .pre .1)), omega (arith, next s))
 
 loop-less : tie.Need-loop-less Inv-loop μ-loop
-loop-less c = let (s, lo) = c .before .before .before .before .before .loop .inv in omega (arith, forth s lo (c .before .before .before .if1 .taken) (c .before .before .before .before .before .before .before .before .pre .1), c .cursor-at .ensures .1)
+loop-less c = let (s, lo) = c .before .before .before .before .before .loop .inv in omega (arith, forth s lo (omega (arith, c .before .before .before .if1 .taken)) (c .before .before .before .before .before .before .before .before .pre .1), c .cursor-at .ensures .1)
 
 loop-again : tie.Need-loop-again Inv-loop μ-loop
 loop-again c = (c .cursor-at .ensures .0, omega (arith, c .cursor-at .ensures .2))

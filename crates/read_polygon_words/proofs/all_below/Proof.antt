@@ -1,4 +1,4 @@
--- `polygon_words::all_below` meets its contract. The loop's invariant: what is left is below exactly when all are.
+-- `read_polygon_words::all_below` meets its contract. The loop's invariant: what is left is below exactly when all are.
 use Prim.Native.Nat.{_-_, _*_, _≤_}
 use mathlib.Core.Path.{_≡_, _∙_}
 use lib.ListN.{drop}

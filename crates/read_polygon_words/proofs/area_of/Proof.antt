@@ -1,4 +1,4 @@
--- `polygon_words::area_of` meets its contract.
+-- `read_polygon_words::area_of` meets its contract: by the test against the area count: an index below it is looked up (`area-in`), any other gives none (`area-none`).
 use borrow.Author.Needs.{needs}
 use Rattle.read_polygon_words.proofs.Words.{area-in, area-none}
 use Rattle.read_polygon_words.proofs.area_of.Statement.{statement}

@@ -1,4 +1,4 @@
--- `polygon_words::index_at` meets its contract.
+-- `read_polygon_words::index_at` meets its contract: an index that is read in its own two bytes is the one that is read in the run (`own-bytes`).
 use borrow.Author.Needs.{needs}
 use Rattle.read_polygon_words.proofs.Words.{own-bytes}
 use Rattle.read_polygon_words.proofs.index_at.Statement.{statement}

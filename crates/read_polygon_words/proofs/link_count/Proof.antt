@@ -1,4 +1,4 @@
--- `polygon_words::link_count` meets its contract.
+-- `read_polygon_words::link_count` meets its contract: by the test on the end of the run, which is either in the table (`links-all`) or not (`links-none`).
 use native.Mathlib.Omega.{arith}
 use denote.Ref.{now}
 use borrow.Author.Needs.{needs}

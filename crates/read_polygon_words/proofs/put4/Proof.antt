@@ -1,4 +1,4 @@
--- `polygon_words::put4` meets its contract.
+-- `read_polygon_words::put4` meets its contract: three words by `put3` and a fourth behind them are four (`put-four`).
 use borrow.Author.Needs.{needs}
 use Rattle.read_polygon_words.proofs.Words.{put-four}
 use Rattle.read_polygon_words.proofs.put4.Statement.{statement}

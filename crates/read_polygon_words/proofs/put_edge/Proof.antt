@@ -1,4 +1,4 @@
--- `polygon_words::put_edge` meets its contract.
+-- `read_polygon_words::put_edge` meets its contract: the halves are stored one behind the other, and both stores make one.
 use mathlib.Core.Path.{_∙_}
 use borrow.Author.Needs.{needs}
 use Rattle.read_polygon_words.proofs.Words.{edge-put}

@@ -1,11 +1,12 @@
--- `polygon_words::put_edge_run` meets its contract. The loop's invariant: storing what is left from here gives what is promised.
+-- `read_polygon_words::put_edge_run` meets its contract. The loop's invariant: storing what is left from here gives what is promised.
 use native.Mathlib.Omega.{arith}
 use Prim.Native.Nat.{ℕ, _+_, _-_, _*_, _≤_}
 use mathlib.Core.Path.{_≡_, refl, sym, ap, _∙_}
 use mathlib.Core.List.{map}
 use lib.ListN.{length, take, drop}
 use borrow.Author.Needs.{needs}
-use Rattle.fields.specs.Bytes.{put, cut}
+use Rattle.fields.specs.Bytes.{cut}
+use Rattle.fields.specs.Put.{put}
 use Rattle.fields.proofs.Puts.{length-put}
 use Rattle.strip.specs.Cell.{each, edgeWords}
 use Rattle.read_grammar.specs.Polygons.{edgeOf}

@@ -1,4 +1,4 @@
--- `polygon_words::put_front` meets its contract.
+-- `read_polygon_words::put_front` meets its contract: the four words and the links behind them are stored in turn, and both stores make one.
 use native.Mathlib.Omega.{arith}
 use mathlib.Core.Path.{ap, _∙_}
 use lib.ListN.{length}

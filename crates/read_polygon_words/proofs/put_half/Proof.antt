@@ -1,4 +1,4 @@
--- `polygon_words::put_half` meets its contract.
+-- `read_polygon_words::put_half` meets its contract: the three words stored are those of the decoded half, its area looked up (`half-words`).
 use mathlib.Core.Path.{_∙_}
 use borrow.Author.Needs.{needs}
 use Rattle.read_grammar.specs.Derives.{areaOf}

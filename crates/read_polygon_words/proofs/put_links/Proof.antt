@@ -1,12 +1,13 @@
--- `polygon_words::put_links` meets its contract. The loop's invariant: storing what is left from here gives what is promised.
+-- `read_polygon_words::put_links` meets its contract. The loop's invariant: storing what is left from here gives what is promised.
 use Prim.Native.Nat.{_+_, _-_, _≤_}
 use native.Mathlib.Nat.{add-zero}
 use mathlib.Core.Path.{_≡_, refl, sym, _∙_}
 use lib.ListN.{length, drop, length-set}
 use borrow.Author.Needs.{needs}
-use Rattle.fields.specs.Bytes.{put}
+use Rattle.fields.specs.Put.{put}
 use Rattle.read_grammar.specs.Polygons.{linkRun}
-use Rattle.read_polygon_words.specs.Words.{linksOf, linkStart, linksNamed}
+use Rattle.read_polygon_words.specs.Words.{linkStart, linksNamed}
+use Rattle.read_polygon_words.specs.Front.{linksOf}
 use Rattle.read_polygon_words.proofs.Words.{link-step, links-end}
 use Rattle.read_polygon_words.proofs.put_links.Statement.{statement}
 use Rattle.read_polygon_words.proofs.put_links.Tie as tie

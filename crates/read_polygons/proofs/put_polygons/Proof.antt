@@ -1,4 +1,4 @@
--- `polygons::put_polygons` meets its contract. The loop's invariant is `Going`: storing what is left from here gives what is promised.
+-- `read_polygons::put_polygons` meets its contract. The loop's invariant is `Going`: storing what is left from here gives what is promised.
 use Prim.Native.Nat.{_-_, _/_, _≤_}
 use native.Mathlib.Omega.{arith}
 use mathlib.Core.Path.{refl}
@@ -6,8 +6,8 @@ use lib.ListN.{length, drop}
 use borrow.Author.Needs.{needs}
 use Rattle.fields.specs.Bytes.{cut}
 use Rattle.read_lists.specs.Cursors.{AtPart}
-use Rattle.read_polygons.specs.Passes.{itemsIn}
-use Rattle.read_polygons.proofs.Runs.{length-items, part-next, none-left}
+use Rattle.read_list_set.specs.Items.{itemsIn}
+use Rattle.read_list_set.proofs.Runs.{length-items, part-next, none-left}
 use Rattle.read_polygons.proofs.InOrder.{Going, begins, run-asks, goes-on, ends}
 use Rattle.read_polygons.proofs.put_polygons.Statement.{statement}
 use Rattle.read_polygons.proofs.put_polygons.Tie as tie
@@ -35,7 +35,10 @@ walk-to-requires c κs =
 
 list-run-requires : tie.Need-list-run-requires Inv-loop μ-loop
 list-run-requires c κs =
-    let start = c .before .before .before .before .before .before .before .before .before .before .before .before .before .before .before .before .before .before in
+    let midway = c .before .before .before .before .before in
+    let midway-2 = midway .before .before .before .before .before in
+    let midway-3 = midway-2 .before .before .before .before .before in
+    let start = midway-3 .before .before .before in
     (start .pre .0 .3, c .walk-to .ensures, omega arith)
 
 put-run-requires : tie.Need-put-run-requires Inv-loop μ-loop

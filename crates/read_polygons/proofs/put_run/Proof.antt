@@ -1,11 +1,11 @@
--- `polygons::put_run` meets its contract. The loop's invariant is `Going`: storing what is left from here gives what is promised.
+-- `read_polygons::put_run` meets its contract. The loop's invariant is `Going`: storing what is left from here gives what is promised.
 use Prim.Native.Nat.{_-_, _*_, _≤_}
 use native.Mathlib.Nat.{sub-zero}
 use native.Mathlib.Omega.{arith}
 use lib.ListN.{drop}
 use borrow.Author.Needs.{needs}
 use Rattle.fields.specs.Bytes.{cut}
-use Rattle.read_polygons.proofs.Runs.{record-next, record-none}
+use Rattle.read_list_set.proofs.Runs.{record-next, record-none}
 use Rattle.read_polygons.proofs.InOrder.{Going, begins, polygon-asks, one-on, ends}
 use Rattle.read_polygons.proofs.put_run.Statement.{statement}
 use Rattle.read_polygons.proofs.put_run.Tie as tie
@@ -17,27 +17,53 @@ abbrev μ-loop : tie.MeasureT-loop
 μ-loop system graphics vertices indices edges links header bb-min bb-size run m out₀ at c₀ e₀ k₀ out c e k = m - k
 
 loop-holds : tie.Need-loop-holds Inv-loop μ-loop
-loop-holds c = (search needs, begins _ _ _ _ _ _ _ _ _ _ _ _ (c .before .before .before .before .before .before .before .before .before .pre .0) (c .before .before .before .before .before .before .before .before .before .pre .2) (rw (sub-zero (c .before .before .before .before .before .before .before .before .before .args .m))))
+loop-holds c =
+    let midway = c .before .before .before .before .before in
+    let entry = midway .before .before .before .before in
+    (search needs, begins _ _ _ _ _ _ _ _ _ _ _ _ (entry .pre .0) (entry .pre .2) (rw (sub-zero (entry .args .m))))
 
 part-put-polygon-end : tie.Need-part-put-polygon-end Inv-loop μ-loop
-part-put-polygon-end c = omega (arith, c .loop-test .taken, c .before .before .before .before .before .before .before .before .before .before .before .pre .1)
+part-put-polygon-end c =
+    let midway = c .before .before .before .before .before in
+    let midway-2 = midway .before .before .before .before .before in
+    let entry = midway-2 .before in
+    omega (arith, c .loop-test .taken, entry .pre .1)
 
 put-polygon-requires : tie.Need-put-polygon-requires Inv-loop μ-loop
-put-polygon-requires c κs = polygon-asks _ _ _ _ _ _ _ _ _ _ _ _ (c .before .before .before .loop .inv .1) _ _ (record-next (c .before .before .before .before .before .before .before .before .before .before .before .before .before .args .run .now) (c .before .before .before .before .before .before .before .before .before .before .before .before .before .args .m) (c .before .before .before .loop .k) (c .before .before .loop-test .taken))
+put-polygon-requires c κs =
+    let at-loop = c .before .before .before in
+    let midway = at-loop .before .before .before .before .before in
+    let entry = midway .before .before .before .before .before in
+    polygon-asks _ _ _ _ _ _ _ _ _ _ _ _ (at-loop .loop .inv .1) _ _ (record-next (entry .args .run .now) (entry .args .m) (at-loop .loop .k) (c .before .before .loop-test .taken))
 
 add-k : tie.Need-add-k Inv-loop μ-loop
-add-k c = omega (arith, c .before .before .before .before .before .before .loop-test .taken, c .before .before .before .before .before .before .before .before .before .before .before .before .before .before .before .before .before .fits)
+add-k c =
+    let midway = c .before .before .before .before .before in
+    let tested = midway .before in
+    let midway-2 = tested .before .before .before .before .before in
+    let midway-3 = midway-2 .before .before .before .before .before in
+    let entry = midway-3 .before in
+    omega (arith, tested .loop-test .taken, entry .fits)
 
 loop-again : tie.Need-loop-again Inv-loop μ-loop
-loop-again c = (omega (arith, c .before .before .before .before .before .before .loop-test .taken), one-on _ _ _ _ _ _ _ _ _ _ _ _ (c .before .before .before .before .before .before .before .loop .inv .1) _ _ (record-next (c .before .before .before .before .before .before .before .before .before .before .before .before .before .before .before .before .before .args .run .now) (c .before .before .before .before .before .before .before .before .before .before .before .before .before .before .before .before .before .args .m) (c .before .before .before .before .before .before .before .loop .k) (c .before .before .before .before .before .before .loop-test .taken)) (c .before .before .before .put-polygon .ensures))
+loop-again c =
+    let after-put-polygon = c .before .before .before in
+    let tested = after-put-polygon .before .before .before in
+    let at-loop = tested .before in
+    let midway = at-loop .before .before .before .before .before in
+    let entry = midway .before .before .before .before .before in
+    (omega (arith, tested .loop-test .taken), one-on _ _ _ _ _ _ _ _ _ _ _ _ (at-loop .loop .inv .1) _ _ (record-next (entry .args .run .now) (entry .args .m) (at-loop .loop .k) (tested .loop-test .taken)) (after-put-polygon .put-polygon .ensures))
 
 same-length : tie.Need-same-length Inv-loop μ-loop
 same-length c = c .before .loop .inv .1 .same-length
 
 returns : tie.Need-returns Inv-loop μ-loop
 returns c =
-    let g = c .before .loop .inv .1 in
-    let (next, strip) = ends _ _ _ _ _ _ _ _ _ _ _ _ g (record-none (c .before .before .before .before .before .before .before .before .before .before .before .args .run .now) (c .before .before .before .before .before .before .before .before .before .before .before .args .m) (c .before .loop .k) (c .loop-test .left)) in
+    let at-loop = c .before in
+    let midway = at-loop .before .before .before .before .before in
+    let entry = midway .before .before .before .before .before in
+    let g = at-loop .loop .inv .1 in
+    let (next, strip) = ends _ _ _ _ _ _ _ _ _ _ _ _ g (record-none (entry .args .run .now) (entry .args .m) (at-loop .loop .k) (c .loop-test .left)) in
     record { next = next; ready = g .ready; strip = strip }
 
 pub put-run-spec : {M : Type 1} → statement M

@@ -22,7 +22,7 @@ returns c =
     let k = c .before .before .before .u8-le2 in
     let small : a .result < 256 = omega arith in
     let few : k .result < 256 = omega arith in
-    point-put _ _ _ (a .ensures) (k .ensures) (c .before .before .u16-le .ensures) (c .before .u16-le2 .ensures) (c .u16-le3 .ensures) small few
+    point-put _ _ _ (omega arith) (a .ensures) (k .ensures) (c .before .before .u16-le .ensures) (c .before .u16-le2 .ensures) (c .u16-le3 .ensures) small few
 
 pub put-point-spec : {M : Type 1} → statement M
 put-point-spec =

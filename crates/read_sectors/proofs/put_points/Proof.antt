@@ -3,12 +3,13 @@ use Prim.Native.Nat.{ℕ, _+_, _-_, _*_, _≤_}
 use native.Mathlib.Omega.{arith}
 use mathlib.Core.Path.{_≡_, refl, sym, ap, _∙_}
 use lib.ListN.{length, take, drop}
-use Rattle.fields.specs.Bytes.{put, cut}
+use Rattle.fields.specs.Bytes.{cut}
+use Rattle.fields.specs.Put.{put}
 use Rattle.strip.specs.Cell.{pointWords}
 use Rattle.read_grammar.specs.Derives.{pointOf}
 use Rattle.read_sectors.specs.Write.{asShorts, pointsWords}
 use Rattle.read_records.proofs.Items.{put-begin, put-item, put-end}
-use Rattle.read_sectors.proofs.Stores.{point-length}
+use Rattle.strip.proofs.Plain.{point-length}
 use borrow.Author.Needs.{needs}
 use Rattle.read_sectors.proofs.put_points.Statement.{statement}
 use Rattle.read_sectors.proofs.put_points.Tie as tie

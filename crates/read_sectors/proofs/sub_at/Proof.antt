@@ -1,4 +1,4 @@
--- `sector_tree::sub_at` meets its contract: the address is read at the place that is promised, however its sum is written.
+-- `read_sectors::sub_at` meets its contract: the address is read at the place that is promised, however its sum is written.
 use Prim.Native.Nat.{ℕ, _+_, _*_}
 use mathlib.Core.Path.{_≡_}
 use mathlib.Core.List.{List}

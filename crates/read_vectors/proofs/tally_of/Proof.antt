@@ -1,13 +1,14 @@
 -- `read_vectors::tally_of` meets its contract. The loop's invariant: the tally is of the records passed. The measure is how many bytes are left.
-use Prim.Native.Nat.{_-_, _≤_}
+use Prim.Native.Nat.{ℕ, _-_, _≤_}
 use native.Mathlib.Omega.{arith}
 use mathlib.Core.Path.{refl, sym, _∙_}
 use lib.ListN.{length}
+use denote.Ref.{now}
 use Rattle.replay.specs.Tallies.{Tallied, at-first}
-use Rattle.replay.proofs.Tallies.{later}
+use Rattle.replay.proofs.Tallies.{later, one-record}
 use borrow.Author.Needs.{needs}
-use Rattle.read_vectors.specs.Agreement.{PassedAt}
-use Rattle.read_vectors.proofs.Records.{one-record}
+use Rattle.read_replay.specs.Agreement.{PassedAt, Agrees, recordOf}
+use Rattle.read_replay.specs.declared.Record.{Record}
 use Rattle.read_vectors.proofs.tally_of.Statement.{statement}
 use Rattle.read_vectors.proofs.tally_of.Tie as tie
 
@@ -41,9 +42,10 @@ loop-again : tie.Need-loop-again Inv-loop μ-loop
 loop-again c =
     let here = c .before .before .before .before .before .loop in
     let r = c .before .record-at in
+    let all = now (c .before .before .before .before .before .before .before .args .bytes) in
     let stands = r .ensures .1 in (
       stands .within,
-      one-record _ _ _ _ (r .result) _ _ (here .inv .1) (omega arith, omega (arith, c .before .before .before .u32-le .ensures)) (r .ensures .0) (c .with-record .ensures .0),
+      one-record _ _ (λ (k : ℕ) (z : Record). Agrees all k z) (λ (k : ℕ). recordOf all k) (λ (z : Record). z .next) _ _ (r .result) _ _ (here .inv .1) (omega arith, omega (arith, c .before .before .before .u32-le .ensures)) (r .ensures .0) (c .with-record .ensures .0),
       later _ _ _ _ (c .with-record .ensures .1) (omega (arith, stands .starts, stands .behind, stands .last, stands .ends)),
     )
 

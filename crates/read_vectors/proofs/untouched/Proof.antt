@@ -1,8 +1,8 @@
--- `read_vectors::untouched` meets its contract.
+-- `read_vectors::untouched` meets its contract: an array of so many equal words is that list, and has that length.
 use Prim.Native.Nat.{ℕ}
 use mathlib.Core.Path.{refl, sym}
 use lib.ListN.{length-replicate}
-use Rattle.read_vectors.specs.Agreement.{untouchedWords}
+use Rattle.read_replay.specs.Agreement.{untouchedWords}
 use Rattle.read_vectors.proofs.untouched.Statement.{statement}
 use Rattle.read_vectors.proofs.untouched.Tie as tie
 

@@ -1,4 +1,4 @@
--- `replay::end_of` meets its contract.
+-- `replay::end_of` meets its contract: by the definition of a record's end, in numbers.
 use Rattle.replay.specs.Ends.{recordEnd}
 use borrow.Author.Needs.{needs}
 use Rattle.replay.proofs.end_of.Statement.{statement}

@@ -1,4 +1,4 @@
--- `replay::padded` meets its contract.
+-- `replay::padded` meets its contract: by the definition of the padded length, in numbers.
 use Rattle.replay.specs.Ends.{padded}
 use borrow.Author.Needs.{needs}
 use Rattle.replay.proofs.padded.Statement.{statement}

@@ -1,4 +1,4 @@
--- `replay::tallied` meets its contract.
+-- `replay::tallied` meets its contract: a record that agrees adds one to the count, and one that doesn't makes the first bad place the lesser of the two.
 use Prim.Native.Nat.{ℕ, _+_, min}
 use native.Mathlib.Omega.{arith}
 use mathlib.Core.Path.{_≡_, ap}

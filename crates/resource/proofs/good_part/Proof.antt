@@ -3,7 +3,7 @@ use native.Mathlib.Omega.{arith}
 use mathlib.Core.Path.{sym}
 use lib.Bits.{and-le-l}
 use borrow.Author.Needs.{needs}
-use Rattle.resource.specs.Section.{resolvedAt}
+use Rattle.resource.specs.Places.{resolvedAt}
 use Rattle.resource.proofs.Masks.{graphics, not-graphics}
 use Rattle.resource.proofs.Good.{graphics-part, system-part}
 use Rattle.resource.proofs.good_part.Statement.{statement}

@@ -1,7 +1,7 @@
 -- `resource::locate` meets its contract: the masks test the bits of `located`.
 use native.Mathlib.Omega.{arith}
 use lib.Bits.{and-le-l}
-use Rattle.resource.specs.Section.{located}
+use Rattle.resource.specs.Places.{located}
 use Rattle.resource.proofs.Masks.{graphics, not-graphics, system, not-system}
 use Rattle.resource.proofs.locate.Statement.{statement}
 use Rattle.resource.proofs.locate.Tie as tie

@@ -31,7 +31,7 @@ returns : tie.Need-returns
 unfolding headAt
 returns c =
     let w = well _ _ _ (c .before .before .before .before .before .check-strip .ensures) (c .before .before .before .n .given .1) in
-    rw (w .is, w .head, w .polys) (ap values (c .poly-seams .ensures))
+    rw (w .is) (ap values (c .poly-seams .ensures))
 
 returns-2 : tie.Need-returns-2
 returns-2 c = rw (not-well _ _ _ (c .before .before .before .check-strip .ensures) (c .before .r .given .1))

@@ -1,14 +1,20 @@
 -- `seams::edge_seams` meets its contract. The invariant: the counted halves of all the edges are the count and those of the edges that are left, from `place` on.
-use Prim.Native.Nat.{_+_, _-_, _*_, _≤_}
+use Prim.Native.Nat.{ℕ, _+_, _-_, _*_, _≤_}
+use mathlib.Core.List.{List}
 use lib.ListN.{length}
 use mathlib.Core.Path.{ap, _≡_}
 use native.Mathlib.Nat.{zero-add, sub-zero}
 use native.Mathlib.Omega.{arith}
-use Rattle.strip.specs.Reading.{edgeAt, edgesAt}
+use Rattle.strip.specs.Reading.{halfAt, edgeAt, edgesAt}
+use Rattle.strip.specs.Tests.{one}
 use Rattle.strip.proofs.Steps.{items-turn, items-done}
 use Rattle.seams.specs.Seams.{counted, edgeCount}
 use Rattle.seams.proofs.edge_seams.Statement.{statement}
 use Rattle.seams.proofs.edge_seams.Tie as tie
+
+-- whether a half is counted depends on where it stands
+half-at : (s : List ℕ) (own at : ℕ) {p r : ℕ} → r ≡ one (counted own (halfAt s p)) → p ≡ at → r ≡ one (counted own (halfAt s at))
+half-at s own at e f = rw f at e
 
 abbrev Inv-loop : tie.InvT-loop
 Inv-loop strip at n own count₀ place₀ i₀ count place i =
@@ -51,7 +57,9 @@ loop-again c =
     let a = c .before .before .before .before .before .args in
     let l = c .before .before .before .loop in
     let t = ap (edgeCount (counted (a .own))) (items-turn (edgeAt (a .strip .now)) (λ x. x + 6) (l .place) (l .i) (a .n) (c .before .before .loop-test .taken)) in
-    (omega arith, omega arith, omega (arith, t), omega arith)
+    let first = half-at (a .strip .now) (a .own) (l .place) (c .before .half-seams .ensures .0) (omega arith) in
+    let second = half-at (a .strip .now) (a .own) (l .place + 3) (c .half-seams2 .ensures .0) (omega arith) in
+    (omega arith, omega arith, omega (arith, t, first, second), omega arith)
 
 returns : tie.Need-returns Inv-loop μ-loop
 unfolding edgeCount

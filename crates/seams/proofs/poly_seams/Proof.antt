@@ -5,7 +5,8 @@ use lib.ListN.{length}
 use mathlib.Core.Path.{refl, _≡_, ap}
 use native.Mathlib.Nat.{sub-zero, zero-add}
 use native.Mathlib.Omega.{arith}
-use Rattle.strip.specs.Reading.{polygonOf, polygonAt, polygonsAt, afterPolygons, polyAt}
+use Rattle.strip.specs.Reading.{polygonOf, polygonAt, polyAt}
+use Rattle.strip.specs.Rows.{polygonsAt, afterPolygons}
 use Rattle.strip.proofs.Steps.{polygons-turn, items-done, parts, after-polygon, next-inside}
 use Rattle.seams.specs.Seams.{counted, halfCount}
 use Rattle.seams.proofs.poly_seams.Statement.{statement}

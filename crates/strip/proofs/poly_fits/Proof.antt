@@ -7,9 +7,6 @@ use Rattle.strip.specs.Scan.{polyFits}
 use Rattle.strip.proofs.poly_fits.Statement.{statement}
 use Rattle.strip.proofs.poly_fits.Tie as tie
 
-add-if1 : tie.Need-add-if1
-add-if1 c = search needs
-
 mul-if1 : tie.Need-mul-if1
 mul-if1 c = search needs
 
@@ -19,9 +16,6 @@ shared-slice-read-if1 c = search needs
 returns : tie.Need-returns
 unfolding polyFits
 returns c = simp (le-ltb _ _ (c .if1 .taken))
-
-add-all-below : tie.Need-add-all-below
-add-all-below c = search needs
 
 all-below-requires : tie.Need-all-below-requires
 all-below-requires c κs = search needs
@@ -41,11 +35,9 @@ pub poly-fits-spec : {M : Type 1} → statement M
 poly-fits-spec =
     tie.close
     (tie.spec
-    add-if1
     mul-if1
     shared-slice-read-if1
     returns
-    add-all-below
     all-below-requires
     edges-fit-requires
     returns-2

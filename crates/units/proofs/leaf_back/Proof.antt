@@ -1,4 +1,4 @@
--- `leaves::leaf_back` meets its contract: its callees' equations.
+-- `units::leaf_back` meets its contract: its callees' equations.
 use mathlib.Core.Path.{ap, _∙_}
 use lib.Ieee.{binary32, toBits}
 use borrow.Author.Needs.{needs}

@@ -1,10 +1,11 @@
--- `leaves::leaf_check_strip` meets its contract: the words of what its callee answers.
+-- `units::leaf_check_strip` meets its contract: the words of what its callee answers.
 use mathlib.Core.Path.{sym, ap, _∙_}
 use denote.Ref.{now}
-use Rattle.fields.specs.Bytes.{over, put}
+use Rattle.fields.specs.Bytes.{over}
+use Rattle.fields.specs.Put.{put}
 use Rattle.fields.proofs.Puts.{put-one}
 use Rattle.strip.specs.Outcome.{Paper}
-use Rattle.strip.specs.Check.{paper}
+use Rattle.strip.specs.Checked.{paper}
 use Rattle.strip.specs.declared.Counts.{Counts}
 use Rattle.units.specs.Entries.{numberOf, answerOf}
 use Rattle.fields.proofs.Puts.{put-three}

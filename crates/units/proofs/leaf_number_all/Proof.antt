@@ -1,6 +1,7 @@
--- `leaves::leaf_number_all` meets its contract: the number of what its callee answers.
+-- `units::leaf_number_all` meets its contract: the number of what its callee answers.
 use native.Mathlib.Omega.{arith}
 use mathlib.Core.Path.{sym, ap, _∙_}
+use Rattle.write_vertices.specs.Vertices.{allPaper}
 use Rattle.units.specs.Entries.{countOrWhy}
 use borrow.Author.Needs.{needs}
 use Rattle.units.proofs.leaf_number_all.Statement.{statement}
@@ -23,21 +24,21 @@ same-length c = search needs
 
 returns : tie.Need-returns
 returns c = let e = c .before .before .before .before .before .number-all .ensures in
-    (sym (ap countOrWhy (sym (e .answer) ∙ c .before .n .given .1)), (λ h. e .numbers _ (c .before .n .given .1), e .rest))
+    (sym (ap countOrWhy (sym (e .answer) ∙ ap allPaper (c .before .n .given .1))), (λ h. e .numbers _ (c .before .n .given .1), e .rest))
 
 same-length-2 : tie.Need-same-length-2
 same-length-2 c = search needs
 
 returns-2 : tie.Need-returns-2
 returns-2 c = let e = c .before .before .before .before .number-all .ensures in
-    (sym (ap countOrWhy (sym (e .answer) ∙ c .enum-told .given .1)), (λ h. absurd (omega arith), e .rest))
+    (sym (ap countOrWhy (sym (e .answer) ∙ ap allPaper (c .enum-told .given .1))), (λ h. absurd (omega arith), e .rest))
 
 same-length-3 : tie.Need-same-length-3
 same-length-3 c = search needs
 
 returns-3 : tie.Need-returns-3
 returns-3 c = let e = c .before .before .before .before .number-all .ensures in
-    (sym (ap countOrWhy (sym (e .answer) ∙ c .enum-told2 .given .1)), (λ h. absurd (omega arith), e .rest))
+    (sym (ap countOrWhy (sym (e .answer) ∙ ap allPaper (c .enum-told2 .given .1))), (λ h. absurd (omega arith), e .rest))
 
 pub leaf-number-all-spec : {M : Type 1} → statement M
 leaf-number-all-spec =

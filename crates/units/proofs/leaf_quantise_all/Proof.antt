@@ -1,4 +1,4 @@
--- `leaves::leaf_quantise_all` meets its contract. The loop's invariant: the shorts of the vertices passed are stored over the output.
+-- `units::leaf_quantise_all` meets its contract. The loop's invariant: the shorts of the vertices passed are stored over the output.
 -- The measure is how many vertices are left.
 use Prim.Native.Nat.{ℕ, zero, suc, _≤_, _-_, _*_, _+_, min}
 use native.Mathlib.Nat.{zero-add, min-le-left, min-le-right}
@@ -12,7 +12,7 @@ use denote.Ref.{now}
 use Rattle.math.specs.declared.vec3.Vec3.{Vec3}
 use Rattle.quantise.specs.Short.{shorts}
 use Rattle.quantise.specs.declared.short.Shorts.{Shorts}
-use Rattle.fields.specs.Bytes.{put}
+use Rattle.fields.specs.Put.{put}
 use Rattle.fields.proofs.Puts.{put-nil, put-next}
 use Rattle.math.specs.Floats.{floatsAt}
 use Rattle.units.specs.Entries.{shortsTo}

@@ -1,4 +1,4 @@
--- `leaves::leaf_quarter` meets its contract: its callees' equations, by the test.
+-- `units::leaf_quarter` meets its contract: its callees' equations, by the test.
 use mathlib.Core.Path.{_≡_, ap, _∙_}
 use mir.Syntax.{w16}
 use mir.Val.{toZ, ofZ}

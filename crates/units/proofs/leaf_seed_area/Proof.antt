@@ -1,4 +1,4 @@
--- `leaves::leaf_seed_area` meets its contract: the table is the seeds over zeros.
+-- `units::leaf_seed_area` meets its contract: the table is the seeds over zeros.
 use Prim.Native.Nat.{ℕ, zero, suc, _≤_, _<_}
 use native.Mathlib.Nat.{not-suc-le-zero, le-of-suc-le-suc}
 use native.Mathlib.Omega.{arith}

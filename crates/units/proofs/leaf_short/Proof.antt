@@ -1,4 +1,4 @@
--- `leaves::leaf_short` meets its contract: its callees' equations.
+-- `units::leaf_short` meets its contract: its callees' equations.
 use borrow.Author.Needs.{needs}
 use Rattle.units.proofs.leaf_short.Statement.{statement}
 use Rattle.units.proofs.leaf_short.Tie as tie

@@ -1,4 +1,4 @@
--- `leaves::store` meets its contract.
+-- `units::store` meets its contract: three words set one behind the other are one store of three (`put-three`).
 use native.Mathlib.Omega.{arith}
 use lib.ListN.{length-set}
 use Rattle.fields.proofs.Puts.{put-three}

@@ -1,4 +1,4 @@
--- `vectors::record_at` meets its contract.
+-- `vectors::record_at` meets its contract: its fields are the words at `at`, each cut to what is left, as `recordEnd` sums them.
 use Prim.Native.Nat.{_+_}
 use native.Mathlib.Omega.{arith}
 use Rattle.replay.specs.Ends.{recordEnd}

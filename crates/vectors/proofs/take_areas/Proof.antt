@@ -4,7 +4,8 @@ use native.Mathlib.Omega.{arith}
 use mathlib.Core.Path.{_≡_}
 use lib.ListN.{length, getD, drop}
 use Rattle.fields.specs.Bytes.{zeros}
-use Rattle.areas.specs.Areas.{seeded, stored}
+use Rattle.areas.specs.Areas.{seeded}
+use Rattle.areas.specs.Tables.{stored}
 use Rattle.vectors.specs.Agreement.{taking}
 use Rattle.vectors.proofs.Turns.{one-more, full, no-more}
 use borrow.Author.Needs.{needs}

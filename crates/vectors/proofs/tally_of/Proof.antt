@@ -1,12 +1,13 @@
 -- `vectors::tally_of` meets its contract. The loop's invariant: the tally is of the records passed. The measure is how many words are left.
-use Prim.Native.Nat.{_-_, _≤_}
+use Prim.Native.Nat.{ℕ, _-_, _≤_}
 use native.Mathlib.Omega.{arith}
 use mathlib.Core.Path.{refl}
 use lib.ListN.{length}
+use denote.Ref.{now}
 use Rattle.replay.specs.Tallies.{Tallied, at-first}
-use Rattle.replay.proofs.Tallies.{later}
-use Rattle.vectors.specs.Agreement.{PassedAt}
-use Rattle.vectors.proofs.Turns.{one-record}
+use Rattle.replay.proofs.Tallies.{later, one-record}
+use Rattle.vectors.specs.Agreement.{PassedAt, AgreesAt, recordOf}
+use Rattle.vectors.specs.declared.Record.{Record}
 use Rattle.vectors.proofs.tally_of.Statement.{statement}
 use Rattle.vectors.proofs.tally_of.Tie as tie
 
@@ -35,9 +36,10 @@ loop-again : tie.Need-loop-again Inv-loop μ-loop
 loop-again c =
     let r = c .before .record-at in
     let here = c .before .before .before .loop in
+    let all = now (c .before .before .before .before .before .args .words) in
     let stands = r .ensures .1 in (
       stands .within,
-      one-record _ _ _ _ (r .result) _ _ (here .inv .1) (omega (arith, c .before .before .loop-test)) (r .ensures .0) (c .with-record .ensures .0),
+      one-record _ _ (λ (k : ℕ) (z : Record). AgreesAt all k z) (λ (k : ℕ). recordOf all k) (λ (z : Record). z .next) _ _ (r .result) _ _ (here .inv .1) (omega (arith, c .before .before .loop-test)) (r .ensures .0) (c .with-record .ensures .0),
       later _ _ _ _ (c .with-record .ensures .1) (omega (arith, stands .starts, stands .ends, stands .behind)),
     )
 

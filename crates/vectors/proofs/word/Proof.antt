@@ -1,4 +1,4 @@
--- `vectors::word` meets its contract.
+-- `vectors::word` meets its contract: a word inside the slice is read, and one behind its end is the default 0.
 use mathlib.Core.Path.{sym}
 use lib.ListN.{List·getD-eq-default}
 use borrow.Author.Needs.{needs}

@@ -1,10 +1,11 @@
--- `blocks::lay_list_header` meets its contract: the words' bytes are the fields'.
+-- `write_blocks::lay_list_header` meets its contract: the words' bytes are the fields'.
 use mathlib.Core.Path.{_≡_, ap, _∙_}
 use mathlib.Core.List.{List, [], _∷_, append-assoc}
 use Prim.Native.Nat.{ℕ, _<_, _^_}
 use native.Mathlib.Omega.{arith}
 use lib.Dec.{lit<}
-use Rattle.fields.specs.Bytes.{les, put}
+use Rattle.fields.specs.Bytes.{les}
+use Rattle.fields.specs.Put.{put}
 use Rattle.fields.specs.Rows.{rowBytes}
 use Rattle.fields.proofs.Bytes.{le-address}
 use Rattle.fields.proofs.Rows.{length-rows}

@@ -1,4 +1,4 @@
--- `blocks::lay_offsets` meets its contract: zeros up to the place, then the offsets, if there is a part.
+-- `write_blocks::lay_offsets` meets its contract: zeros up to the place, then the offsets, if there is a part.
 use mathlib.Core.Path.{_≡_, sym, _∙_}
 use native.Mathlib.Omega.{arith}
 use denote.Ref.{now}

@@ -1,4 +1,4 @@
--- `blocks::lay_table` meets its contract: zeros up to the place, then the table.
+-- `write_blocks::lay_table` meets its contract: zeros up to the place, then the table.
 use Prim.Native.Nat.{_*_, _^_, _<_}
 use native.Mathlib.Omega.{arith}
 use Rattle.write_blocks.specs.Layout.{behind}

@@ -1,4 +1,4 @@
--- `blocks::list_places` meets its contract: the blocks' ends, one after the other.
+-- `write_blocks::list_places` meets its contract: the blocks' ends, one after the other.
 use native.Mathlib.Omega.{arith}
 use Rattle.write_blocks.proofs.Lists.{Ends, list-ends, per-room}
 use borrow.Author.Needs.{needs}

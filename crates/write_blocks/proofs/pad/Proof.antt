@@ -1,4 +1,4 @@
--- `blocks::pad` meets its contract: the zeros are the bytes of the number 0.
+-- `write_blocks::pad` meets its contract: the zeros are the bytes of the number 0.
 use mathlib.Core.Path.{_∙_}
 use native.Mathlib.Omega.{arith}
 use borrow.Author.Needs.{needs}

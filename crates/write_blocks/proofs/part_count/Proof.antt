@@ -1,4 +1,4 @@
--- `blocks::part_count` meets its contract: a rest of items takes a part more.
+-- `write_blocks::part_count` meets its contract: a rest of items takes a part more.
 use Prim.Native.Nat.{_+_, _-_, _/_, _<_}
 use native.Mathlib.Nat.{div-zero, div-le-self, mod-lt}
 use native.Mathlib.Omega.{arith}

@@ -1,19 +1,21 @@
--- `blocks::parts_end` meets its contract. The loop's invariant: the end behind what is left of the parts is the end behind all.
+-- `write_blocks::parts_end` meets its contract. The loop's invariant: the layout behind what is left of the parts is the one behind all.
 -- The measure is how many are left.
 use mathlib.Core.Path.{_≡_, sym, _∙_}
 use Prim.Native.Nat.{_*_, _^_, _≤_, _<_, _-_}
 use native.Mathlib.Nat.{sub-zero}
 use native.Mathlib.Omega.{arith}
 use borrow.Author.Needs.{needs}
-use Rattle.write_blocks.specs.Layout.{behind, endOf}
+use Rattle.write_blocks.specs.Layout.{behind}
+use Rattle.write_blocks.specs.Laid.{reached}
 use Rattle.write_blocks.specs.Lists.{partCounts, sizes}
-use Rattle.write_blocks.proofs.Lists.{size-turn, room-turn, end-turn}
+use Rattle.write_blocks.proofs.Layouts.{same-ends}
+use Rattle.write_blocks.proofs.Lists.{size-turn, room-turn, reached-turn}
 use Rattle.write_blocks.proofs.parts_end.Statement.{statement}
 use Rattle.write_blocks.proofs.parts_end.Tie as tie
 
 abbrev Inv-loop : tie.InvT-loop
 Inv-loop w per k n next₀ left₀ i₀ next left i =
-    (i ≤ k) × (endOf (next .at) (sizes w (partCounts (k - i) per left)) ≡ endOf (next₀ .at) (sizes w (partCounts k per n)))
+    (i ≤ k) × (reached next (sizes w (partCounts (k - i) per left)) ≡ reached next₀ (sizes w (partCounts k per n)))
 
 abbrev μ-loop : tie.MeasureT-loop
 μ-loop w per k n next₀ left₀ i₀ next left i = k - i
@@ -33,7 +35,7 @@ fits c =
     let l = c .before .before .loop in
     let i : l .i < a .k = omega arith in (
       size-turn (a .per) (a .k) (l .i) (l .left) (c .least .result) i (c .least .ensures) (a .w) (s .pre .0),
-      omega (arith, s .pre .1, l .inv .1, room-turn (a .per) (a .k) (l .i) (l .left) (c .least .result) i (c .least .ensures) (a .w) (l .next .at)),
+      omega (arith, s .pre .1, same-ends (l .next) (a .l) (sizes (a .w) (partCounts (a .k - l .i) (a .per) (l .left))) (sizes (a .w) (partCounts (a .k) (a .per) (a .n))) (l .inv .1), room-turn (a .per) (a .k) (l .i) (l .left) (c .least .result) i (c .least .ensures) (a .w) (l .next .at)),
     )
 
 mul-alloc : tie.Need-mul-alloc Inv-loop μ-loop
@@ -56,7 +58,7 @@ loop-again c =
     let least = c .before .least in
     let a = c .before .before .before .before .args in
     let l = c .before .before .before .loop in
-    (omega arith, rw (c .alloc .ensures) (sym (end-turn (a .per) (a .k) (l .i) (l .left) (least .result) (omega arith) (least .ensures) (a .w) (l .next .at)) ∙ l .inv .1))
+    (omega arith, rw (c .alloc .ensures) (sym (reached-turn (a .per) (a .k) (l .i) (l .left) (least .result) (omega arith) (least .ensures) (a .w) (l .next)) ∙ l .inv .1))
 
 returns : tie.Need-returns Inv-loop μ-loop
 returns c =

@@ -1,4 +1,4 @@
--- `blocks::place` meets its contract.
+-- `write_blocks::place` meets its contract: by the test on the end of the page, which is the one in the definition of the place.
 use borrow.Author.Needs.{needs}
 use borrow.Author.Tests.{le-leb, lt-leb}
 use Rattle.write_blocks.specs.Layout.{placeOf}

@@ -1,4 +1,4 @@
--- `blocks::put_offsets` meets its contract. The loop's invariant: storing what is left of the offsets from here on gives what is promised.
+-- `write_blocks::put_offsets` meets its contract. The loop's invariant: storing what is left of the offsets from here on gives what is promised.
 -- The measure is how many are left.
 use mathlib.Core.Path.{_≡_, refl, _∙_}
 use Prim.Native.Nat.{_+_, _*_, _≤_, _-_}
@@ -6,7 +6,8 @@ use native.Mathlib.Nat.{sub-zero}
 use native.Mathlib.Omega.{arith}
 use borrow.Author.Needs.{needs}
 use lib.ListN.{length}
-use Rattle.fields.specs.Bytes.{les, put}
+use Rattle.fields.specs.Bytes.{les}
+use Rattle.fields.specs.Put.{put}
 use Rattle.fields.proofs.Puts.{put-nil}
 use Rattle.write_blocks.specs.Lists.{partCounts, firsts}
 use Rattle.write_blocks.proofs.Lists.{offsets-turn}

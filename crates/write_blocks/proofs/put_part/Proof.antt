@@ -1,4 +1,4 @@
--- `blocks::put_part` meets its contract: the words' bytes are the fields'.
+-- `write_blocks::put_part` meets its contract: the words' bytes are the fields'.
 use mathlib.Core.Path.{_∙_}
 use mathlib.Core.List.{append-assoc}
 use Prim.Native.Nat.{_<_, _^_}

@@ -1,4 +1,4 @@
--- `blocks::put_table` meets its contract. The loop's invariant: storing what is left of the table from here on gives what is promised.
+-- `write_blocks::put_table` meets its contract. The loop's invariant: storing what is left of the table from here on gives what is promised.
 -- The measure is how many parts are left.
 use mathlib.Core.Path.{_≡_, refl, sym, _∙_}
 use Prim.Native.Nat.{_+_, _*_, _^_, _≤_, _<_, _-_}
@@ -6,7 +6,7 @@ use native.Mathlib.Nat.{sub-zero}
 use native.Mathlib.Omega.{arith}
 use borrow.Author.Needs.{needs}
 use lib.ListN.{length}
-use Rattle.fields.specs.Bytes.{put}
+use Rattle.fields.specs.Put.{put}
 use Rattle.fields.proofs.Puts.{put-nil}
 use Rattle.write_blocks.specs.Layout.{behind, endOf}
 use Rattle.write_blocks.specs.Lists.{partCounts, sizes, tableBytes}

@@ -1,4 +1,4 @@
--- `decide::decide` meets its contract. Assumes nothing.
+-- `write_decide::decide` meets its contract: the strip, the checks before the polygons and the polygons decide in turn, and the first that refuses is the verdict.
 use native.Mathlib.Omega.{arith}
 use Rattle.strip.proofs.Laid.{well, not-well}
 use Rattle.write_decide.proofs.Fronts.{not-formed, room, bad-front, good-front}
@@ -45,10 +45,12 @@ same-length c = search needs
 
 returns : tie.Need-returns
 returns c =
-    let front = c .before .before .before .before .before .before in
+    let told = c .before .before .before .before in
+    let front = told .before .before in
     let formed = front .before .before in
-    let w = well _ _ _ (formed .before .before .check-strip .ensures) (formed .counts .given .1) in
-    good-front _ _ _ w _ (front .front-verdict .ensures) (c .before .before .before .before .enum-told .given .1) _ _ (c .before .before .decide-well .ensures)
+    let after-check-strip = formed .before .before in
+    let w = well _ _ _ (after-check-strip .check-strip .ensures) (formed .counts .given .1) in
+    good-front _ _ _ w _ (front .front-verdict .ensures) (told .enum-told .given .1) _ _ (c .before .before .decide-well .ensures)
 
 returns-2 : tie.Need-returns-2
 returns-2 c =

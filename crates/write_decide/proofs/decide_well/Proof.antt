@@ -1,4 +1,4 @@
--- `decide::decide_well` meets its contract. Assumes nothing.
+-- `write_decide::decide_well` meets its contract: the seeds and the cleared table are where the polygons begin, and what they leave is the answer.
 use mathlib.Core.Path.{refl}
 use native.Mathlib.Omega.{arith}
 use Rattle.strip.specs.Reading.{headAt}
@@ -26,9 +26,13 @@ decide-polygons-requires c κs =
     let cleared = c .before .before .before .before in
     let seeded = cleared .before .before .before in
     let counted = seeded .before in
-    let entry = counted .before .before .before .before .before .before in
+    let after-record-at = counted .before .before .before in
+    let entry = after-record-at .before .before .before in
     let clear = rw (counted .tree-count .ensures) at (cleared .clear .ensures) in
     (entry .pre .1, omega arith, rw (counted .tree-count .ensures) (ready (entry .args .strip .now) _ _ (entry .pre .0) (entry .pre .2) clear _ (seeds-long _ _ (seeded .seed-areas .ensures))))
+
+areas-of-requires : tie.Need-areas-of-requires
+areas-of-requires c κs = search needs
 
 same-length : tie.Need-same-length
 same-length c = search needs
@@ -36,17 +40,18 @@ same-length c = search needs
 returns : tie.Need-returns
 unfolding headAt recordOf
 returns c =
-    let decided = c .before .before .before in
-    let cleared = decided .before .before .before .before .before in
-    let seeded = cleared .before .before .before in
-    let counted = seeded .before in
-    let made = counted .before .before .before in
-    let entry = made .before .before .before in
+    let after-decide-polygons = c .before .before .before .before in
+    let after-clear = after-decide-polygons .before .before .before .before .before in
+    let after-seed-areas = after-clear .before .before .before in
+    let after-tree-count = after-seed-areas .before in
+    let after-record-at = after-tree-count .before .before .before in
+    let entry = after-record-at .before .before .before in
+    let decided = after-decide-polygons .decide-polygons in
     let s = entry .args .strip .now in
-    let clear = rw (counted .tree-count .ensures) at (cleared .clear .ensures) in
-    let done = rw (counted .tree-count .ensures, made .record-at .ensures) at (decided .decide-polygons .ensures) in
-    let seeds = rw (made .record-at .ensures) at (seeds-are _ _ (seeded .seed-areas .ensures)) in
-    polygons-done s (entry .args .counts) (headAt s 0) _ (made .record-at .ensures) _ _ _ _ _ _ _ (entry .pre .0) (entry .pre .2) clear refl seeds done
+    let clear = rw (after-tree-count .tree-count .ensures) at (after-clear .clear .ensures) in
+    let done = rw (after-tree-count .tree-count .ensures, after-record-at .record-at .ensures) at (decided .ensures) in
+    let seeds = rw (after-record-at .record-at .ensures) at (seeds-are _ _ (after-seed-areas .seed-areas .ensures)) in
+    rw (c .areas-of .ensures) (polygons-done s (entry .args .counts) (headAt s 0) _ (after-record-at .record-at .ensures) _ _ _ _ _ _ _ (entry .pre .0) (entry .pre .2) clear refl seeds done)
 
 pub decide-well-spec : {M : Type 1} → statement M
 decide-well-spec =
@@ -57,5 +62,6 @@ decide-well-spec =
     seed-areas-requires
     clear-requires
     decide-polygons-requires
+    areas-of-requires
     same-length
     returns)

@@ -1,4 +1,4 @@
--- `front::put_areas` meets its contract: the ids, and zeros behind them. Assumes nothing.
+-- `write_header::put_areas` meets its contract: the ids, and zeros behind them. Assumes nothing.
 use mathlib.Core.Path.{sym}
 use lib.Seq.{length-take-le}
 use native.Mathlib.Omega.{arith}
@@ -15,7 +15,10 @@ same-length : tie.Need-same-length
 same-length c = search needs
 
 returns : tie.Need-returns
-returns c = areas-all (now (c .before .before .before .before .before .before .before .args .ids)) (c .before .before .before .before .before .before .before .args .len) (now (c .before .before .before .before .before .before .before .args .out)) _ (c .before .before .before .before .before .before .before .pre) (omega (arith, c .before .before .before .before .if1 .taken)) (c .before .before .put-all .ensures)
+returns c =
+    let at-if1 = c .before .before .before .before in
+    let entry = at-if1 .before .before .before in
+    areas-all (now (entry .args .ids)) (entry .args .len) (now (entry .args .out)) _ (entry .pre) (omega (arith, at-if1 .if1 .taken)) (c .before .before .put-all .ensures)
 
 slice-aggregate-put-all : tie.Need-slice-aggregate-put-all
 slice-aggregate-put-all c = sym (length-take-le (c .before .before .before .before .before .args .len) (now (c .before .before .before .before .before .args .ids)) (omega (arith, c .before .before .before .before .before .pre, c .before .before .if1 .left)))
@@ -42,7 +45,12 @@ same-length-2 : tie.Need-same-length-2
 same-length-2 c = search needs
 
 returns-2 : tie.Need-returns-2
-returns-2 c = areas-some _ _ _ _ _ (c .before .before .before .before .before .before .before .before .before .before .before .before .pre) (c .before .before .before .before .before .before .before .before .before .if1 .left) (c .before .before .before .before .before .before .put-all2 .ensures) (c .before .before .put-le .ensures)
+returns-2 c =
+    let after-put-le = c .before .before in
+    let after-put-all2 = after-put-le .before .before .before .before in
+    let at-if1 = after-put-all2 .before .before .before in
+    let entry = at-if1 .before .before .before in
+    areas-some _ _ _ _ _ (entry .pre) (at-if1 .if1 .left) (after-put-all2 .put-all2 .ensures) (after-put-le .put-le .ensures)
 
 pub put-areas-spec : {M : Type 1} → statement M
 put-areas-spec =

@@ -1,10 +1,10 @@
--- `front::put_first` meets its contract: the words have the bytes of the rows. Assumes nothing.
+-- `write_header::put_first` meets its contract: the words have the bytes of the rows. Assumes nothing.
 use mathlib.Core.Path.{ap, _∙_}
 use mathlib.Core.List.{List}
 use Prim.Native.Nat.{ℕ}
 use native.Mathlib.Omega.{arith}
 use denote.Ref.{now}
-use Rattle.fields.specs.Bytes.{put}
+use Rattle.fields.specs.Put.{put}
 use Rattle.cell_record.specs.Record.{headBy}
 use Rattle.write_header.specs.Front.{placesIn, countsIn}
 use Rattle.write_header.proofs.Records.{first-words}

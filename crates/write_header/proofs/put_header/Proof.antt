@@ -1,6 +1,6 @@
--- `front::put_header` meets its contract: the three runs are one. Assumes nothing.
+-- `write_header::put_header` meets its contract: the three runs are one. Assumes nothing.
 use Rattle.cell_record.specs.Record.{headBy}
-use Rattle.areas.specs.Areas.{areaIds}
+use Rattle.areas.specs.Tables.{areaIds}
 use Rattle.write_header.specs.Front.{placesIn, countsIn}
 use Rattle.write_header.proofs.Records.{header-runs}
 use borrow.Author.Needs.{needs}
@@ -24,9 +24,12 @@ same-length c = search needs
 
 returns : tie.Need-returns
 returns c =
-    let first = c .before .before .before .before .before .before .before .before .before .before .before in
-    let a = first .before .before .before .before .args in
-    header-runs (headBy (a .cell)) (placesIn (a .a)) (countsIn (a .n)) (areaIds (a .areas)) _ _ _ _ (first .put-first .ensures) (c .before .before .before .before .before .before .put-areas .ensures) (c .before .before .put-last .ensures)
+    let after-put-last = c .before .before in
+    let after-put-areas = after-put-last .before .before .before .before in
+    let first = after-put-areas .before .before .before .before .before in
+    let entry = first .before .before .before .before in
+    let a = entry .args in
+    header-runs (headBy (a .cell)) (placesIn (a .a)) (countsIn (a .n)) (areaIds (a .areas)) _ _ _ _ (first .put-first .ensures) (after-put-areas .put-areas .ensures) (after-put-last .put-last .ensures)
 
 pub put-header-spec : {M : Type 1} → statement M
 put-header-spec =

@@ -1,10 +1,10 @@
--- `front::put_last` meets its contract: the words have the bytes of the rows. Assumes nothing.
+-- `write_header::put_last` meets its contract: the words have the bytes of the rows. Assumes nothing.
 use mathlib.Core.Path.{ap, _∙_}
 use mathlib.Core.List.{List}
 use Prim.Native.Nat.{ℕ}
 use native.Mathlib.Omega.{arith}
 use denote.Ref.{now}
-use Rattle.fields.specs.Bytes.{put}
+use Rattle.fields.specs.Put.{put}
 use Rattle.cell_record.specs.Record.{headBy}
 use Rattle.write_header.specs.Front.{placesIn, countsIn}
 use Rattle.write_header.proofs.Records.{last-words}
@@ -24,9 +24,10 @@ same-length c = search needs
 returns : tie.Need-returns
 unfolding headBy
 returns c =
-    let entry = c .before .before .before .before .before .before in
+    let after-put-all = c .before .before in
+    let entry = after-put-all .before .before .before .before in
     let a = entry .args in
-    c .before .before .put-all .ensures ∙ ap (λ (bs : List ℕ). put 280 bs (now (a .out))) (last-words (headBy (a .cell)) (placesIn (a .a)) (countsIn (a .n)) (omega (arith, entry .good)) (omega (arith, entry .good)) (omega (arith, entry .good)) (omega (arith, entry .good)))
+    after-put-all .put-all .ensures ∙ ap (λ (bs : List ℕ). put 280 bs (now (a .out))) (last-words (headBy (a .cell)) (placesIn (a .a)) (countsIn (a .n)) (omega (arith, entry .good)) (omega (arith, entry .good)) (omega (arith, entry .good)) (omega (arith, entry .good)))
 
 pub put-last-spec : {M : Type 1} → statement M
 put-last-spec =

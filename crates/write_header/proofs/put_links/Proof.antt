@@ -1,5 +1,5 @@
--- `front::put_links` meets its contract. The invariant, `Linking`: the links that are left, stored from here, make the whole. Assumes nothing.
-use Rattle.write_header.proofs.Turns.{link-at, Linking, linking-start, link-next, link-room, linking-turn, linking-done}
+-- `write_header::put_links` meets its contract. The invariant, `Linking`: the links that are left, stored from here, make the whole. Assumes nothing.
+use Rattle.write_header.proofs.Turns.{link-in, Linking, linking-start, link-next, link-room, linking-turn, linking-done}
 use Prim.Native.Nat.{_-_}
 use native.Mathlib.Omega.{arith}
 use borrow.Author.Needs.{needs}
@@ -17,13 +17,13 @@ loop-holds : tie.Need-loop-holds Inv-loop μ-loop
 loop-holds c = linking-start _ _ _ _ (c .before .before .pre .0)
 
 poly-at-requires : tie.Need-poly-at-requires Inv-loop μ-loop
-poly-at-requires c κs = omega (arith, link-at _ _ _ _ _ _ _ _ (c .before .loop .inv) (c .loop-test .taken))
-
-add-first : tie.Need-add-first Inv-loop μ-loop
-add-first c = omega (arith, link-at _ _ _ _ _ _ _ _ (c .before .before .loop .inv) (c .before .loop-test .taken), c .before .before .before .before .before .good)
+poly-at-requires c κs = omega (arith, link-in _ _ _ _ _ _ _ _ (c .before .loop .inv) (c .loop-test .taken))
 
 mul-put-all : tie.Need-mul-put-all Inv-loop μ-loop
-mul-put-all c = omega (arith, link-at _ _ _ _ _ _ _ _ (c .before .before .before .loop .inv) (c .before .before .loop-test .taken), c .before .before .before .before .before .before .good)
+mul-put-all c =
+    let at-loop = c .before .before .before in
+    let entry = at-loop .before .before .before in
+    omega (arith, parts _ _ _ (c .before .poly-at .ensures), link-next _ _ _ _ _ _ _ _ (at-loop .loop .inv) (c .before .before .loop-test .taken) _ (c .before .poly-at .ensures), entry .good)
 
 sub-put-all : tie.Need-sub-put-all Inv-loop μ-loop
 sub-put-all c = omega (arith, parts _ _ _ (c .before .poly-at .ensures))
@@ -38,19 +38,43 @@ put-all-requires : tie.Need-put-all-requires Inv-loop μ-loop
 put-all-requires c κs = search needs
 
 mul-to : tie.Need-mul-to Inv-loop μ-loop
-mul-to c = omega (arith, link-room _ _ _ _ _ _ _ _ (c .before .before .before .before .before .before .before .before .loop .inv) (c .before .before .before .before .before .before .before .loop-test .taken) _ (c .before .before .before .before .before .before .poly-at .ensures), c .before .before .before .before .before .before .before .before .before .before .before .pre .1)
+mul-to c =
+    let after-put-all = c .before .before .before in
+    let after-poly-at = after-put-all .before .before .before in
+    let tested = after-poly-at .before in
+    let at-loop = tested .before in
+    let entry = at-loop .before .before .before in
+    omega (arith, link-room _ _ _ _ _ _ _ _ (at-loop .loop .inv) (tested .loop-test .taken) _ (after-poly-at .poly-at .ensures), entry .pre .1)
 
 add-to : tie.Need-add-to Inv-loop μ-loop
-add-to c = omega (arith, link-room _ _ _ _ _ _ _ _ (c .before .before .before .before .before .before .before .before .loop .inv) (c .before .before .before .before .before .before .before .loop-test .taken) _ (c .before .before .before .before .before .before .poly-at .ensures), c .before .before .before .before .before .before .before .before .before .before .before .pre .1)
+add-to c =
+    let after-put-all = c .before .before .before in
+    let after-poly-at = after-put-all .before .before .before in
+    let tested = after-poly-at .before in
+    let at-loop = tested .before in
+    let entry = at-loop .before .before .before in
+    omega (arith, link-room _ _ _ _ _ _ _ _ (at-loop .loop .inv) (tested .loop-test .taken) _ (after-poly-at .poly-at .ensures), entry .pre .1)
 
 add-i : tie.Need-add-i Inv-loop μ-loop
-add-i c = omega (arith, c .before .before .before .before .before .before .before .loop-test .taken, c .before .before .before .before .before .before .before .before .before .before .before .fits .n)
+add-i c =
+    let after-put-all = c .before .before .before in
+    let tested = after-put-all .before .before .before .before in
+    let entry = tested .before .before .before .before in
+    omega (arith, tested .loop-test .taken, entry .fits .n)
 
 loop-less : tie.Need-loop-less Inv-loop μ-loop
-loop-less c = omega (arith, c .before .before .before .before .before .before .before .loop-test .taken)
+loop-less c =
+    let after-put-all = c .before .before .before in
+    let tested = after-put-all .before .before .before .before in
+    omega (arith, tested .loop-test .taken)
 
 loop-again : tie.Need-loop-again Inv-loop μ-loop
-loop-again c = linking-turn _ _ _ _ _ _ _ _ (c .before .before .before .before .before .before .before .before .loop .inv) (c .before .before .before .before .before .before .before .loop-test .taken) _ (c .before .before .before .before .before .before .poly-at .ensures) _ (c .before .before .before .put-all .ensures)
+loop-again c =
+    let after-put-all = c .before .before .before in
+    let after-poly-at = after-put-all .before .before .before in
+    let tested = after-poly-at .before in
+    let at-loop = tested .before in
+    linking-turn _ _ _ _ _ _ _ _ (at-loop .loop .inv) (tested .loop-test .taken) _ (after-poly-at .poly-at .ensures) _ (after-put-all .put-all .ensures)
 
 same-length : tie.Need-same-length Inv-loop μ-loop
 same-length c = c .before .loop .inv .long
@@ -66,7 +90,6 @@ put-links-spec =
     μ-loop
     loop-holds
     poly-at-requires
-    add-first
     mul-put-all
     sub-put-all
     part-put-all-start

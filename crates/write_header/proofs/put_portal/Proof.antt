@@ -1,25 +1,31 @@
--- `front::put_portal` meets its contract: the words have the bytes of the row. Assumes nothing.
+-- `write_header::put_portal` meets its contract: both ends become shorts, and the words have the bytes of the row (`portal-words`). Assumes nothing.
 use mathlib.Core.Path.{ap, _∙_}
 use mathlib.Core.List.{List}
 use Prim.Native.Nat.{ℕ}
 use denote.Ref.{now}
-use Rattle.fields.specs.Bytes.{put}
+use Rattle.fields.specs.Put.{put}
 use Rattle.write_header.proofs.Records.{portal-words}
 use borrow.Author.Needs.{needs}
 use Rattle.write_header.proofs.put_portal.Statement.{statement}
 use Rattle.write_header.proofs.put_portal.Tie as tie
 
-add-shorts-at : tie.Need-add-shorts-at
-add-shorts-at c = search needs
+add-floats-at : tie.Need-add-floats-at
+add-floats-at c = search needs
 
-shorts-at-requires : tie.Need-shorts-at-requires
-shorts-at-requires c κs = search needs
+floats-at-requires : tie.Need-floats-at-requires
+floats-at-requires c κs = search needs
 
-add-shorts-at-2 : tie.Need-add-shorts-at-2
-add-shorts-at-2 c = search needs
+quantise-requires : tie.Need-quantise-requires
+quantise-requires c κs = search needs
 
-shorts-at-requires-2 : tie.Need-shorts-at-requires-2
-shorts-at-requires-2 c κs = search needs
+add-floats-at-2 : tie.Need-add-floats-at-2
+add-floats-at-2 c = search needs
+
+floats-at-requires-2 : tie.Need-floats-at-requires-2
+floats-at-requires-2 c κs = search needs
+
+quantise-requires-2 : tie.Need-quantise-requires-2
+quantise-requires-2 c κs = search needs
 
 add-polys : tie.Need-add-polys
 add-polys c = search needs
@@ -51,23 +57,20 @@ shared-slice-read-portal-areas-2 c = search needs
 portal-areas-requires : tie.Need-portal-areas-requires
 portal-areas-requires c κs = search needs
 
-mul-t12 : tie.Need-mul-t12
-mul-t12 c = search needs
+mul-t13 : tie.Need-mul-t13
+mul-t13 c = search needs
 
-shared-slice-read-t20 : tie.Need-shared-slice-read-t20
-shared-slice-read-t20 c = search needs
+shared-slice-read-t21 : tie.Need-shared-slice-read-t21
+shared-slice-read-t21 c = search needs
 
-add-t18 : tie.Need-add-t18
-add-t18 c = search needs
+add-t19 : tie.Need-add-t19
+add-t19 c = search needs
 
-mul-t17 : tie.Need-mul-t17
-mul-t17 c = search needs
+mul-t18 : tie.Need-mul-t18
+mul-t18 c = search needs
 
-shared-slice-read-t15 : tie.Need-shared-slice-read-t15
-shared-slice-read-t15 c = search needs
-
-cast-t23 : tie.Need-cast-t23
-cast-t23 c = search needs
+shared-slice-read-t16 : tie.Need-shared-slice-read-t16
+shared-slice-read-t16 c = search needs
 
 cast-t24 : tie.Need-cast-t24
 cast-t24 c = search needs
@@ -84,6 +87,9 @@ cast-t27 c = search needs
 cast-t28 : tie.Need-cast-t28
 cast-t28 c = search needs
 
+cast-t29 : tie.Need-cast-t29
+cast-t29 c = search needs
+
 slice-aggregate-put-all : tie.Need-slice-aggregate-put-all
 slice-aggregate-put-all c = search needs
 
@@ -95,17 +101,30 @@ same-length c = search needs
 
 returns : tie.Need-returns
 returns c =
-    let a = c .before .before .before .before .before .before .before .before .before .before .before .before .before .before .before .before .before .before .before .before .before .args in
-    c .before .before .put-all .ensures ∙ ap (λ (bs : List ℕ). put (a .to) bs (now (a .out))) (portal-words (a .bb-min) (a .bb-size) (now (a .strip)) (a .at) _ _ _ (c .before .before .before .before .before .before .before .before .before .before .before .before .before .before .before .before .before .before .shorts-at .ensures) (c .before .before .before .before .before .before .before .before .before .before .before .before .before .before .before .before .before .shorts-at2 .ensures) (c .before .before .before .before .before .before .before .before .before .before .before .before .before .portal-areas .ensures))
+    let after-put-all = c .before .before in
+    let after-words = after-put-all .before in
+    let lent = after-words .before .before .before .before .before in
+    let after-portal-areas = lent .before .before .before .before .before in
+    let ends = after-portal-areas .before .before .before .before in
+    let after-floats-at2 = ends .before in
+    let after-quantise = after-floats-at2 .before in
+    let after-floats-at = after-quantise .before in
+    let entry = after-floats-at .before .before .before in
+    let a = entry .args in
+    let from = rw (after-floats-at .floats-at .ensures) at (after-quantise .quantise .ensures) in
+    let to = rw (after-floats-at2 .floats-at2 .ensures) at (ends .quantise2 .ensures) in
+    after-put-all .put-all .ensures ∙ ap (λ (bs : List ℕ). put (a .to) bs (now (a .out))) (portal-words (a .bb-min) (a .bb-size) (now (a .strip)) (a .at) _ _ _ from to (after-portal-areas .portal-areas .ensures))
 
 pub put-portal-spec : {M : Type 1} → statement M
 put-portal-spec =
     tie.close
     (tie.spec
-    add-shorts-at
-    shorts-at-requires
-    add-shorts-at-2
-    shorts-at-requires-2
+    add-floats-at
+    floats-at-requires
+    quantise-requires
+    add-floats-at-2
+    floats-at-requires-2
+    quantise-requires-2
     add-polys
     mul-polys
     shared-slice-read-polys
@@ -116,17 +135,17 @@ put-portal-spec =
     mul-portal-areas-2
     shared-slice-read-portal-areas-2
     portal-areas-requires
-    mul-t12
-    shared-slice-read-t20
-    add-t18
-    mul-t17
-    shared-slice-read-t15
-    cast-t23
+    mul-t13
+    shared-slice-read-t21
+    add-t19
+    mul-t18
+    shared-slice-read-t16
     cast-t24
     cast-t25
     cast-t26
     cast-t27
     cast-t28
+    cast-t29
     slice-aggregate-put-all
     put-all-requires
     same-length

@@ -1,4 +1,4 @@
--- `front::put_portals` meets its contract. The invariant, `Portaling`: the portals that are left, stored from here, make the whole. Assumes nothing.
+-- `write_header::put_portals` meets its contract. The invariant, `Portaling`: the portals that are left, stored from here, make the whole. Assumes nothing.
 use Prim.Native.Nat.{_-_}
 use native.Mathlib.Omega.{arith}
 use Rattle.write_header.proofs.Turns.{Portaling, portaling-start, portaling-turn, portaling-done}
@@ -18,13 +18,22 @@ put-portal-requires : tie.Need-put-portal-requires Inv-loop μ-loop
 put-portal-requires c κs = omega (arith, c .before .before .loop .inv .here, c .before .loop-test .taken, c .before .before .before .before .before .pre .0)
 
 add-to : tie.Need-add-to Inv-loop μ-loop
-add-to c = omega (arith, c .before .before .before .before .before .loop .inv .there, c .before .before .before .before .loop-test .taken, c .before .before .before .before .before .before .before .before .pre .1)
+add-to c =
+    let at-loop = c .before .before .before .before .before in
+    let entry = at-loop .before .before .before in
+    omega (arith, at-loop .loop .inv .there, c .before .before .before .before .loop-test .taken, entry .pre .1)
 
 add-at : tie.Need-add-at Inv-loop μ-loop
-add-at c = omega (arith, c .before .before .before .before .before .loop .inv .here, c .before .before .before .before .loop-test .taken, c .before .before .before .before .before .before .before .before .pre .0, c .before .before .before .before .before .before .before .before .good)
+add-at c =
+    let at-loop = c .before .before .before .before .before in
+    let entry = at-loop .before .before .before in
+    omega (arith, at-loop .loop .inv .here, c .before .before .before .before .loop-test .taken, entry .pre .0, entry .good)
 
 add-i : tie.Need-add-i Inv-loop μ-loop
-add-i c = omega (arith, c .before .before .before .before .loop-test .taken, c .before .before .before .before .before .before .before .before .fits .n)
+add-i c =
+    let tested = c .before .before .before .before in
+    let entry = tested .before .before .before .before in
+    omega (arith, tested .loop-test .taken, entry .fits .n)
 
 loop-less : tie.Need-loop-less Inv-loop μ-loop
 loop-less c = omega (arith, c .before .before .before .before .loop-test .taken)

@@ -1,12 +1,12 @@
--- `items::lay_edges` meets its contract: the words that were made are the edges' items.
+-- `write_lists::lay_edges` meets its contract: the words that were made are the edges' items.
 use Prim.Native.Nat.{ℕ, _+_, _≤_}
 use mathlib.Core.List.{List}
 use native.Mathlib.Omega.{arith}
 use lib.ListN.{length, take}
 use Rattle.write_pages.specs.Items.{Corner}
-use Rattle.write_lists.specs.Made.{edgeWords, cornersAt}
-use Rattle.write_lists.proofs.Tables.{made}
-use Rattle.write_lists.proofs.Halves.{length-words, edge-words}
+use Rattle.write_edges.specs.Made.{edgeWords, cornersAt}
+use Rattle.write_edges.proofs.Halves.{length-words}
+use Rattle.write_lists.proofs.Tables.{made, edge-words}
 use borrow.Author.Needs.{needs}
 use Rattle.write_lists.proofs.lay_edges.Statement.{statement}
 use Rattle.write_lists.proofs.lay_edges.Tie as tie
@@ -36,12 +36,18 @@ same-length-2 : tie.Need-same-length-2
 same-length-2 c = search needs
 
 returns : tie.Need-returns
-returns c = let a = c .before .before .before .before .before .before .before .before .before .before .before .before .before .before .args in
+returns c =
+    let after-write-list = c .before .before in
+    let after-work = after-write-list .before .before .before .before .before in
+    let after-put-edges = after-work .before in
+    let before-put-edges = after-put-edges .before in
+    let entry = before-put-edges .before .before .before .before .before in
+    let a = entry .args in
     let ids : List ℕ = take (a .len) (a .ids .now) in
     let ks : List Corner = cornersAt (a .strip .now) (a .n) in
-    let room : a .base + length (edgeWords ids ks) ≤ length (a .work .now) = omega (arith, length-words ids ks, c .before .before .before .before .before .before .before .before .before .before .before .before .before .before .pre .1, c .before .before .before .before .before .before .before .before .before .before .before .before .before .before .pre .2) in
-    let laid = rw (c .before .before .before .before .before .before .before .before .put-edges .ensures, made (a .base) (edgeWords ids ks) (a .work .now) room, c .before .before .before .before .before .before .before .before .before .before .before .before .before .before .pre .1, edge-words ids ks _) at (c .before .before .write-list .ensures) in
-    (laid, c .before .before .before .before .before .before .before .before .put-edges .ensures)
+    let room : a .base + length (edgeWords ids ks) ≤ length (a .work .now) = omega (arith, length-words ids ks, entry .pre .1, entry .pre .2) in
+    let laid = rw (after-put-edges .put-edges .ensures, made (a .base) (edgeWords ids ks) (a .work .now) room, entry .pre .1, edge-words ids ks _) at (after-write-list .write-list .ensures) in
+    (laid, after-put-edges .put-edges .ensures)
 
 pub lay-edges-spec : {M : Type 1} → statement M
 lay-edges-spec =

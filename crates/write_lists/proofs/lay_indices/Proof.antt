@@ -1,7 +1,8 @@
--- `items::lay_indices` meets its contract: the words from the place on are the indices' items.
+-- `write_lists::lay_indices` meets its contract: the words from the place on are the indices' items.
 use mathlib.Core.Path.{ap, _∙_}
 use Rattle.write_lists.specs.Words.{itemsIn}
-use Rattle.write_lists.proofs.Tables.{lent, relaid, index-words}
+use Rattle.fields.proofs.Puts.{lent}
+use Rattle.write_lists.proofs.Tables.{relaid, index-words}
 use borrow.Author.Needs.{needs}
 use Rattle.write_lists.proofs.lay_indices.Statement.{statement}
 use Rattle.write_lists.proofs.lay_indices.Tie as tie
@@ -26,9 +27,12 @@ same-length : tie.Need-same-length
 same-length c = search needs
 
 returns : tie.Need-returns
-returns c = let a = c .before .before .before .before .before .before .before .args in
+returns c =
+    let after-write-list = c .before .before in
+    let entry = after-write-list .before .before .before .before .before in
+    let a = entry .args in
     let w = a .work .now in
-    relaid LIST-VFT-INDICES 2 (ap (itemsIn 0 2 (a .n)) (lent (a .from) w) ∙ index-words w (a .n) (a .from) (c .before .before .before .before .before .before .before .pre .0)) (c .before .before .write-list .ensures)
+    relaid LIST-VFT-INDICES 2 (ap (itemsIn 0 2 (a .n)) (lent (a .from) w) ∙ index-words w (a .n) (a .from) (entry .pre .0)) (after-write-list .write-list .ensures)
 
 pub lay-indices-spec : {M : Type 1} → statement M
 lay-indices-spec =

@@ -1,4 +1,4 @@
--- `items::lay_items` meets its contract. The invariant, `Laying`: whoever lays out what is left of the parts from here on has laid out all.
+-- `write_lists::lay_items` meets its contract. The invariant, `Laying`: whoever lays out what is left of the parts from here on has laid out all.
 use Prim.Native.Nat.{_-_}
 use native.Mathlib.Omega.{arith}
 use borrow.Author.Needs.{needs}
@@ -20,35 +20,64 @@ part-count-requires : tie.Need-part-count-requires Inv-loop μ-loop
 part-count-requires c κs = search needs
 
 loop-holds : tie.Need-loop-holds Inv-loop μ-loop
-loop-holds c = laying _ _ _ _ _ _ _ _ (c .before .before .before .pre .0) (c .before .before .before .pre .1)
+loop-holds c =
+    let entry = c .before .before .before in
+    laying _ _ _ _ _ _ _ _ (entry .pre .0) (entry .pre .1)
 
 least-requires : tie.Need-least-requires Inv-loop μ-loop
 least-requires c κs = search needs
 
 lay-part-requires : tie.Need-lay-part-requires Inv-loop μ-loop
-lay-part-requires c κs = let q = laying-room _ _ _ _ _ _ _ _ _ _ _ _ _ (c .before .before .before .loop .inv) (c .before .before .loop-test .taken) _ (c .before .least .ensures) (c .before .before .before .before .before .before .before .pre .0) (rw (c .before .before .before .before .part-count .ensures) (c .before .before .before .before .before .before .before .pre .2 .below)) in
-    (q .0, c .before .before .before .before .before .before .before .pre .1, q .1)
+lay-part-requires c κs =
+    let at-loop = c .before .before .before in
+    let after-part-count = at-loop .before in
+    let entry = after-part-count .before .before .before in
+    let q = laying-room _ _ _ _ _ _ _ _ _ _ _ _ _ (at-loop .loop .inv) (c .before .before .loop-test .taken) _ (c .before .least .ensures) (entry .pre .0) (rw (after-part-count .part-count .ensures) (entry .pre .2 .below)) in
+    (q .0, entry .pre .1, q .1)
 
 add-from : tie.Need-add-from Inv-loop μ-loop
-add-from c = omega (arith, c .before .before .before .before .before .before .before .before .before .before .pre .1, c .before .before .before .before .before .before .before .before .before .before .pre .2 .page)
+add-from c =
+    let tested = c .before .before .before .before .before in
+    let entry = tested .before .before .before .before .before in
+    omega (arith, entry .pre .1, entry .pre .2 .page)
 
 mul-from : tie.Need-mul-from Inv-loop μ-loop
-mul-from c = omega (arith, laying-room _ _ _ _ _ _ _ _ _ _ _ _ _ (c .before .before .before .before .before .before .loop .inv) (c .before .before .before .before .before .loop-test .taken) _ (c .before .before .before .before .least .ensures) (c .before .before .before .before .before .before .before .before .before .before .pre .0) (rw (c .before .before .before .before .before .before .before .part-count .ensures) (c .before .before .before .before .before .before .before .before .before .before .pre .2 .below)) .0, c .before .before .before .before .before .before .before .before .before .before .good)
+mul-from c =
+    let after-least = c .before .before .before .before in
+    let tested = after-least .before in
+    let at-loop = tested .before in
+    let after-part-count = at-loop .before in
+    let entry = after-part-count .before .before .before in
+    omega (arith, laying-room _ _ _ _ _ _ _ _ _ _ _ _ _ (at-loop .loop .inv) (tested .loop-test .taken) _ (after-least .least .ensures) (entry .pre .0) (rw (after-part-count .part-count .ensures) (entry .pre .2 .below)) .0, entry .good)
 
 add-from-2 : tie.Need-add-from-2 Inv-loop μ-loop
-add-from-2 c = omega (arith, laying-room _ _ _ _ _ _ _ _ _ _ _ _ _ (c .before .before .before .before .before .before .loop .inv) (c .before .before .before .before .before .loop-test .taken) _ (c .before .before .before .before .least .ensures) (c .before .before .before .before .before .before .before .before .before .before .pre .0) (rw (c .before .before .before .before .before .before .before .part-count .ensures) (c .before .before .before .before .before .before .before .before .before .before .pre .2 .below)) .0, c .before .before .before .before .before .before .before .before .before .before .good)
+add-from-2 c =
+    let after-least = c .before .before .before .before in
+    let tested = after-least .before in
+    let at-loop = tested .before in
+    let after-part-count = at-loop .before in
+    let entry = after-part-count .before .before .before in
+    omega (arith, laying-room _ _ _ _ _ _ _ _ _ _ _ _ _ (at-loop .loop .inv) (tested .loop-test .taken) _ (after-least .least .ensures) (entry .pre .0) (rw (after-part-count .part-count .ensures) (entry .pre .2 .below)) .0, entry .good)
 
 sub-left : tie.Need-sub-left Inv-loop μ-loop
 sub-left c = omega (arith, c .before .before .before .before .least .ensures)
 
 add-i : tie.Need-add-i Inv-loop μ-loop
-add-i c = omega (arith, c .before .before .before .before .before .loop-test .taken, c .before .before .before .before .before .before .before .before .before .before .good)
+add-i c =
+    let tested = c .before .before .before .before .before in
+    let entry = tested .before .before .before .before .before in
+    omega (arith, tested .loop-test .taken, entry .good)
 
 loop-less : tie.Need-loop-less Inv-loop μ-loop
 loop-less c = omega (arith, c .before .before .before .before .before .loop-test .taken)
 
 loop-again : tie.Need-loop-again Inv-loop μ-loop
-loop-again c = laying-turn _ _ _ _ _ _ _ _ _ _ _ _ _ (c .before .before .before .before .before .before .loop .inv) (c .before .before .before .before .before .loop-test .taken) _ (c .before .before .before .before .least .ensures) (c .before .before .before .before .before .before .before .before .before .before .pre .0) _ _ (search needs) (c .before .before .lay-part .ensures)
+loop-again c =
+    let after-least = c .before .before .before .before in
+    let tested = after-least .before in
+    let at-loop = tested .before in
+    let entry = at-loop .before .before .before .before in
+    laying-turn _ _ _ _ _ _ _ _ _ _ _ _ _ (at-loop .loop .inv) (tested .loop-test .taken) _ (after-least .least .ensures) (entry .pre .0) _ _ (search needs) (c .before .before .lay-part .ensures)
 
 same-length : tie.Need-same-length Inv-loop μ-loop
 same-length c = c .before .loop .inv .parts .long

@@ -1,4 +1,4 @@
--- `items::lay_part` meets its contract: zeros up to the place, then the items.
+-- `write_lists::lay_part` meets its contract: zeros up to the place, then the items.
 use Rattle.write_blocks.proofs.Layouts.{laid-block}
 use Rattle.write_lists.proofs.Words.{part-long}
 use borrow.Author.Needs.{needs}
@@ -24,8 +24,12 @@ same-length : tie.Need-same-length
 same-length c = search needs
 
 returns : tie.Need-returns
-returns c = let a = c .before .before .before .before .before .before .before .before .before .before .before .args in
-    laid-block (part-long (a .whole) (a .w) (a .m) (a .from) (a .words .now) (c .before .before .before .before .before .before .before .before .before .before .before .pre .0) (c .before .before .before .before .before .before .before .before .before .before .before .pre .1)) (c .before .before .before .before .before .before .before .pad .ensures .0) (c .before .before .before .before .before .before .before .pad .ensures .1) (c .before .before .before .put-items .ensures) (c .alloc .ensures)
+returns c =
+    let after-put-items = c .before .before .before in
+    let after-pad = after-put-items .before .before .before .before in
+    let entry = after-pad .before .before .before .before in
+    let a = entry .args in
+    laid-block (part-long (a .whole) (a .w) (a .m) (a .from) (a .words .now) (entry .pre .0) (entry .pre .1)) (after-pad .pad .ensures .0) (after-pad .pad .ensures .1) (after-put-items .put-items .ensures) (c .alloc .ensures)
 
 pub lay-part-spec : {M : Type 1} → statement M
 lay-part-spec =

@@ -1,7 +1,8 @@
--- `items::lay_vertices` meets its contract: the words behind the heads are the vertices' items.
+-- `write_lists::lay_vertices` meets its contract: the words behind the heads are the vertices' items.
 use mathlib.Core.Path.{ap, _∙_}
 use Rattle.write_lists.specs.Words.{itemsIn}
-use Rattle.write_lists.proofs.Tables.{lent, relaid, vertex-words}
+use Rattle.fields.proofs.Puts.{lent}
+use Rattle.write_lists.proofs.Tables.{relaid, vertex-words}
 use borrow.Author.Needs.{needs}
 use Rattle.write_lists.proofs.lay_vertices.Statement.{statement}
 use Rattle.write_lists.proofs.lay_vertices.Tie as tie
@@ -26,10 +27,13 @@ same-length : tie.Need-same-length
 same-length c = search needs
 
 returns : tie.Need-returns
-returns c = let a = c .before .before .before .before .before .before .before .args in
+returns c =
+    let lent-work = c .before .before .before .before .before in
+    let entry = lent-work .before .before in
+    let a = entry .args in
     let w = a .work .now in
     relaid LIST-VFT-VERTICES 6
-    (ap (itemsIn 1 6 (a .n)) (lent (a .buckets) w) ∙ vertex-words w (λ k. c .before .before .before .before .before .shared-slice-known .given k .fits) (a .n) (a .buckets) (c .before .before .before .before .before .before .before .pre .0))
+    (ap (itemsIn 1 6 (a .n)) (lent (a .buckets) w) ∙ vertex-words w (λ k. lent-work .shared-slice-known .given k .fits) (a .n) (a .buckets) (entry .pre .0))
     (c .before .before .write-list .ensures)
 
 pub lay-vertices-spec : {M : Type 1} → statement M

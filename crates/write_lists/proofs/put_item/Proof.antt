@@ -1,4 +1,4 @@
--- `items::put_item` meets its contract: the whole words, then what is left of the item.
+-- `write_lists::put_item` meets its contract: the whole words, then what is left of the item.
 use Prim.Native.Nat.{_+_, _-_}
 use mathlib.Core.Path.{_≡_, _∙_}
 use native.Mathlib.Omega.{arith}
@@ -44,7 +44,10 @@ shared-slice-read-put-le : tie.Need-shared-slice-read-put-le
 shared-slice-read-put-le c = search needs
 
 cast-put-le : tie.Need-cast-put-le
-cast-put-le c = omega (arith, c .shared-slice-known2 .given (c .before .before .before .before .before .before .before .before .before .args .from + c .before .before .before .before .before .before .before .before .before .args .whole))
+cast-put-le c =
+    let after-put-all = c .before .before .before .before in
+    let entry = after-put-all .before .before .before .before .before in
+    omega (arith, c .shared-slice-known2 .given (entry .args .from + entry .args .whole))
 
 put-le-requires : tie.Need-put-le-requires
 put-le-requires c κs = search needs
@@ -53,9 +56,13 @@ same-length : tie.Need-same-length
 same-length c = search needs
 
 returns : tie.Need-returns
-returns c = let a = c .before .before .before .before .before .before .before .before .before .before .before .before .args in
+returns c =
+    let after-put-le = c .before .before in
+    let after-put-all = after-put-le .before .before .before .before .before in
+    let entry = after-put-all .before .before .before .before .before in
+    let a = entry .args in
     let e : a .from + a .whole - a .from ≡ a .whole = omega arith in
-    c .before .before .put-le .ensures ∙ (rw (c .before .before .before .before .before .before .before .put-all .ensures, e) (item-stored (a .whole) (a .w) (a .words .now) (a .from) (c .before .before .before .before .before .before .before .before .before .before .before .before .pre .0) (a .at) (a .out .now)))
+    after-put-le .put-le .ensures ∙ (rw (after-put-all .put-all .ensures, e) (item-stored (a .whole) (a .w) (a .words .now) (a .from) (entry .pre .0) (a .at) (a .out .now)))
 
 pub put-item-spec : {M : Type 1} → statement M
 put-item-spec =

@@ -1,22 +1,18 @@
--- `plan::check_leaves` meets its contract. Assumes nothing.
+-- `write_plan::check_leaves` meets its contract: the words that are lent on hold the boxes and the leaves, so that the tree by them is the cell's.
+use native.Mathlib.Omega.{arith}
+use lib.ListN.{length}
 use Rattle.strip.specs.Reading.{headAt}
 use Rattle.cell_record.specs.Record.{recordOf}
+use Rattle.write_decide.proofs.Places.{cut}
 use Rattle.write_plan.proofs.Rest.{leaf-told}
 use borrow.Author.Needs.{needs}
 use Rattle.write_plan.proofs.check_leaves.Statement.{statement}
 use Rattle.write_plan.proofs.check_leaves.Tie as tie
 
-tables-end-requires : tie.Need-tables-end-requires
-tables-end-requires c κs = search needs
-
-mul-mid : tie.Need-mul-mid
-mul-mid c = search needs
-
-add-mid : tie.Need-add-mid
-add-mid c = search needs
-
-add-end : tie.Need-add-end
-add-end c = search needs
+work-places-requires : tie.Need-work-places-requires
+work-places-requires c κs =
+    let entry = c .before .before in
+    omega (arith, entry .pre .1 .room, entry .good)
 
 root-box-requires : tie.Need-root-box-requires
 root-box-requires c κs = search needs
@@ -25,28 +21,52 @@ depth-of-requires : tie.Need-depth-of-requires
 depth-of-requires c κs = tt
 
 mul-check-leaves : tie.Need-mul-check-leaves
-mul-check-leaves c = search needs
+mul-check-leaves c =
+    let after-work-places = c .before .before in
+    let entry = after-work-places .before .before .before in
+    omega (arith, entry .pre .1 .room, entry .good, cut (length (entry .args .strip .now)) (entry .args .counts) (after-work-places .work-places .ensures))
 
 sub-check-leaves : tie.Need-sub-check-leaves
-sub-check-leaves c = search needs
+sub-check-leaves c =
+    let after-work-places = c .before .before in
+    let entry = after-work-places .before .before .before in
+    omega (arith, cut (length (entry .args .strip .now)) (entry .args .counts) (after-work-places .work-places .ensures))
 
 part-check-leaves-start : tie.Need-part-check-leaves-start
-part-check-leaves-start c = search needs
+part-check-leaves-start c =
+    let after-work-places = c .before .before in
+    let entry = after-work-places .before .before .before in
+    omega (arith, cut (length (entry .args .strip .now)) (entry .args .counts) (after-work-places .work-places .ensures))
 
 part-check-leaves-end : tie.Need-part-check-leaves-end
-part-check-leaves-end c = search needs
+part-check-leaves-end c =
+    let after-work-places = c .before .before in
+    let entry = after-work-places .before .before .before in
+    omega (arith, entry .pre .1 .room, cut (length (entry .args .strip .now)) (entry .args .counts) (after-work-places .work-places .ensures))
 
 mul-check-leaves-2 : tie.Need-mul-check-leaves-2
-mul-check-leaves-2 c = search needs
+mul-check-leaves-2 c =
+    let after-work-places = c .before .before .before in
+    let entry = after-work-places .before .before .before in
+    omega (arith, entry .pre .1 .room, entry .good, cut (length (entry .args .strip .now)) (entry .args .counts) (after-work-places .work-places .ensures))
 
 sub-check-leaves-2 : tie.Need-sub-check-leaves-2
-sub-check-leaves-2 c = search needs
+sub-check-leaves-2 c =
+    let after-work-places = c .before .before .before in
+    let entry = after-work-places .before .before .before in
+    omega (arith, cut (length (entry .args .strip .now)) (entry .args .counts) (after-work-places .work-places .ensures))
 
 part-check-leaves-start-2 : tie.Need-part-check-leaves-start-2
-part-check-leaves-start-2 c = search needs
+part-check-leaves-start-2 c =
+    let after-work-places = c .before .before .before in
+    let entry = after-work-places .before .before .before in
+    omega (arith, cut (length (entry .args .strip .now)) (entry .args .counts) (after-work-places .work-places .ensures))
 
 part-check-leaves-end-2 : tie.Need-part-check-leaves-end-2
-part-check-leaves-end-2 c = search needs
+part-check-leaves-end-2 c =
+    let after-work-places = c .before .before .before in
+    let entry = after-work-places .before .before .before in
+    omega (arith, entry .pre .1 .room, cut (length (entry .args .strip .now)) (entry .args .counts) (after-work-places .work-places .ensures))
 
 check-leaves-requires : tie.Need-check-leaves-requires
 check-leaves-requires c κs = search needs
@@ -54,22 +74,19 @@ check-leaves-requires c κs = search needs
 returns : tie.Need-returns
 unfolding headAt recordOf
 returns c =
-    let depth = c .before .before .before in
-    let rooted = depth .before in
-    let tables = rooted .before .before .before in
-    let s = tables .before .before .before in
-    let root = rw (s .pre .0) at (rooted .root-box .ensures) in
-    let deep = rw (s .pre .0) at (depth .depth-of .ensures .0) in
-    leaf-told _ _ _ (s .pre .1) _ (tables .tables-end .ensures) _ _ (c .check-leaves .result) root deep (c .check-leaves .ensures)
+    let after-depth-of = c .before .before .before in
+    let after-root-box = after-depth-of .before in
+    let after-work-places = after-root-box .before in
+    let entry = after-work-places .before .before .before in
+    let root = rw (entry .pre .0) at (after-root-box .root-box .ensures) in
+    let deep = rw (entry .pre .0) at (after-depth-of .depth-of .ensures .0) in
+    leaf-told _ _ _ (entry .pre .1) _ (after-work-places .work-places .ensures) _ _ (c .check-leaves .result) root deep (c .check-leaves .ensures)
 
 pub check-leaves-spec : {M : Type 1} → statement M
 check-leaves-spec =
     tie.close
     (tie.spec
-    tables-end-requires
-    mul-mid
-    add-mid
-    add-end
+    work-places-requires
     root-box-requires
     depth-of-requires
     mul-check-leaves

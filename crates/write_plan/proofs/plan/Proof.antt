@@ -1,4 +1,5 @@
--- `plan::plan` meets its contract. Assumes nothing.
+-- `write_plan::plan` meets its contract: what `decide` refused stays refused; otherwise the boxes and leaves that were stored give the check of the leaves,
+-- and then that of the counts. `early`, `bad-leaf` and `at-last` are the three ends.
 use mathlib.Core.Path.{refl}
 use native.Mathlib.Omega.{arith}
 use Rattle.write_plan.proofs.Whole.{early, long, record-is, whole, room, held, bad-leaf, at-last}
@@ -47,8 +48,11 @@ enum-told-3 c = search needs
 
 same-length : tie.Need-same-length
 same-length c =
-    let stored = c .before .before .before .before .before .before .before .before in
-    omega (arith, stored .put-rest .kept, stored .before .before .before .before .before .before .before .before .decide .kept)
+    let after-check-leaves = c .before .before .before .before in
+    let stored = after-check-leaves .before .before .before .before in
+    let told = stored .before .before .before .before in
+    let after-decide = told .before .before .before .before in
+    omega (arith, stored .put-rest .kept, after-decide .decide .kept)
 
 returns : tie.Need-returns
 returns c =
@@ -59,8 +63,11 @@ returns c =
 
 same-length-2 : tie.Need-same-length-2
 same-length-2 c =
-    let stored = c .before .before .before .before .before .before .before .before in
-    omega (arith, stored .put-rest .kept, stored .before .before .before .before .before .before .before .before .decide .kept)
+    let after-check-leaves = c .before .before .before .before in
+    let stored = after-check-leaves .before .before .before .before in
+    let told = stored .before .before .before .before in
+    let after-decide = told .before .before .before .before in
+    omega (arith, stored .put-rest .kept, after-decide .decide .kept)
 
 returns-2 : tie.Need-returns-2
 returns-2 c =

@@ -1,4 +1,4 @@
--- `plan::put_boxes` meets its contract. The invariant, `Boxing`: the boxes that are left, stored from here, make the whole. Assumes nothing.
+-- `write_plan::put_boxes` meets its contract. The invariant, `Boxing`: the boxes that are left, stored from here, make the whole. Assumes nothing.
 use Prim.Native.Nat.{_-_}
 use mathlib.Core.Path.{refl}
 use native.Mathlib.Omega.{arith}
@@ -25,21 +25,37 @@ poly-at-requires c κs = let s = c .before .before .before .before .args .strip 
     omega (arith, parts s (l .at) q refl, box-next _ _ _ _ _ _ _ _ (l .inv) (c .loop-test .taken) q refl)
 
 put-box-requires : tie.Need-put-box-requires Inv-loop μ-loop
-put-box-requires c κs = let q = parts _ _ _ (c .before .poly-at .ensures) in
-    let x = box-next _ _ _ _ _ _ _ _ (c .before .before .before .loop .inv) (c .before .before .loop-test .taken) _ (c .before .poly-at .ensures) in
-    (omega (arith, q .first, q .links-end, q .vertices-end, q .edges-end, x), omega (arith, c .before .before .before .loop .inv .here, c .before .before .before .loop .inv .long, c .before .before .loop-test .taken, c .before .before .before .before .before .before .pre .1))
+put-box-requires c κs =
+    let after-poly-at = c .before in
+    let tested = after-poly-at .before in
+    let at-loop = tested .before in
+    let entry = at-loop .before .before .before in
+    let q = parts _ _ _ (after-poly-at .poly-at .ensures) in
+    let x = box-next _ _ _ _ _ _ _ _ (at-loop .loop .inv) (tested .loop-test .taken) _ (after-poly-at .poly-at .ensures) in
+    (omega (arith, q, x), omega (arith, at-loop .loop .inv .here, at-loop .loop .inv .long, tested .loop-test .taken, entry .pre .1))
 
 add-place : tie.Need-add-place Inv-loop μ-loop
-add-place c = omega (arith, c .before .before .before .before .before .before .loop .inv .here, c .before .before .before .before .before .loop-test .taken, c .before .before .before .before .before .before .before .before .before .pre .1, c .before .before .before .before .before .before .before .before .before .good)
+add-place c =
+    let tested = c .before .before .before .before .before in
+    let at-loop = tested .before in
+    let entry = at-loop .before .before .before in
+    omega (arith, at-loop .loop .inv .here, tested .loop-test .taken, entry .pre .1, entry .good)
 
 add-i : tie.Need-add-i Inv-loop μ-loop
-add-i c = omega (arith, c .before .before .before .before .before .loop-test .taken, c .before .before .before .before .before .before .before .before .before .fits .n)
+add-i c =
+    let tested = c .before .before .before .before .before in
+    let entry = tested .before .before .before .before in
+    omega (arith, tested .loop-test .taken, entry .fits .n)
 
 loop-less : tie.Need-loop-less Inv-loop μ-loop
 loop-less c = omega (arith, c .before .before .before .before .before .loop-test .taken)
 
 loop-again : tie.Need-loop-again Inv-loop μ-loop
-loop-again c = boxing-turn _ _ _ _ _ _ _ _ (c .before .before .before .before .before .before .loop .inv) (c .before .before .before .before .before .loop-test .taken) _ (c .before .before .before .before .poly-at .ensures) _ (c .before .before .put-box .ensures)
+loop-again c =
+    let after-poly-at = c .before .before .before .before in
+    let tested = after-poly-at .before in
+    let at-loop = tested .before in
+    boxing-turn _ _ _ _ _ _ _ _ (at-loop .loop .inv) (tested .loop-test .taken) _ (after-poly-at .poly-at .ensures) _ (c .before .before .put-box .ensures)
 
 same-length : tie.Need-same-length Inv-loop μ-loop
 same-length c = search needs

@@ -1,4 +1,4 @@
--- `plan::put_leaves` meets its contract. The invariant, `Leafing`: the leaves that are left, stored from here, make the whole. Assumes nothing.
+-- `write_plan::put_leaves` meets its contract. The invariant, `Leafing`: the leaves that are left, stored from here, make the whole. Assumes nothing.
 use Prim.Native.Nat.{_-_, _/_, _%_, _^_}
 use mathlib.Core.Path.{_∙_}
 use native.Mathlib.Omega.{arith}
@@ -24,10 +24,16 @@ loop-holds : tie.Need-loop-holds Inv-loop μ-loop
 loop-holds c = leafing-start _ _ _ _ _ _
 
 add-floats-at : tie.Need-add-floats-at Inv-loop μ-loop
-add-floats-at c = omega (arith, c .before .loop .inv .here, c .loop-test .taken, c .before .before .before .before .before .before .pre .0, c .before .before .before .before .before .before .good)
+add-floats-at c =
+    let at-loop = c .before in
+    let entry = at-loop .before .before .before .before .before in
+    omega (arith, at-loop .loop .inv .here, c .loop-test .taken, entry .pre .0, entry .good)
 
 floats-at-requires : tie.Need-floats-at-requires Inv-loop μ-loop
-floats-at-requires c κs = omega (arith, c .before .loop .inv .here, c .loop-test .taken, c .before .before .before .before .before .before .pre .0)
+floats-at-requires c κs =
+    let at-loop = c .before in
+    let entry = at-loop .before .before .before .before .before in
+    omega (arith, at-loop .loop .inv .here, c .loop-test .taken, entry .pre .0)
 
 leaf-of-requires : tie.Need-leaf-of-requires Inv-loop μ-loop
 leaf-of-requires c κs =
@@ -36,25 +42,45 @@ leaf-of-requires c κs =
     (lines .lines-of .ensures, depth .1, depth .2)
 
 add-work : tie.Need-add-work Inv-loop μ-loop
-add-work c = omega (arith, c .before .before .loop-test .taken, c .before .before .before .before .before .before .before .before .pre .1, c .before .before .before .before .before .before .before .before .good)
+add-work c =
+    let tested = c .before .before in
+    let after-depth-of = tested .before .before .before in
+    let entry = after-depth-of .before .before .before in
+    omega (arith, tested .loop-test .taken, entry .pre .1, entry .good)
 
 mul-work : tie.Need-mul-work Inv-loop μ-loop
-mul-work c = omega (arith, c .before .before .loop-test .taken, c .before .before .before .before .before .before .before .before .pre .1, c .before .before .before .loop .inv .long, c .before .before .before .before .before .before .before .before .good)
+mul-work c =
+    let at-loop = c .before .before .before in
+    let entry = at-loop .before .before .before .before .before in
+    omega (arith, c .before .before .loop-test .taken, entry .pre .1, at-loop .loop .inv .long, entry .good)
 
 slice-write-work : tie.Need-slice-write-work Inv-loop μ-loop
-slice-write-work c = omega (arith, c .before .before .loop-test .taken, c .before .before .before .before .before .before .before .before .pre .1, c .before .before .before .loop .inv .long)
+slice-write-work c =
+    let at-loop = c .before .before .before in
+    let entry = at-loop .before .before .before .before .before in
+    omega (arith, c .before .before .loop-test .taken, entry .pre .1, at-loop .loop .inv .long)
 
 add-at : tie.Need-add-at Inv-loop μ-loop
-add-at c = omega (arith, c .before .before .before .loop .inv .here, c .before .before .loop-test .taken, c .before .before .before .before .before .before .before .before .pre .0, c .before .before .before .before .before .before .before .before .good)
+add-at c =
+    let at-loop = c .before .before .before in
+    let entry = at-loop .before .before .before .before .before in
+    omega (arith, at-loop .loop .inv .here, c .before .before .loop-test .taken, entry .pre .0, entry .good)
 
 add-i : tie.Need-add-i Inv-loop μ-loop
-add-i c = omega (arith, c .before .before .loop-test .taken, c .before .before .before .before .before .before .before .before .fits .n)
+add-i c =
+    let tested = c .before .before in
+    let after-depth-of = tested .before .before .before in
+    let entry = after-depth-of .before .before .before in
+    omega (arith, tested .loop-test .taken, entry .fits .n)
 
 loop-less : tie.Need-loop-less Inv-loop μ-loop
 loop-less c = omega (arith, c .before .before .loop-test .taken)
 
 loop-again : tie.Need-loop-again Inv-loop μ-loop
-loop-again c = leafing-turn _ _ _ _ _ _ _ _ _ (c .before .before .before .loop .inv) (c .before .before .loop-test .taken) _ (c .leaf-of .ensures ∙ rw (c .before .before .before .before .before .depth-of .ensures .0, c .before .floats-at .ensures))
+loop-again c =
+    let at-loop = c .before .before .before in
+    let after-depth-of = at-loop .before .before in
+    leafing-turn _ _ _ _ _ _ _ _ _ (at-loop .loop .inv) (c .before .before .loop-test .taken) _ (c .leaf-of .ensures ∙ rw (after-depth-of .depth-of .ensures .0, c .before .floats-at .ensures))
 
 same-length : tie.Need-same-length Inv-loop μ-loop
 same-length c = search needs

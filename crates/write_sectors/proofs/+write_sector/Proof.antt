@@ -9,13 +9,13 @@ use denote.Ref.{now}
 use Rattle.math.specs.declared.vec3.Vec3.{Vec3 as Floats}
 use Rattle.quantise.specs.declared.quarter.QuarterBox.{QuarterBox}
 use Rattle.strip.specs.Cell.{NavPoint}
-use Rattle.strip.specs.Reading.{pointsAt}
+use Rattle.strip.specs.Rows.{pointsAt}
 use Rattle.write_blocks.specs.Layout.{behind}
 use Rattle.write_pages.specs.Sectors.{leafIds, grown, from0}
 use Rattle.write_quadtree.specs.Work.{boxesIn, pickedFrom}
 use Rattle.write_quadtree.proofs.Widths.{down}
-use Rattle.write_sectors.specs.declared.SectorCursor.{SectorCursor}
-use Rattle.write_sectors.specs.Written.{TreeRoom}
+use Rattle.write_leaves.specs.declared.SectorCursor.{SectorCursor}
+use Rattle.write_leaves.specs.Written.{TreeRoom}
 use Rattle.write_sectors.proofs.Steps.{Stand, first-small, next0, next1, next2, next3, stand1, stand2, stand3, grown-wrote}
 use borrow.Author.Needs.{needs}
 use borrow.Fn.Kinds.{In}
@@ -23,11 +23,12 @@ use borrow.Fn.PlainCycle.{Measures, is, falls, and}
 use Rattle.write_sectors.proofs.write_sector.Reads as write-sector
 use Rattle.write_sectors.proofs.write_sector.Kinds as write-sector-kinds
 use Rattle.write_sectors.proofs.+write_sector.Lts-write_sector as write-sector-lts
+use Rattle.write_blocks.proofs.Layouts.{at-of}
 use Rattle.write_blocks.proofs.Layout.alloc.Reads as alloc-reads
 use Rattle.write_blocks.proofs.pad.Reads as pad-reads
 use Rattle.write_quadtree.proofs.boxes.split.Reads as split-reads
 use Rattle.write_sectors.proofs.put_node.Reads as put-node-reads
-use Rattle.write_sectors.proofs.write_leaf.Reads as write-leaf-reads
+use Rattle.write_leaves.proofs.write_leaf.Reads as write-leaf-reads
 use Rattle.write_sectors.proofs.+write_sector.{statement}
 use Rattle.write_sectors.proofs.+write_sector.Tie.{close}
 
@@ -60,6 +61,9 @@ module _ (t : ℕ) where
   abbrev Begin : Type 0
   Begin = write-sector-lts.Start (calls t) (write-sector-at t) write-sector.Post
 
+  abbrev Halved : Type 0
+  Halved = write-sector-lts.After-split (calls t) (write-sector-at t) write-sector.Post
+
   -- behind the sector's own place, and behind each sub
   abbrev Own : Type 0
   Own = write-sector-lts.After-alloc (calls t) (write-sector-at t) write-sector.Post
@@ -73,8 +77,15 @@ module _ (t : ℕ) where
   abbrev W3 : Type 0
   W3 = write-sector-lts.After-write-sector3 (calls t) (write-sector-at t) write-sector.Post
 
+  abbrev split-of : Own → Halved
+  split-of c =
+      let after-pad = c .before .before .before in
+      after-pad .before .before .before
+
   abbrev start : Own → Begin
-  start c = c .before .before .before .before .before .before .before .before .before .before .before .before
+  start c =
+      let tested = split-of c .before in
+      tested .before .before .before .before .before
 
   abbrev own1 : W1 → Own
   own1 c = c .before .before
@@ -86,7 +97,7 @@ module _ (t : ℕ) where
   own3 c = own2 (c .before .before .before .before)
 
   abbrev some : (c : Own) → start c .args .depth ≡ 0 → ⊥
-  some c = c .before .before .before .before .before .before .before .if1 .left
+  some c = split-of c .before .if1 .left
 
   module _ (s : Begin) where
     abbrev ids : QuarterBox → List ℕ
@@ -120,7 +131,7 @@ module _ (t : ℕ) where
   p0 c = record { layout = c .alloc .result; leaf = start c .args .spot .leaf; first = start c .args .spot .first }
 
   stand0 : (c : Own) → Stand (p0 c) (from0 (start c .args .spot .layout .at)) (start c .args .spot .leaf) (start c .args .spot .first)
-  stand0 c = record { ends = c .alloc .ensures; leaves = refl; points = refl }
+  stand0 c = record { ends = at-of (c .alloc .ensures); leaves = refl; points = refl }
 
   abbrev lo : Own → Floats
   lo c = start c .args .points .«bb_min»
@@ -128,31 +139,43 @@ module _ (t : ℕ) where
   abbrev size : Own → Floats
   size c = start c .args .points .«bb_size»
 
-  room0 : (c : Own) → TreeRoom (grown (ids (start c)) (stored (start c)) (d (start c)) (p0 c .leaf) (c .before .before .before .before .before .before .split .result .s0)) (p0 c .layout .at) (p0 c .first)
-  room0 c = let s = start c in next0 (lo c) (size c) (ids s) (stored s) (d s) (s .args .b) (s .args .spot) (room s (some c)) (c .before .before .before .before .before .before .split .ensures .0) (stand0 c)
+  room0 : (c : Own) → TreeRoom (grown (ids (start c)) (stored (start c)) (d (start c)) (p0 c .leaf) (split-of c .split .result .s0)) (p0 c .layout .at) (p0 c .first)
+  room0 c =
+      let s = start c in next0 (lo c) (size c) (ids s) (stored s) (d s) (s .args .b) (s .args .spot) (room s (some c)) (split-of c .split .ensures .0) (stand0 c)
 
   at1 : (c : W1) → let k = own1 c in c .write-sector .result .leaf ≡ start k .args .spot .leaf + 4 ^ d (start k)
-  at1 c = let k = own1 c in let s = start k in stand1 (lo k) (size k) (ids s) (stored s) (d s) (s .args .b) (s .args .spot) (room s (some k)) (k .before .before .before .before .before .before .split .ensures .0) (stand0 k) (k .before .before .before .before .before .before .split .ensures .1) (c .write-sector .ensures) .leaves
+  at1 c =
+      let k = own1 c in let s = start k in stand1 (lo k) (size k) (ids s) (stored s) (d s) (s .args .b) (s .args .spot) (room s (some k)) (split-of k .split .ensures .0) (stand0 k) (split-of k .split .ensures .1) (c .write-sector .ensures) .leaves
 
-  room1 : (c : W1) → let k = own1 c in let p = c .write-sector .result in TreeRoom (grown (ids (start k)) (stored (start k)) (d (start k)) (p .leaf) (k .before .before .before .before .before .before .split .result .s1)) (p .layout .at) (p .first)
-  room1 c = let k = own1 c in let s = start k in next1 (lo k) (size k) (ids s) (stored s) (d s) (s .args .b) (s .args .spot) (room s (some k)) (k .before .before .before .before .before .before .split .ensures .0) (stand0 k) (k .before .before .before .before .before .before .split .ensures .1) (c .write-sector .ensures)
+  room1 : (c : W1) → let k = own1 c in let p = c .write-sector .result in TreeRoom (grown (ids (start k)) (stored (start k)) (d (start k)) (p .leaf) (split-of k .split .result .s1)) (p .layout .at) (p .first)
+  room1 c =
+      let k = own1 c in let s = start k in next1 (lo k) (size k) (ids s) (stored s) (d s) (s .args .b) (s .args .spot) (room s (some k)) (split-of k .split .ensures .0) (stand0 k) (split-of k .split .ensures .1) (c .write-sector .ensures)
 
   at2 : (c : W2) → let k = own2 c in c .write-sector2 .result .leaf ≡ start k .args .spot .leaf + 2 * 4 ^ d (start k)
-  at2 c = let k = own2 c in let s = start k in stand2 (lo k) (size k) (ids s) (stored s) (d s) (s .args .b) (s .args .spot) (room s (some k)) (k .before .before .before .before .before .before .split .ensures .0) (stand0 k) (k .before .before .before .before .before .before .split .ensures .1) (c .before .before .before .before .write-sector .ensures) (k .before .before .before .before .before .before .split .ensures .2) (c .write-sector2 .ensures) .leaves
+  at2 c =
+      let k = own2 c in let s = start k in stand2 (lo k) (size k) (ids s) (stored s) (d s) (s .args .b) (s .args .spot) (room s (some k)) (split-of k .split .ensures .0) (stand0 k) (split-of k .split .ensures .1) (c .before .before .before .before .write-sector .ensures) (split-of k .split .ensures .2) (c .write-sector2 .ensures) .leaves
 
-  room2 : (c : W2) → let k = own2 c in let p = c .write-sector2 .result in TreeRoom (grown (ids (start k)) (stored (start k)) (d (start k)) (p .leaf) (k .before .before .before .before .before .before .split .result .s2)) (p .layout .at) (p .first)
-  room2 c = let k = own2 c in let s = start k in next2 (lo k) (size k) (ids s) (stored s) (d s) (s .args .b) (s .args .spot) (room s (some k)) (k .before .before .before .before .before .before .split .ensures .0) (stand0 k) (k .before .before .before .before .before .before .split .ensures .1) (c .before .before .before .before .write-sector .ensures) (k .before .before .before .before .before .before .split .ensures .2) (c .write-sector2 .ensures)
+  room2 : (c : W2) → let k = own2 c in let p = c .write-sector2 .result in TreeRoom (grown (ids (start k)) (stored (start k)) (d (start k)) (p .leaf) (split-of k .split .result .s2)) (p .layout .at) (p .first)
+  room2 c =
+      let k = own2 c in let s = start k in next2 (lo k) (size k) (ids s) (stored s) (d s) (s .args .b) (s .args .spot) (room s (some k)) (split-of k .split .ensures .0) (stand0 k) (split-of k .split .ensures .1) (c .before .before .before .before .write-sector .ensures) (split-of k .split .ensures .2) (c .write-sector2 .ensures)
 
   at3 : (c : W3) → let k = own3 c in c .write-sector3 .result .leaf ≡ start k .args .spot .leaf + 3 * 4 ^ d (start k)
-  at3 c = let k = own3 c in let s = start k in stand3 (lo k) (size k) (ids s) (stored s) (d s) (s .args .b) (s .args .spot) (room s (some k)) (k .before .before .before .before .before .before .split .ensures .0) (stand0 k) (k .before .before .before .before .before .before .split .ensures .1) (c .before .before .before .before .before .before .before .before .write-sector .ensures) (k .before .before .before .before .before .before .split .ensures .2) (c .before .before .before .before .write-sector2 .ensures) (k .before .before .before .before .before .before .split .ensures .3) (c .write-sector3 .ensures) .leaves
+  at3 c =
+      let after-write-sector2 = c .before .before .before .before in
+      let after-write-sector = after-write-sector2 .before .before .before .before in
+      let k = own3 c in let s = start k in stand3 (lo k) (size k) (ids s) (stored s) (d s) (s .args .b) (s .args .spot) (room s (some k)) (split-of k .split .ensures .0) (stand0 k) (split-of k .split .ensures .1) (after-write-sector .write-sector .ensures) (split-of k .split .ensures .2) (after-write-sector2 .write-sector2 .ensures) (split-of k .split .ensures .3) (c .write-sector3 .ensures) .leaves
 
-  room3 : (c : W3) → let k = own3 c in let p = c .write-sector3 .result in TreeRoom (grown (ids (start k)) (stored (start k)) (d (start k)) (p .leaf) (k .before .before .before .before .before .before .split .result .s3)) (p .layout .at) (p .first)
-  room3 c = let k = own3 c in let s = start k in next3 (lo k) (size k) (ids s) (stored s) (d s) (s .args .b) (s .args .spot) (room s (some k)) (k .before .before .before .before .before .before .split .ensures .0) (stand0 k) (k .before .before .before .before .before .before .split .ensures .1) (c .before .before .before .before .before .before .before .before .write-sector .ensures) (k .before .before .before .before .before .before .split .ensures .2) (c .before .before .before .before .write-sector2 .ensures) (k .before .before .before .before .before .before .split .ensures .3) (c .write-sector3 .ensures)
+  room3 : (c : W3) → let k = own3 c in let p = c .write-sector3 .result in TreeRoom (grown (ids (start k)) (stored (start k)) (d (start k)) (p .leaf) (split-of k .split .result .s3)) (p .layout .at) (p .first)
+  room3 c =
+      let after-write-sector2 = c .before .before .before .before in
+      let after-write-sector = after-write-sector2 .before .before .before .before in
+      let k = own3 c in let s = start k in next3 (lo k) (size k) (ids s) (stored s) (d s) (s .args .b) (s .args .spot) (room s (some k)) (split-of k .split .ensures .0) (stand0 k) (split-of k .split .ensures .1) (after-write-sector .write-sector .ensures) (split-of k .split .ensures .2) (after-write-sector2 .write-sector2 .ensures) (split-of k .split .ensures .3) (c .write-sector3 .ensures)
 
 write-sector-write-leaf-requires : (t : ℕ) → write-sector-lts.Need-write-leaf-requires (calls t) (write-sector-at t) write-sector.Post
 write-sector-write-leaf-requires t c κs =
-    let s = c .before .before .before .before .before .before in
-    let z : s .args .depth ≡ 0 = c .before .if1 .taken in
+    let tested = c .before in
+    let s = tested .before .before .before .before .before in
+    let z : s .args .depth ≡ 0 = tested .if1 .taken in
     ((rw z at (s .pre .1 .0 .0), s .pre .1 .0 .1), rw z at (s .pre .1 .1))
 
 write-sector-same-length : (t : ℕ) → write-sector-lts.Need-same-length (calls t) (write-sector-at t) write-sector.Post
@@ -168,10 +191,15 @@ write-sector-split-requires : (t : ℕ) → write-sector-lts.Need-split-requires
 write-sector-split-requires t c κs = tt
 
 write-sector-pad-requires : (t : ℕ) → write-sector-lts.Need-pad-requires (calls t) (write-sector-at t) write-sector.Post
-write-sector-pad-requires t c κs = own-small t (c .before .before .before .before .before .before .before .before) (c .before .before .before .if1 .left)
+write-sector-pad-requires t c κs =
+    let tested = c .before .before .before in
+    own-small t (tested .before .before .before .before .before) (tested .if1 .left)
 
 write-sector-alloc-requires : (t : ℕ) → write-sector-lts.Need-alloc-requires (calls t) (write-sector-at t) write-sector.Post
-write-sector-alloc-requires t c κs = own-small t (c .before .before .before .before .before .before .before .before .before .before .before) (c .before .before .before .before .before .before .if1 .left)
+write-sector-alloc-requires t c κs =
+    let after-pad = c .before .before in
+    let tested = after-pad .before .before .before .before in
+    own-small t (tested .before .before .before .before .before) (tested .if1 .left)
 
 write-sector-write-sector-requires : (t : ℕ) → write-sector-lts.Need-write-sector-requires (calls t) (write-sector-at t) write-sector.Post
 write-sector-write-sector-requires t c κs =
@@ -179,7 +207,7 @@ write-sector-write-sector-requires t c κs =
     let k = q in
     let s = start t k in
     let w = wide t s (some t k) in
-    (falls-to t s (some t k), ((omega (arith), s .pre .1 .0 .1), room0 t q))
+    (falls-to t s (some t k), ((omega arith, s .pre .1 .0 .1), room0 t q))
 
 write-sector-write-sector-requires-2 : (t : ℕ) → write-sector-lts.Need-write-sector-requires-2 (calls t) (write-sector-at t) write-sector.Post
 write-sector-write-sector-requires-2 t c κs =
@@ -207,9 +235,10 @@ write-sector-write-sector-requires-4 t c κs =
 
 write-sector-put-node-requires : (t : ℕ) → write-sector-lts.Need-put-node-requires (calls t) (write-sector-at t) write-sector.Post
 write-sector-put-node-requires t c κs =
-    let c3 = c .before .before .before .before .before .before .before in
-    let c2 = c .before .before .before .before .before .before .before .before .before .before .before in
-    let c1 = c .before .before .before .before .before .before .before .before .before .before .before .before .before .before .before in
+    let c4 = c .before .before .before in
+    let c3 = c4 .before .before .before .before in
+    let c2 = c3 .before .before .before .before in
+    let c1 = c2 .before .before .before .before in
     let k = own1 t c1 in (
       first-small _ (room0 t k),
       first-small _ (room1 t c1),
@@ -219,27 +248,34 @@ write-sector-put-node-requires t c κs =
 
 write-sector-same-length-2 : (t : ℕ) → write-sector-lts.Need-same-length-2 (calls t) (write-sector-at t) write-sector.Post
 write-sector-same-length-2 t c =
+    let after-put-node = c .before .before in
+    let c4 = after-put-node .before .before .before .before in
+    let c3 = c4 .before .before .before .before in
+    let c2 = c3 .before .before .before .before in
+    let c1 = c2 .before .before .before .before in
+    let after-pad = c1 .before .before .before .before .before in
     omega (
       arith,
-      c .before .before .put-node .kept,
-      c .before .before .before .before .before .before .write-sector4 .kept,
-      c .before .before .before .before .before .before .before .before .before .before .write-sector3 .kept,
-      c .before .before .before .before .before .before .before .before .before .before .before .before .before .before .write-sector2 .kept,
-      c .before .before .before .before .before .before .before .before .before .before .before .before .before .before .before .before .before .before .write-sector .kept,
-      c .before .before .before .before .before .before .before .before .before .before .before .before .before .before .before .before .before .before .before .before .before .before .before .pad .kept,
+      after-put-node .put-node .kept,
+      c4 .write-sector4 .kept,
+      c3 .write-sector3 .kept,
+      c2 .write-sector2 .kept,
+      c1 .write-sector .kept,
+      after-pad .pad .kept,
     )
 
 write-sector-returns-2 : (t : ℕ) → write-sector-lts.Need-returns-2 (calls t) (write-sector-at t) write-sector.Post
 write-sector-returns-2 t c =
-    let c4 = c .before .before .before .before .before .before in
-    let c3 = c .before .before .before .before .before .before .before .before .before .before in
-    let c2 = c .before .before .before .before .before .before .before .before .before .before .before .before .before .before in
-    let c1 = c .before .before .before .before .before .before .before .before .before .before .before .before .before .before .before .before .before .before in
+    let after-put-node = c .before .before in
+    let c4 = after-put-node .before .before .before .before in
+    let c3 = c4 .before .before .before .before in
+    let c2 = c3 .before .before .before .before in
+    let c1 = c2 .before .before .before .before in
     let k = own1 t c1 in
     let s = start t k in
-    let e = k .before .before .before .before .before .before .split .ensures in
+    let e = split-of t k .split .ensures in
     grown-wrote (lo t k) (size t k) (ids t s) (stored t s) (d t s) (s .args .b) (s .args .spot) (room t s (some t k)) (e .0) (stand0 t k) (e .1) (c1 .write-sector .ensures) (e .2) (c2 .write-sector2 .ensures) (e .3) (c3 .write-sector3 .ensures)
-    (now (s .args .out)) (k .before .before .before .pad .ensures .1) (c4 .write-sector4 .ensures) (k .before .before .before .pad .ensures .0) (c .before .before .put-node .ensures) (down (s .args .depth) (some t k))
+    (now (s .args .out)) (k .alloc .ensures) (k .before .before .before .pad .ensures .1) (c4 .write-sector4 .ensures) (k .before .before .before .pad .ensures .0) (c .before .before .put-node .ensures) (down (s .args .depth) (some t k))
 
 pub +write-sector-spec : {M : Type 1} → statement M
 +write-sector-spec = close μ-write-sector λ t. write-sector-lts.spec (calls t)

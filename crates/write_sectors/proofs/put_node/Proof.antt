@@ -1,4 +1,4 @@
--- `sectors::put_node` meets its contract. Assumes nothing.
+-- `write_sectors::put_node` meets its contract: the four addresses are those of the subs' sectors, and `put_sector` stores the rest. Assumes nothing.
 use borrow.Author.Needs.{needs}
 use Rattle.write_sectors.proofs.put_node.Statement.{statement}
 use Rattle.write_sectors.proofs.put_node.Tie as tie
@@ -22,7 +22,11 @@ same-length : tie.Need-same-length
 same-length c = search needs
 
 returns : tie.Need-returns
-returns c = rw (c .before .before .before .before .before .before .before .address-of .ensures, c .before .before .before .before .before .before .address-of2 .ensures, c .before .before .before .before .before .address-of3 .ensures, c .before .before .before .before .address-of4 .ensures) at (c .before .before .put-sector .ensures)
+returns c =
+    let after-address-of3 = c .before .before .before .before .before in
+    let after-address-of2 = after-address-of3 .before in
+    let after-address-of = after-address-of2 .before in
+    rw (after-address-of .address-of .ensures, after-address-of2 .address-of2 .ensures, after-address-of3 .address-of3 .ensures, c .before .before .before .before .address-of4 .ensures) at (c .before .before .put-sector .ensures)
 
 pub put-node-spec : {M : Type 1} → statement M
 put-node-spec =

@@ -1,4 +1,4 @@
--- `write_vectors::room` meets its contract.
+-- `write_vectors::room` meets its contract: an array of so many equal words has that length.
 use Prim.Native.Nat.{ℕ}
 use mathlib.Core.Path.{sym}
 use lib.ListN.{length-replicate}

@@ -1,8 +1,8 @@
--- `write_vectors::untouched` meets its contract.
+-- `write_vectors::untouched` meets its contract: an array of so many equal bytes is that list, and has that length.
 use Prim.Native.Nat.{ℕ}
 use mathlib.Core.Path.{refl, sym}
 use lib.ListN.{length-replicate}
-use Rattle.write_vectors.specs.Agreement.{untouchedBytes}
+use Rattle.write_replay.specs.Agreement.{untouchedBytes}
 use Rattle.write_vectors.proofs.untouched.Statement.{statement}
 use Rattle.write_vectors.proofs.untouched.Tie as tie
 

@@ -10,7 +10,8 @@ use borrow.Author.Needs.{needs}
 use Rattle.write_vertices.specs.Table.{met}
 use Rattle.write_vertices.proofs.Triples.{length-met}
 use Rattle.write_vertices.proofs.Numbering.{Going, Step, start, given-at, turn, over, number-le, done}
-use Rattle.write_vertices.proofs.Parts.{lent, back-take, back-length, back-drop, store-length, store-drop, store-take}
+use Rattle.fields.proofs.Puts.{lent}
+use Rattle.write_vertices.proofs.Parts.{back-take, back-length, back-drop, store-length, store-drop, store-take}
 use Rattle.write_vertices.proofs.Enough.{tree-left}
 use Rattle.write_vertices.proofs.OneSlice.{tail-cleared, finish}
 use Rattle.write_vertices.proofs.number_in.Statement.{statement}
@@ -47,7 +48,7 @@ step c = record {
   size = length-met _ _ _;
   more = c .before .before .before .loop-test .taken;
   key = given-at _ _ _ _ (c .before .before .before .loop-test .taken) (c .before .before .whole-triple-at .ensures .0);
-  looked = rw (lent _ _ (within (c .before .before .before .before))) at (c .vertex-index .ensures);
+  looked = rw (lent _ _) at (c .vertex-index .ensures);
 }
 
 mul-clear : tie.Need-mul-clear Inv-loop μ-loop
@@ -92,7 +93,7 @@ part-vertex-index-end c = search needs
 vertex-index-requires : tie.Need-vertex-index-requires Inv-loop μ-loop
 vertex-index-requires c κs = let g = c .before .before .before .loop .inv .1 in
     let a = c .before .before .before .before .before .before .before .before .before .before .args in
-    rw (lent (a .m) (c .before .before .before .loop .work) (within (c .before .before .before)))
+    rw (lent (a .m) (c .before .before .before .loop .work))
     (record { table = g .table; trees = tree-left (a .m) _ _ (c .before .before .before .before .before .before .before .before .before .before .pre .4) (omega (arith, g .few, c .before .before .loop-test .taken)); more = omega (arith, g .few, length-drop (a .m) (c .before .before .before .loop .work), long (c .before .before .before), c .before .before .loop-test .taken, c .before .before .before .before .before .before .before .before .before .before .pre); short = c .before .whole-triple-at .ensures .1 })
 
 enum-known-known : tie.Need-enum-known-known Inv-loop μ-loop

@@ -43,7 +43,7 @@ returns-3 c =
     let at-enum-told = at-u64-le .before in
     let at-check-head = at-enum-told .before .before in
     let start = at-check-head .before .before .before .before .before in
-    (decided (start .args .system .now) (start .args .graphics .now) (at-check-head .check-head .ensures (start .args .system .now) (start .args .graphics .now) (start .pre)) (at-enum-told .enum-told .given .1) (at-u64-le .u64-le .ensures ∙ ap (λ (l : List ℕ). leAt 8 l 0x120) (start .pre .header-is)) (at-read-sector-tree .read-sector-tree .result) (at-read-sector-tree .read-sector-tree .ensures) (at-tree .tree .given .1) (c .decide-rest .ensures .0), c .decide-rest .ensures .1)
+    (decided (start .args .system .now) (start .args .graphics .now) (at-check-head .check-head .ensures (start .args .system .now) (start .args .graphics .now) (start .pre)) (at-enum-told .enum-told .given .1) (at-u64-le .u64-le .ensures ∙ ap (λ (l : List ℕ). leAt 8 l 0x120) (start .pre .header-is)) (at-read-sector-tree .read-sector-tree .result) (at-read-sector-tree .read-sector-tree .ensures) (at-tree .tree .given .1) (c .decide-rest .result) (c .decide-rest .ensures .0), c .decide-rest .ensures .1)
 
 pub decide-spec : {M : Type 1} → statement M
 decide-spec =

@@ -2,7 +2,7 @@
 use mathlib.Core.Path.{ap, _∙_}
 use lib.ListN.{length, length-set}
 use native.Mathlib.Omega.{arith}
-use Rattle.fields.specs.Bytes.{put}
+use Rattle.fields.specs.Put.{put}
 use Rattle.strip.specs.Cell.{Head, headWords}
 use Rattle.ynv_read.proofs.Heads.{cell-of, head-is}
 use Rattle.ynv_read.proofs.Fills.{room, filled}
@@ -12,7 +12,8 @@ use Rattle.ynv_read.proofs.fill.Tie as tie
 
 put-cell-requires : tie.Need-put-cell-requires
 put-cell-requires c κs =
-    let start = c .before .before .before .before .before .before .before in
+    let midway = c .before .before .before .before .before in
+    let start = midway .before .before in
     let m = room (start .args .system .now) (start .args .graphics .now) (start .pre .1) in omega (arith, m .all)
 
 fill-polygons-requires : tie.Need-fill-polygons-requires

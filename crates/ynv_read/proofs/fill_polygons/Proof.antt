@@ -6,7 +6,8 @@ use Rattle.ynv_read.proofs.fill_polygons.Tie as tie
 
 links-of-requires : tie.Need-links-of-requires
 links-of-requires c κs =
-    let start = c .before .before .before .before .before .before .before .before .before in
+    let midway = c .before .before .before .before .before in
+    let start = midway .before .before .before .before in
     start .pre .0 .header-is
 
 put-polygons-requires : tie.Need-put-polygons-requires

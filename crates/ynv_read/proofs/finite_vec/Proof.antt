@@ -18,7 +18,11 @@ returns-2 c = rw (passed (c .before .before .before .before .is-finite .ensures 
 
 returns-3 : tie.Need-returns-3
 unfolding vecOf
-returns-3 c = rw (passed (c .before .before .before .before .before .before .is-finite .ensures ∙ ap (λ (n : ℕ). finiteBits n) (c .before .before .before .before .before .before .before .u32-le .ensures)) (c .before .before .before .before .before .if1 .left), passed (c .before .before .before .is-finite2 .ensures ∙ ap (λ (n : ℕ). finiteBits n) (c .before .before .before .before .u32-le2 .ensures)) (c .before .before .if2 .left)) (c .is-finite3 .ensures ∙ ap (λ (n : ℕ). finiteBits n) (c .before .u32-le3 .ensures))
+returns-3 c =
+    let after-if1 = c .before .before .before .before .before in
+    let after-is-finite = after-if1 .before in
+    let after-u32-le = after-is-finite .before in
+    rw (passed (after-is-finite .is-finite .ensures ∙ ap (λ (n : ℕ). finiteBits n) (after-u32-le .u32-le .ensures)) (after-if1 .if1 .left), passed (c .before .before .before .is-finite2 .ensures ∙ ap (λ (n : ℕ). finiteBits n) (c .before .before .before .before .u32-le2 .ensures)) (c .before .before .if2 .left)) (c .is-finite3 .ensures ∙ ap (λ (n : ℕ). finiteBits n) (c .before .u32-le3 .ensures))
 
 pub finite-vec-spec : {M : Type 1} → statement M
 finite-vec-spec =

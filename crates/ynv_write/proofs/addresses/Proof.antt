@@ -1,4 +1,4 @@
--- `ynv_write::addresses` meets its contract. Assumes nothing.
+-- `ynv_write::addresses` meets its contract: each address is `address_of`'s, and all seven together are the definition's. Assumes nothing.
 use borrow.Author.Needs.{needs}
 use Rattle.ynv_write.proofs.addresses.Statement.{statement}
 use Rattle.ynv_write.proofs.addresses.Tie as tie
@@ -31,7 +31,12 @@ address-of-requires-7 : tie.Need-address-of-requires-7
 address-of-requires-7 c κs = search needs
 
 returns : tie.Need-returns
-returns c = rw (c .before .before .before .before .before .before .before .before .address-of .ensures, c .before .before .before .before .before .before .before .address-of2 .ensures, c .before .before .before .before .before .before .address-of3 .ensures, c .before .before .before .before .before .address-of4 .ensures, c .before .before .before .before .address-of5 .ensures, c .before .before .address-of6 .ensures, c .address-of7 .ensures)
+returns c =
+    let after-address-of4 = c .before .before .before .before .before in
+    let after-address-of3 = after-address-of4 .before in
+    let after-address-of2 = after-address-of3 .before in
+    let after-address-of = after-address-of2 .before in
+    rw (after-address-of .address-of .ensures, after-address-of2 .address-of2 .ensures, after-address-of3 .address-of3 .ensures, after-address-of4 .address-of4 .ensures, c .before .before .before .before .address-of5 .ensures, c .before .before .address-of6 .ensures, c .address-of7 .ensures)
 
 pub addresses-spec : {M : Type 1} → statement M
 addresses-spec =

@@ -1,4 +1,4 @@
--- `ynv_write::area_count` meets its contract. Assumes nothing.
+-- `ynv_write::area_count` meets its contract: the lesser of the length and 32 is how many ids are taken. Assumes nothing.
 use mathlib.Core.Path.{_≡_, sym, _∙_}
 use lib.ListN.{length, length-take}
 use borrow.Author.Needs.{needs}

@@ -1,9 +1,9 @@
--- `ynv_write::fill` meets its contract. Assumes nothing.
+-- `ynv_write::fill` meets its contract: the lists, the rest behind them and the header, stored last, are the cell's pages (`filled`). Assumes nothing.
 use mathlib.Core.Path.{ap, _∙_}
 use lib.ListN.{length}
 use Rattle.fields.proofs.Puts.{length-put}
 use borrow.Author.Needs.{needs}
-use Rattle.write_header.proofs.Planned.{link-count}
+use Rattle.write_ends.proofs.Planned.{link-count}
 use Rattle.ynv_write.proofs.Whole.{near, few, filled}
 use Rattle.ynv_write.proofs.fill.Statement.{statement}
 use Rattle.ynv_write.proofs.fill.Tie as tie
@@ -13,19 +13,28 @@ fill-lists-requires c κs = c .before .before .before .before .before .pre .0
 
 fill-rest-requires : tie.Need-fill-rest-requires
 fill-rest-requires c κs =
-    let listed = c .before .before .before .before .before .before .fill-lists .ensures in
-    let entry = c .before .before .before .before .before .before .before .before .before .before .before .before in
+    let after-pages = c .before .before .before .before .before in
+    let after-fill-lists = after-pages .before in
+    let before-fill-lists = after-fill-lists .before .before in
+    let entry = before-fill-lists .before .before .before .before in
+    let listed = after-fill-lists .fill-lists .ensures in
     let R = entry .pre .0 in
     (listed .1 .kept, link-count (entry .args .strip .now) (entry .args .work .now) (entry .args .d) R, listed .0 .polygons, R .tabled .cell)
 
 addresses-requires : tie.Need-addresses-requires
 addresses-requires c κs =
-    let entry = c .before .before .before .before .before .before .before .before .before .before .before .before .before .before .before in
-    near (entry .args .strip .now) (entry .args .work .now) (entry .args .d) (entry .pre .0) (c .before .before .before .before .before .before .before .before .before .fill-lists .ensures .0) (c .before .before .fill-rest .ensures)
+    let before-fill-rest = c .before .before .before .before in
+    let after-fill-lists = before-fill-rest .before .before .before .before .before in
+    let before-fill-lists = after-fill-lists .before .before in
+    let entry = before-fill-lists .before .before .before .before in
+    near (entry .args .strip .now) (entry .args .work .now) (entry .args .d) (entry .pre .0) (after-fill-lists .fill-lists .ensures .0) (c .before .before .fill-rest .ensures)
 
 totals-requires : tie.Need-totals-requires
 totals-requires c κs =
-    let entry = c .before .before .before .before .before .before .before .before .before .before .before .before .before .before .before .before in
+    let after-fill-rest = c .before .before .before in
+    let after-work = after-fill-rest .before .before .before .before in
+    let before-fill-lists = after-work .before .before .before .before .before in
+    let entry = before-fill-lists .before .before .before .before in
     few (entry .args .strip .now) (entry .args .work .now) (entry .args .d) (entry .pre .0) (entry .args .bytes) (entry .pre .1)
 
 put-header-requires : tie.Need-put-header-requires
@@ -33,10 +42,16 @@ put-header-requires c κs = search needs
 
 returns : tie.Need-returns
 returns c =
-    let listed = c .before .before .before .before .before .before .before .before .before .before .before .before .before .before .before .before .before .fill-lists .ensures in
-    let known = c .before .before .before .before .before .before .before .before .before .before .before .before .before .before .before .before .before .before .before .before .before .before in
+    let after-put-header = c .before .before in
+    let after-totals = after-put-header .before .before .before .before in
+    let after-addresses = after-totals .before in
+    let after-fill-rest = after-addresses .before .before .before in
+    let after-work = after-fill-rest .before .before .before .before in
+    let after-fill-lists = after-work .before .before .before in
+    let known = after-fill-lists .before .before .before .before .before in
     let entry = known .before in
-    filled (entry .args .strip .now) (entry .args .work .now) (entry .args .d) (entry .pre .0) (listed .0) (c .before .before .before .before .before .before .before .before .before .before .fill-rest .ensures) (λ k. known .shared-slice-known .given k .fits) (listed .1) _ (c .before .before .before .before .before .before .before .addresses .ensures) _ (entry .pre .1) _ (c .before .before .before .before .before .before .totals .ensures) (c .before .before .put-header .ensures)
+    let listed = after-fill-lists .fill-lists .ensures in
+    filled (entry .args .strip .now) (entry .args .work .now) (entry .args .d) (entry .pre .0) (listed .0) (after-fill-rest .fill-rest .ensures) (λ k. known .shared-slice-known .given k .fits) (listed .1) _ (after-addresses .addresses .ensures) _ (entry .pre .1) _ (after-totals .totals .ensures) (after-put-header .put-header .ensures)
 
 same-length : tie.Need-same-length
 same-length c = search needs

@@ -1,5 +1,4 @@
--- `ynv_write::fill_rest` meets its contract. Assumes nothing.
-use mathlib.Core.Path.{refl}
+-- `ynv_write::fill_rest` meets its contract: sectors, portals and links are laid one behind the other, the portals from `first_portal` on. Assumes nothing.
 use Rattle.strip.specs.Reading.{headAt}
 use Rattle.cell_record.proofs.Fields.{min-is, size-is}
 use Rattle.ynv_write.proofs.Rest.{portals-ask, links-ask, rest-filled}
@@ -9,59 +8,55 @@ use Rattle.ynv_write.proofs.fill_rest.Tie as tie
 
 fill-sectors-requires : tie.Need-fill-sectors-requires
 fill-sectors-requires c κs =
-    let entry = c .before .before .before .before .before .before .before .before in
+    let after-counts = c .before .before .before .before in
+    let entry = after-counts .before .before .before .before in
     (entry .pre .0, entry .pre .2, entry .pre .3)
 
-sub-first : tie.Need-sub-first
-sub-first c = search needs
-
-mul-first : tie.Need-mul-first
-mul-first c = search needs
-
-sub-first-2 : tie.Need-sub-first-2
-sub-first-2 c = search needs
-
-mul-first-2 : tie.Need-mul-first-2
-mul-first-2 c = search needs
-
-sub-first-3 : tie.Need-sub-first-3
-sub-first-3 c = search needs
+first-portal-requires : tie.Need-first-portal-requires
+first-portal-requires c κs =
+    let after-bb-size = c .before .before .before .before .before in
+    let after-counts = after-bb-size .before .before .before in
+    let entry = after-counts .before .before .before .before in
+    entry .pre .0 .whole
 
 lay-portals-requires : tie.Need-lay-portals-requires
 lay-portals-requires c κs =
-    let filled = c .before .before .before .before .before .before in
-    let entry = filled .before .before .before .before .before .before .before .before .before in
-    portals-ask (entry .args .strip .now) (entry .args .work .now) (entry .args .d .counts) (entry .pre .0) (filled .fill-sectors .ensures) _ refl
+    let filled = c .before .before .before .before .before in
+    let after-counts = filled .before .before .before .before .before in
+    let entry = after-counts .before .before .before .before in
+    portals-ask (entry .args .strip .now) (entry .args .work .now) (entry .args .d .counts) (entry .pre .0) (filled .fill-sectors .ensures) _ (c .before .first-portal .ensures)
 
 lay-links-requires : tie.Need-lay-links-requires
 lay-links-requires c κs =
-    let filled = c .before .before .before .before .before .before .before .before .before .before in
-    let entry = filled .before .before .before .before .before .before .before .before .before in
+    let after-first-portal = c .before .before .before .before .before in
+    let filled = after-first-portal .before .before .before .before in
+    let after-counts = filled .before .before .before .before .before in
+    let entry = after-counts .before .before .before .before in
     let s = entry .args .strip .now in
     let cell = entry .args .d .cell in
-    links-ask s (entry .args .work .now) (entry .args .d .counts) (entry .pre .0) (filled .fill-sectors .ensures) _ refl _ _ (min-is (headAt s 0) cell (entry .pre .3)) (size-is (headAt s 0) cell (entry .pre .3)) (c .before .before .before .lay-portals .ensures) _ (entry .pre .1)
+    links-ask s (entry .args .work .now) (entry .args .d .counts) (entry .pre .0) (filled .fill-sectors .ensures) _ (after-first-portal .first-portal .ensures) _ _ (min-is (headAt s 0) cell (entry .pre .3)) (size-is (headAt s 0) cell (entry .pre .3)) (c .before .before .before .lay-portals .ensures) _ (entry .pre .1)
 
 same-length : tie.Need-same-length
 same-length c = search needs
 
 returns : tie.Need-returns
 returns c =
-    let filled = c .before .before .before .before .before .before .before .before .before .before .before .before .before in
-    let entry = filled .before .before .before .before .before .before .before .before .before in
+    let after-lay-links = c .before .before in
+    let after-lay-portals = after-lay-links .before .before .before .before in
+    let after-first-portal = after-lay-portals .before .before in
+    let filled = after-first-portal .before .before .before .before in
+    let after-counts = filled .before .before .before .before .before in
+    let entry = after-counts .before .before .before .before in
     let s = entry .args .strip .now in
     let cell = entry .args .d .cell in
-    rest-filled s (entry .args .work .now) (entry .args .d .counts) (entry .pre .0) (filled .fill-sectors .ensures) _ refl _ _ (min-is (headAt s 0) cell (entry .pre .3)) (size-is (headAt s 0) cell (entry .pre .3)) (c .before .before .before .before .before .before .lay-portals .ensures) (c .before .before .lay-links .ensures)
+    rest-filled s (entry .args .work .now) (entry .args .d .counts) (entry .pre .0) (filled .fill-sectors .ensures) _ (after-first-portal .first-portal .ensures) _ _ (min-is (headAt s 0) cell (entry .pre .3)) (size-is (headAt s 0) cell (entry .pre .3)) (after-lay-portals .lay-portals .ensures) (after-lay-links .lay-links .ensures)
 
 pub fill-rest-spec : {M : Type 1} → statement M
 fill-rest-spec =
     tie.close
     (tie.spec
     fill-sectors-requires
-    sub-first
-    mul-first
-    sub-first-2
-    mul-first-2
-    sub-first-3
+    first-portal-requires
     lay-portals-requires
     lay-links-requires
     same-length

@@ -1,12 +1,13 @@
--- `ynv_write::serialize_ynv` meets its contract. Assumes nothing.
+-- `ynv_write::serialize_ynv` meets its contract: a plan's fault is the answer (`refuses`), then a length that doesn't fit (`too-short`), and otherwise what `fill` stored are the pages (`writes`). Assumes nothing.
 use Prim.Native.Nat.{_≤_}
 use native.Mathlib.Omega.{arith}
 use mathlib.Core.Path.{_∙_}
 use lib.ListN.{length}
 use Rattle.fields.proofs.Puts.{put-whole}
 use Rattle.write_pages.specs.Pages.{pages}
-use Rattle.write_plan.specs.Ready.{cellAt}
+use Rattle.strip.specs.Laid.{cellAt}
 use Rattle.write_plan.proofs.Ready.{ready}
+use Rattle.write_ends.proofs.Planned.{pages-reached}
 use Rattle.ynv_write.proofs.Whole.{refuses, too-short, writes, answers-length}
 use borrow.Author.Needs.{needs}
 use Rattle.ynv_write.proofs.serialize_ynv.Statement.{statement}
@@ -30,11 +31,14 @@ returns c =
     let planned = fine .before .before .before .before in
     let a = planned .before .before .before .before .before .args in
     let P = planned .plan .ensures in
-    let short = too-short (a .strip .now) (a .work .now) _ _ P (length (a .pages .now)) (fine .enum-told .given .1) (omega (arith, c .if1 .taken, c .before .pages-end .ensures .0)) in
+    let short = too-short (a .strip .now) (a .work .now) _ _ P (length (a .pages .now)) (fine .enum-told .given .1) (omega (arith, c .if1 .taken, pages-reached (cellAt (a .strip .now) (planned .plan .result .counts)) (c .before .pages-end .ensures .0))) in
     (rw short, (rw short, P .long))
 
 fill-requires : tie.Need-fill-requires
-fill-requires c κs = (ready _ _ _ _ (c .before .before .before .before .before .before .before .before .before .plan .ensures) (c .before .before .before .before .before .enum-told .given .1), c .before .before .before .pages-end .ensures .1)
+fill-requires c κs =
+    let after-enum-told = c .before .before .before .before .before in
+    let after-plan = after-enum-told .before .before .before .before in
+    (ready _ _ _ _ (after-plan .plan .ensures) (after-enum-told .enum-told .given .1), c .before .before .before .pages-end .ensures .1)
 
 enum-known-verdict : tie.Need-enum-known-verdict
 enum-known-verdict c = search needs
@@ -47,16 +51,21 @@ same-length-3 c = search needs
 
 returns-2 : tie.Need-returns-2
 returns-2 c =
-    let ended = c .before .before .before .before .before .before .before .before .pages-end in
-    let fine = c .before .before .before .before .before .before .before .before .before .before in
+    let after-fill = c .before .before .before .before in
+    let at-if1 = after-fill .before .before .before in
+    let after-pages-end = at-if1 .before in
+    let fine = after-pages-end .before .before in
     let planned = fine .before .before .before .before in
-    let a = planned .before .before .before .before .before .args in
+    let entry = planned .before .before .before .before .before in
+    let ended = after-pages-end .pages-end in
+    let a = entry .args in
     let P = planned .plan .ensures in
     let out = length (a .pages .now) in
     let none = fine .enum-told .given .1 in
-    let room : length (pages (cellAt (a .strip .now) (planned .plan .result .counts))) ≤ out = omega (arith, c .before .before .before .before .before .before .before .if1 .left, ended .ensures .0) in
-    let F = c .before .before .before .before .fill .ensures in
-    (answers-length (a .strip .now) (a .work .now) _ _ P out none room (ended .ensures .0), (rw (writes (a .strip .now) (a .work .now) _ _ P out none room) (F .bytes ∙ put-whole _ _ room), F .long ∙ P .long))
+    let long = pages-reached (cellAt (a .strip .now) (planned .plan .result .counts)) (ended .ensures .0) in
+    let room : length (pages (cellAt (a .strip .now) (planned .plan .result .counts))) ≤ out = omega (arith, at-if1 .if1 .left, long) in
+    let F = after-fill .fill .ensures in
+    (answers-length (a .strip .now) (a .work .now) _ _ P out none room long, (rw (writes (a .strip .now) (a .work .now) _ _ P out none room) (F .bytes ∙ put-whole _ _ room), F .long ∙ P .long))
 
 same-length-4 : tie.Need-same-length-4
 same-length-4 c = search needs

@@ -1,4 +1,4 @@
--- `ynv_write::totals` meets its contract. Assumes nothing.
+-- `ynv_write::totals` meets its contract: the products fit by the counts' bounds, and their sum is the definition's in another order. Assumes nothing.
 use Prim.Native.Nat.{_+_, _*_}
 use mathlib.Core.Path.{_≡_}
 use native.Mathlib.Omega.{arith}
@@ -43,21 +43,36 @@ cast-t16 : tie.Need-cast-t16
 cast-t16 c = search needs
 
 cast-t17 : tie.Need-cast-t17
-cast-t17 c = omega (arith, c .before .before .before .before .before .before .before .before .before .before .before .pre)
+cast-t17 c =
+    let after-area-count = c .before .before .before in
+    let lent = after-area-count .before .before .before .before .before in
+    let entry = lent .before .before .before in
+    omega (arith, entry .pre)
 
 cast-t18 : tie.Need-cast-t18
-cast-t18 c = omega (arith, c .before .before .before .before .before .before .before .before .before .before .before .pre)
+cast-t18 c =
+    let after-area-count = c .before .before .before in
+    let lent = after-area-count .before .before .before .before .before in
+    let entry = lent .before .before .before in
+    omega (arith, entry .pre)
 
 add-t19 : tie.Need-add-t19
-add-t19 c = omega (arith, c .before .before .before .before .before .before .before .before .before .before .before .pre)
+add-t19 c =
+    let after-area-count = c .before .before .before in
+    let lent = after-area-count .before .before .before .before .before in
+    let entry = lent .before .before .before in
+    omega (arith, entry .pre)
 
 returns : tie.Need-returns
 returns c =
-    let d = c .before .before .before .before .before .before .before .before .before .before .before .args .d in
-    let b = c .before .before .before .before .before .before .before .before .before .before .before .args .bytes in
+    let after-area-count = c .before .before .before in
+    let lent = after-area-count .before .before .before .before .before in
+    let entry = lent .before .before .before in
+    let d = entry .args .d in
+    let b = entry .args .bytes in
     let sum : b + (6 * d .vertices + 10 * d .corners + 48 * d .counts .polys + 28 * d .counts .portals)
     ≡ b + 28 * d .counts .portals + 6 * d .vertices + 2 * d .corners + 8 * d .corners + 48 * d .counts .polys = omega arith in
-    rw (c .before .before .before .area-count .ensures, sum)
+    rw (after-area-count .area-count .ensures, sum)
 
 pub totals-spec : {M : Type 1} → statement M
 totals-spec =

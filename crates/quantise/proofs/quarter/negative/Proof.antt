@@ -1,4 +1,4 @@
--- `quantise::quarter::negative` meets its contract. Assumes nothing.
+-- `quantise::quarter::negative` meets its contract: below 2^15 the negated number fits 16 bits and is itself, from there on the least is the saturated one.
 use mathlib.Core.Path.{_≡_, refl, sym, _∙_, ap, subst}
 use Prim.Native.Nat.{ℕ, zero, suc, _^_, _≤_, _<_}
 use native.Mathlib.Omega.{arith}

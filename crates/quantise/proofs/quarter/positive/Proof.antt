@@ -1,4 +1,4 @@
--- `quantise::quarter::positive` meets its contract. Assumes nothing.
+-- `quantise::quarter::positive` meets its contract: below 2^15 the cast keeps the number, from there on the greatest is the saturated one.
 use mathlib.Core.Path.{_∙_, ap}
 use native.Mathlib.Nat.{lt-trans}
 use native.Mathlib.Omega.{arith}

@@ -1,4 +1,4 @@
--- `quantise::short::is_small` meets its contract. Assumes nothing.
+-- `quantise::short::is_small` meets its contract: each side of the first test is a law of the interval (`small-above`, `small-below`).
 use lib.Ieee.{ofBits, neg}
 use Rattle.quantise.proofs.Extent.{small-above, small-below}
 use Rattle.quantise.proofs.short.is_small.Statement.{statement}

@@ -5,13 +5,14 @@ use mathlib.Core.List.{map}
 use Prim.Native.Nat.{ℕ, _+_, _-_, _*_, _≤_}
 use lib.ListN.{length, take, drop}
 use borrow.Author.Needs.{needs}
-use Rattle.fields.specs.Bytes.{put, cut}
+use Rattle.fields.specs.Bytes.{cut}
+use Rattle.fields.specs.Put.{put}
 use Rattle.strip.specs.Cell.{each, portalWords}
 use Rattle.read_grammar.specs.Derives.{portalOf}
 use Rattle.fields.proofs.Puts.{length-put}
 use Rattle.read_records.specs.Back.{backBy, backIn}
 use Rattle.read_records.proofs.Items.{put-begin, put-item, put-end}
-use Rattle.read_records.proofs.Stores.{portal-length}
+use Rattle.strip.proofs.Plain.{portal-length}
 use Rattle.read_records.proofs.portal.put_portals.Statement.{statement}
 use Rattle.read_records.proofs.portal.put_portals.Tie as tie
 

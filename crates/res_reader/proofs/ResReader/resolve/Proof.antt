@@ -38,7 +38,8 @@ use denote.Triple.Walked.{says, Stays, stay-none, walkOf, goes-none, Walks, ends
 use denote.Exit.{yes}
 use denote.Triple.Clauses.{ensured, lasts}
 use mathlib.Core.Bool.{true}
-use Rattle.resource.specs.Section.{good, resolved, resolvedAt}
+use Rattle.resource.specs.Section.{good, resolved}
+use Rattle.resource.specs.Places.{resolvedAt}
 use Rattle.res_reader.specs.Looked.{Looked}
 use Rattle.resource.proofs.resolve as lookup
 use Rattle.resource.proofs.resolve.Symbol as lookup-def

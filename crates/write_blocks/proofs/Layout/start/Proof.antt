@@ -1,4 +1,4 @@
--- `blocks::Layout::start` meets its contract: the end so far is not above the block's end, so that both numbers fit.
+-- `write_blocks::Layout::start` meets its contract: the end so far is not above the block's end, so that both numbers fit.
 use native.Mathlib.Omega.{arith}
 use borrow.Author.Needs.{needs}
 use Rattle.write_blocks.proofs.Layouts.{place-ge}

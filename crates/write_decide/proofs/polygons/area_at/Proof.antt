@@ -1,4 +1,4 @@
--- `decide::polygons::area_at` meets its contract. Assumes nothing.
+-- `write_decide::polygons::area_at` meets its contract: the test is the definition's own, and the word is asked for only where the edge is there.
 use native.Mathlib.Omega.{arith}
 use borrow.Author.Tests.{lt-ltb, le-ltb}
 use Rattle.write_decide.proofs.polygons.area_at.Statement.{statement}

@@ -1,4 +1,5 @@
--- `decide::polygons::ensure_edge` meets its contract. Assumes nothing.
+-- `write_decide::polygons::ensure_edge` meets its contract: what the area table answers for half a, and then for half b, is a law of `Answers`.
+use native.Mathlib.Omega.{arith}
 use Rattle.write_decide.proofs.Answers.{edge-no-a, edge-no-b, edge-both}
 use borrow.Author.Needs.{needs}
 use Rattle.write_decide.proofs.polygons.ensure_edge.Statement.{statement}
@@ -23,13 +24,25 @@ enum-told-4 : tie.Need-enum-told-4
 enum-told-4 c = search needs
 
 returns : tie.Need-returns
-returns c = edge-both _ (c .before .before .before .before .before .before .before .before .pre) _ _ _ _ _ (c .before .before .before .before .before .before .ensure-id .ensures .0) (c .before .before .before .before .before .before .ensure-id .ensures .1) _ (c .before .before .before .before .enum-told .given .1) _ _ (c .before .before .ensure-id2 .ensures .0) (c .before .before .ensure-id2 .ensures .1) _ (c .enum-told2 .given .1)
+returns c =
+    let after-ensure-id2 = c .before .before in
+    let told = after-ensure-id2 .before .before in
+    let after-ensure-id = told .before .before in
+    let entry = after-ensure-id .before .before in
+    edge-both _ (entry .pre) _ _ _ _ _ (after-ensure-id .ensure-id .ensures .0) (after-ensure-id .ensure-id .ensures .1) _ (told .enum-told .given .1) _ _ (after-ensure-id2 .ensure-id2 .ensures .0) (after-ensure-id2 .ensure-id2 .ensures .1) _ (c .enum-told2 .given .1)
 
 returns-2 : tie.Need-returns-2
-returns-2 c = edge-no-b _ (c .before .before .before .before .before .before .before .before .pre) _ _ _ _ _ (c .before .before .before .before .before .before .ensure-id .ensures .0) (c .before .before .before .before .before .before .ensure-id .ensures .1) _ (c .before .before .before .before .enum-told .given .1) _ _ (c .before .before .ensure-id2 .ensures .0) (c .before .before .ensure-id2 .ensures .1) _ (c .enum-told3 .given .1)
+returns-2 c =
+    let after-ensure-id2 = c .before .before in
+    let told = after-ensure-id2 .before .before in
+    let after-ensure-id = told .before .before in
+    let entry = after-ensure-id .before .before in
+    edge-no-b _ (entry .pre) _ _ _ _ _ (after-ensure-id .ensure-id .ensures .0) (after-ensure-id .ensure-id .ensures .1) _ (told .enum-told .given .1) _ _ (after-ensure-id2 .ensure-id2 .ensures .0) (after-ensure-id2 .ensure-id2 .ensures .1) _ _ (omega arith) (c .enum-told3 .given .1)
 
 returns-3 : tie.Need-returns-3
-returns-3 c = edge-no-a _ (c .before .before .before .before .pre) _ _ _ _ _ (c .before .before .ensure-id .ensures .0) (c .before .before .ensure-id .ensures .1) _ (c .enum-told4 .given .1)
+returns-3 c =
+    let after-ensure-id = c .before .before in
+    edge-no-a _ (after-ensure-id .before .before .pre) _ _ _ _ _ (after-ensure-id .ensure-id .ensures .0) (after-ensure-id .ensure-id .ensures .1) _ _ (omega arith) (c .enum-told4 .given .1)
 
 pub ensure-edge-spec : {M : Type 1} → statement M
 ensure-edge-spec =

@@ -1,4 +1,4 @@
--- `decide::polygons::triple_of` meets its contract. Assumes nothing.
+-- `write_decide::polygons::triple_of` meets its contract: the shorts of the position, each of 16 bits, are added as `tripleIn` packs them.
 use Rattle.write_pages.specs.Items.{tripleIn}
 use borrow.Author.Needs.{needs}
 use Rattle.write_decide.proofs.polygons.triple_of.Statement.{statement}
@@ -33,7 +33,10 @@ add-result-2 c = search needs
 
 returns : tie.Need-returns
 unfolding tripleIn
-returns c = (rw (c .before .before .before .quantise .ensures, c .before .before .before .before .floats-at .ensures), search needs)
+returns c =
+    let after-quantise = c .before .before .before in
+    let after-floats-at = after-quantise .before in
+    (rw (after-quantise .quantise .ensures, after-floats-at .floats-at .ensures), search needs)
 
 pub triple-of-spec : {M : Type 1} → statement M
 triple-of-spec =

@@ -1,4 +1,4 @@
--- `quadtree::boxes::axis_of` meets its contract. Assumes nothing.
+-- `write_quadtree::boxes::axis_of` meets its contract: the three middles are the record's fields.
 use borrow.Author.Needs.{needs}
 use Rattle.write_quadtree.proofs.boxes.axis_of.Statement.{statement}
 use Rattle.write_quadtree.proofs.boxes.axis_of.Tie as tie
@@ -13,7 +13,7 @@ middle-of-requires-3 : tie.Need-middle-of-requires-3
 middle-of-requires-3 c κs = search needs
 
 returns : tie.Need-returns
-returns c = cc
+returns c = rw (c .middle-of3 .ensures, c .before .middle-of2 .ensures, c .before .before .middle-of .ensures)
 
 pub axis-of-spec : {M : Type 1} → statement M
 axis-of-spec = tie.close (tie.spec middle-of-requires middle-of-requires-2 middle-of-requires-3 returns)

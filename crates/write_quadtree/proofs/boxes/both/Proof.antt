@@ -1,4 +1,4 @@
--- `quadtree::boxes::both` meets its contract. Assumes nothing.
+-- `write_quadtree::boxes::both` meets its contract: by cases of the first flag.
 use Rattle.write_quadtree.proofs.boxes.both.Statement.{statement}
 use Rattle.write_quadtree.proofs.boxes.both.Tie as tie
 

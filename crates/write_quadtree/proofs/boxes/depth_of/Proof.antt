@@ -1,4 +1,4 @@
--- `quadtree::boxes::depth_of` meets its contract. Assumes nothing.
+-- `write_quadtree::boxes::depth_of` meets its contract: each side of the test is a law of the depth (`depth-two`, `depth-none`).
 use mathlib.Core.Path.{sym}
 use native.Mathlib.Omega.{arith}
 use Rattle.write_quadtree.proofs.Widths.{depth-two, depth-none}

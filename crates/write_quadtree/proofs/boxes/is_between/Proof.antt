@@ -1,4 +1,4 @@
--- `quadtree::boxes::is_between` meets its contract. Assumes nothing.
+-- `write_quadtree::boxes::is_between` meets its contract: by cases of the first test.
 use Rattle.write_pages.specs.Sectors.{between}
 use Rattle.write_quadtree.proofs.boxes.is_between.Statement.{statement}
 use Rattle.write_quadtree.proofs.boxes.is_between.Tie as tie

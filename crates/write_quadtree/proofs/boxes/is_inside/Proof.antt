@@ -1,4 +1,4 @@
--- `quadtree::boxes::is_inside` meets its contract. Assumes nothing.
+-- `write_quadtree::boxes::is_inside` meets its contract: both axes by `is_between`, y only where x is inside.
 use mathlib.Core.Path.{sym, _∙_}
 use Rattle.write_pages.specs.Sectors.{inside}
 use borrow.Author.Needs.{needs}

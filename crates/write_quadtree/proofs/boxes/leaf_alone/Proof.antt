@@ -1,4 +1,4 @@
--- `quadtree::boxes::leaf_alone` meets its contract. Assumes nothing.
+-- `write_quadtree::boxes::leaf_alone` meets its contract: of one leaf the first that holds the point is 0, or none, by `is_inside`.
 use mathlib.Core.Path.{sym, _∙_}
 use Rattle.write_pages.specs.Sectors.{leaves, leafOf}
 use Rattle.write_quadtree.proofs.boxes.leaf_alone.Statement.{statement}

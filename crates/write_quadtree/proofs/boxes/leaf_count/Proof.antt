@@ -1,4 +1,4 @@
--- `quadtree::boxes::leaf_count` meets its contract. Assumes nothing.
+-- `write_quadtree::boxes::leaf_count` meets its contract: for the two depths that its `requires` allows, by `leaves-wide`.
 use borrow.Author.Needs.{needs}
 use Rattle.write_quadtree.proofs.Widths.{leaves-wide}
 use Rattle.write_quadtree.proofs.boxes.leaf_count.Statement.{statement}

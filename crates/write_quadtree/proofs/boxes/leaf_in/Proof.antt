@@ -1,4 +1,4 @@
--- `quadtree::boxes::leaf_in` meets its contract. Assumes nothing.
+-- `write_quadtree::boxes::leaf_in` meets its contract: the leaves of the four subs in turn: the first that holds the point (`first-within`), behind those of the subs passed (`first-past`).
 use mathlib.Core.Path.{refl}
 use native.Mathlib.Omega.{arith}
 use borrow.Author.Needs.{needs}

@@ -1,4 +1,4 @@
--- `quadtree::boxes::leaf_of` meets its contract. Assumes nothing.
+-- `write_quadtree::boxes::leaf_of` meets its contract: at depth 0 the one leaf, at depth 2 the leaves found axis by axis, which are the tree's by `leaf-crossed`.
 use Prim.Native.Nat.{ℕ}
 use mathlib.Core.Path.{_≡_, sym, ap, _∙_}
 use native.Mathlib.Omega.{arith}

@@ -1,4 +1,4 @@
--- `quadtree::boxes::lines_of` meets its contract. Assumes nothing.
+-- `write_quadtree::boxes::lines_of` meets its contract: the two axes are the record's fields.
 use borrow.Author.Needs.{needs}
 use Rattle.write_quadtree.proofs.boxes.lines_of.Statement.{statement}
 use Rattle.write_quadtree.proofs.boxes.lines_of.Tie as tie
@@ -10,7 +10,7 @@ axis-of-requires-2 : tie.Need-axis-of-requires-2
 axis-of-requires-2 c κs = search needs
 
 returns : tie.Need-returns
-returns c = cc
+returns c = rw (c .before .axis-of .ensures, c .axis-of2 .ensures)
 
 pub lines-of-spec : {M : Type 1} → statement M
 lines-of-spec = tie.close (tie.spec axis-of-requires axis-of-requires-2 returns)

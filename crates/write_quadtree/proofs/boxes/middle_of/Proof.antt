@@ -1,4 +1,4 @@
--- `quadtree::boxes::middle_of` meets its contract: the operations are IEEE's. Assumes nothing.
+-- `write_quadtree::boxes::middle_of` meets its contract: the operations are IEEE's. Assumes nothing.
 use mathlib.Core.Path.{refl}
 use lib.Ieee.{mul, add, ofBits}
 use Rattle.write_pages.specs.Sectors.{middle}

@@ -1,4 +1,4 @@
--- `quadtree::boxes::ranges_of` meets its contract. Assumes nothing.
+-- `write_quadtree::boxes::ranges_of` meets its contract: the four answers are the record's fields.
 use borrow.Author.Needs.{needs}
 use Rattle.write_quadtree.proofs.boxes.ranges_of.Statement.{statement}
 use Rattle.write_quadtree.proofs.boxes.ranges_of.Tie as tie
@@ -16,7 +16,7 @@ is-between-requires-4 : tie.Need-is-between-requires-4
 is-between-requires-4 c κs = search needs
 
 returns : tie.Need-returns
-returns c = cc
+returns c = rw (c .before .before .before .is-between .ensures, c .before .before .is-between2 .ensures, c .before .is-between3 .ensures, c .is-between4 .ensures)
 
 pub ranges-of-spec : {M : Type 1} → statement M
 ranges-of-spec = tie.close (tie.spec is-between-requires is-between-requires-2 is-between-requires-3 is-between-requires-4 returns)

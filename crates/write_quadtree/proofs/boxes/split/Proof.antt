@@ -1,4 +1,4 @@
--- `quadtree::boxes::split` meets its contract. Assumes nothing.
+-- `write_quadtree::boxes::split` meets its contract: each of the four boxes is made of the corners and the callee's centre.
 use mathlib.Core.Path.{ap}
 use lib.Ieee.{ofBits}
 use Rattle.math.specs.declared.vec3.Vec3.{Vec3}

@@ -1,4 +1,4 @@
--- `quadtree::boxes::sub_of` meets its contract. Assumes nothing.
+-- `write_quadtree::boxes::sub_of` meets its contract: the four subs are tried in the order of `firstOf`, each by the equation of `both`.
 use mathlib.Core.Path.{sym, _∙_}
 use native.Mathlib.Omega.{arith}
 use Rattle.write_quadtree.specs.Lines.{firstOf}

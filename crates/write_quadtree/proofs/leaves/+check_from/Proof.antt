@@ -12,7 +12,7 @@ use Rattle.write_quadtree.specs.declared.leaves.LeafCheck.{LeafCheck}
 use Rattle.write_quadtree.specs.declared.leaves.LeafCheck.the-variants as LeafCheck
 use Rattle.write_pages.specs.Sectors.{leafIds, sub0, sub1, sub2, leafCounts}
 use Rattle.write_quadtree.specs.Work.{boxesIn, pickedFrom, treeBy, FirstRefused}
-use Rattle.write_quadtree.proofs.Widths.{down, quarter-width, quarter-room}
+use Rattle.write_quadtree.proofs.Widths.{down, quarter-width, one-down}
 use Rattle.write_quadtree.proofs.LeafVerdicts.{stop0, stop1, stop2, last3}
 use borrow.Author.Needs.{needs}
 use borrow.Fn.Kinds.{In}
@@ -90,8 +90,7 @@ module _ (t : ℕ) where
 
   asked : (s : Begin) → (s .args .depth ≡ 0 → ⊥) → (d s < t) × (s .args .width / 4 ≡ 4 ^ d s)
       × (s .args .leaf + s .args .width / 4 + s .args .width / 4 + s .args .width / 4 + 4 ^ d s < 2 ^ 32)
-  asked s h =
-      (omega (arith, s .pre .0, down (s .args .depth) h), wide s h, quarter-room (s .args .width) (s .args .depth) (s .pre .1 .0) h (s .args .leaf) (s .pre .1 .1))
+  asked s h = one-down (s .args .width) (s .args .depth) (s .pre .1 .0) h t (s .args .leaf) (omega (arith, s .pre .0)) (s .pre .1 .1)
 
   told0 : (c : C1) (ts : List NavPoint) → let s = start (c .before) in Of s ts → Told s ts (d s) (c .check-from .result) (s .args .leaf) (sub0 (s .args .b))
   told0 c ts l = told-at (start (c .before)) ts (c .check-from .result) refl (c .before .split .ensures .0) (c .check-from .ensures ts l)

@@ -1,11 +1,11 @@
--- `quadtree::leaves::axis_meets` meets its contract. Assumes nothing.
+-- `write_quadtree::leaves::axis_meets` meets its contract: the four sides, as the machine reads them, stand in the definition's two tests (`axis-yes`, `axis-no`).
 use Prim.Native.Nat.{_/_, _%_}
 use mathlib.Core.Path.{_≡_, sym, ap, _∙_}
 use native.Mathlib.Omega.{arith}
 use mir.Syntax.{w16}
 use mir.Val.{toZ, ofZ}
 use mir.ValLaws.{toZ-ofZ}
-use Rattle.quantise.specs.Quarter.{int16}
+use Rattle.quantise.specs.Int16.{int16}
 use Rattle.write_quadtree.proofs.Picks.{int-read, axis-yes, axis-no}
 use borrow.Author.Needs.{needs}
 use Rattle.write_quadtree.proofs.leaves.axis_meets.Statement.{statement}

@@ -1,4 +1,4 @@
--- `quadtree::leaves::check_leaf` meets its contract. Assumes nothing.
+-- `write_quadtree::leaves::check_leaf` meets its contract: the two counts are those of the leaf in the tree, and each return is a law of proofs/LeafVerdicts by the tests that led there.
 use mathlib.Core.Path.{_≡_, ap, sym, _∙_}
 use mathlib.Core.List.{List}
 use native.Mathlib.Omega.{arith}

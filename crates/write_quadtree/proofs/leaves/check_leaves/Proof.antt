@@ -1,4 +1,4 @@
--- `quadtree::leaves::check_leaves` meets its contract. Assumes nothing.
+-- `write_quadtree::leaves::check_leaves` meets its contract: so few polygons and points fit any leaf (`tells-fits`), and otherwise the walk over the leaves answers.
 use native.Mathlib.Omega.{arith}
 use denote.Ref.{now}
 use borrow.Author.Tests.{leb-true}

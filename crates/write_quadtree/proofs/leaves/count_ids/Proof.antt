@@ -1,4 +1,4 @@
--- `quadtree::leaves::count_ids` meets its contract. What is counted and what is left make the whole. Assumes nothing.
+-- `write_quadtree::leaves::count_ids` meets its contract. What is counted and what is left make the whole. Assumes nothing.
 use mathlib.Core.Path.{_≡_, refl, ap}
 use mathlib.Core.Bool.{cond}
 use Prim.Native.Nat.{_+_, _-_, _*_, _/_, _≤_}

@@ -1,4 +1,4 @@
--- `quadtree::leaves::count_part` meets its contract. What is counted and what is left make the whole. Assumes nothing.
+-- `write_quadtree::leaves::count_part` meets its contract. What is counted and what is left make the whole. Assumes nothing.
 use mathlib.Core.Path.{_≡_}
 use Prim.Native.Nat.{_+_, _-_, _≤_}
 use native.Mathlib.Omega.{arith}
@@ -6,7 +6,7 @@ use lib.Dec.{eqb}
 use lib.ListN.{getD}
 use denote.Ref.{now}
 use Rattle.write_quadtree.specs.Work.{countIn}
-use Rattle.write_quadtree.proofs.Picks.{keep-one, count-turn, count-end}
+use Rattle.write_quadtree.proofs.Picks.{keep-one, one-swapped, count-turn, count-end}
 use Rattle.write_quadtree.proofs.leaves.count_part.Statement.{statement}
 use Rattle.write_quadtree.proofs.leaves.count_part.Tie as tie
 
@@ -29,7 +29,11 @@ one-if-requires : tie.Need-one-if-requires Inv-loop μ-loop
 one-if-requires c κs = tt
 
 add-n : tie.Need-add-n Inv-loop μ-loop
-add-n c = omega (arith, c .one-if .ensures, keep-one (eqb (getD (now (c .before .before .before .before .before .args .leaf-numbers)) (c .before .before .before .loop .i) 0) (c .before .before .before .before .before .args .k)))
+add-n c =
+    let t = c .before .before .before in
+    let a = t .before .before .args in
+    let x = getD (now (a .leaf-numbers)) (t .loop .i) 0 in
+    omega (arith, c .one-if .ensures, keep-one (eqb x (a .k)), one-swapped x (a .k))
 
 add-i : tie.Need-add-i Inv-loop μ-loop
 add-i c = omega arith
@@ -43,8 +47,11 @@ loop-again c =
     let a = t .before .before .args in
     let w = now (a .leaf-numbers) in
     let e = count-turn w (a .k) (t .loop .i) (a .to) (omega arith) in
-    let k = keep-one (eqb (getD w (t .loop .i) 0) (a .k)) in
-    (omega arith, omega (arith, c .one-if .ensures), omega (arith, c .one-if .ensures))
+    let one = c .one-if .ensures in
+    let x = getD w (t .loop .i) 0 in
+    let few = keep-one (eqb x (a .k)) in
+    let swapped = one-swapped x (a .k) in
+    (omega arith, omega (arith, one, few, swapped), omega (arith, e, one, swapped))
 
 returns : tie.Need-returns Inv-loop μ-loop
 returns c =

@@ -1,4 +1,4 @@
--- `quadtree::leaves::count_points` meets its contract. What is counted and what is left make the whole. Assumes nothing.
+-- `write_quadtree::leaves::count_points` meets its contract. What is counted and what is left make the whole. Assumes nothing.
 use mathlib.Core.Path.{_≡_}
 use Prim.Native.Nat.{_+_, _-_, _≤_}
 use native.Mathlib.Omega.{arith}

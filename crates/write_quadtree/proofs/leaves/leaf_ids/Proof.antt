@@ -1,4 +1,4 @@
--- `quadtree::leaves::leaf_ids` meets its contract. Assumes nothing.
+-- `write_quadtree::leaves::leaf_ids` meets its contract: fewer than three words hold no box (`ids-none`), and otherwise the count is the callee's.
 use mathlib.Core.Path.{sym, ap}
 use lib.ListN.{length}
 use denote.Ref.{now}

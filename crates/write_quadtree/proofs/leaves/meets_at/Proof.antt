@@ -1,4 +1,4 @@
--- `quadtree::leaves::meets_at` meets its contract. Assumes nothing.
+-- `write_quadtree::leaves::meets_at` meets its contract: axis by axis, y only where x meets (`meets-yes`, `meets-no`).
 use Prim.Native.Nat.{_+_}
 use mathlib.Core.Path.{_≡_, sym, _∙_}
 use lib.ListN.{getD}

@@ -1,4 +1,4 @@
--- `quadtree::leaves::quarter_pair` meets its contract. Assumes nothing.
+-- `write_quadtree::leaves::quarter_pair` meets its contract: the sum of what the callee says of each side, by arithmetic.
 use mathlib.Core.Path.{ap, _∙_}
 use native.Mathlib.Omega.{arith}
 use mir.Syntax.{w16}

@@ -1,0 +1,9 @@
+-- The signed number that 16 bits stand for. Definitions only.
+use Prim.Native.Nat.{ℕ, _-_}
+use mathlib.Core.Bool.{cond}
+use lib.Dec.{ltb}
+use lib.IntN.{ℤ, pos, negsuc}
+
+-- and back
+abbrev pub int16 : ℕ → ℤ
+int16 n = cond (ltb n 32768) (pos n) (negsuc (65535 - n))

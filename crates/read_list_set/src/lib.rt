@@ -1,0 +1,55 @@
+// The four lists of a cell at their addresses: the first refusal in order, or how many items each has.
+ghost use mathlib.Core.Path.{_≡_};
+ghost use Rattle.read_list_set.specs.Listed.{listsOf, ListsRead, paper};
+use read_lists::ListAnswer;
+use read_lists::read_list;
+use strip::Refusal;
+
+// How many items the lists and the link table have.
+pub struct Limits {
+    pub vertices: usize,
+    pub indices: usize,
+    pub edges: usize,
+    pub links: usize,
+}
+
+// The four lists' counts, the polygons' apart.
+pub enum ListsAnswer {
+    Lists(Limits, usize),
+    Refused(Refusal),
+}
+
+// The four lists at their addresses: the first refusal in order, or their counts.
+pub fn read_lists<'a>(
+    system: &'a [u8],
+    graphics: &'a [u8],
+    va: u64,
+    ia: u64,
+    ea: u64,
+    pa: u64,
+    links: usize,
+) -> ListsAnswer
+    ensures { λ r. ⌜ (paper r ≡ listsOf (now (system .entry)) (now (graphics .entry)) va ia ea pa links) × ListsRead (now (system .entry)) (now (graphics .entry)) va ia ea pa links r ⌝ }
+{
+    match read_list(system, graphics, va, 6, 1) {
+        ListAnswer::Refused(r) => ListsAnswer::Refused(r),
+        ListAnswer::Items(vertices) => match read_list(system, graphics, ia, 2, 2) {
+            ListAnswer::Refused(r) => ListsAnswer::Refused(r),
+            ListAnswer::Items(indices) => match read_list(system, graphics, ea, 8, 3) {
+                ListAnswer::Refused(r) => ListsAnswer::Refused(r),
+                ListAnswer::Items(edges) => match read_list(system, graphics, pa, 48, 4) {
+                    ListAnswer::Refused(r) => ListsAnswer::Refused(r),
+                    ListAnswer::Items(polys) => ListsAnswer::Lists(
+                        Limits {
+                            vertices,
+                            indices,
+                            edges,
+                            links,
+                        },
+                        polys,
+                    ),
+                },
+            },
+        },
+    }
+}

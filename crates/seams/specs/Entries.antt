@@ -1,0 +1,7 @@
+-- The words that the values of the call make for C. Definitions only.
+use Prim.Native.Nat.{ℕ}
+use mathlib.Core.List.{List, [], _∷_}
+use Rattle.answers.specs.Words.{filled}
+
+abbrev pub seamWords : ℕ → List ℕ
+seamWords n = filled (n ∷ [])
