@@ -213,7 +213,10 @@ fn store_words(b: &mut [u8], off: usize, ws: &[u32])
     }
 }
 
-// The n low bytes of each of ws, one after the other. Records are words of 4 bytes and have room, so room is looked at once for all of them.
+// From so many words on a record is stored whole. Shorter ones are stored word by word: a few words that were just made are copied faster so than all at once.
+const WHOLE: usize = 8;
+
+// The n low bytes of each of ws, one after the other. Records are words of 4 bytes and have room, so for a long one room is looked at once for all of them.
 pub fn put_all(b: &mut [u8], off: usize, n: usize, ws: &[u32])
     ensures { λ _. ⌜ now (b .exit) ≡ put off (les n (now (ws .entry))) (now (b .entry)) ⌝ }
 {
@@ -221,9 +224,11 @@ pub fn put_all(b: &mut [u8], off: usize, n: usize, ws: &[u32])
         return;
     }
     if n == 4 {
-        if ws.len() <= (b.len() - off) / 4 {
-            store_words(b, off, ws);
-            return;
+        if WHOLE <= ws.len() {
+            if ws.len() <= (b.len() - off) / 4 {
+                store_words(b, off, ws);
+                return;
+            }
         }
     }
     let mut at = off;

@@ -125,8 +125,8 @@ fn length_of(answer: SerializeAnswer) -> usize
 
 // Saves the cell with this content and area id, a box of zeros and nothing in it.
 fn save_empty(content: u32, area: u32, pages: &mut [u8]) -> usize
-    ensures { λ r. ⌜ r ≡ lengthIn (shown (serializeOutcome (emptyStrip content area) 60 (length (now (pages .entry))))) ⌝ }
-    ensures { λ _. ⌜ now (pages .exit) ≡ left (serializeOutcome (emptyStrip content area) 60 (length (now (pages .entry)))) (now (pages .entry)) ⌝ }
+    ensures length { λ r. ⌜ r ≡ lengthIn (shown (serializeOutcome (emptyStrip content area) 60 (length (now (pages .entry))))) ⌝ }
+    ensures pages { λ _. ⌜ now (pages .exit) ≡ left (serializeOutcome (emptyStrip content area) 60 (length (now (pages .entry)))) (now (pages .entry)) ⌝ }
 {
     let mut strip = [0; 15];
     strip[0] = 0x1000_0000;

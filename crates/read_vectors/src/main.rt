@@ -25,8 +25,8 @@ use ynv_read::ParseAnswer;
 // Reads the sections of a record into as much of the strip as the record says.
 fn read_record(bytes: &[u8], at: usize, r: Record, strip: &mut [u32]) -> ParseAnswer
     requires { ⌜ Stands at r (length (now bytes)) ⌝ }
-    ensures { λ a. ⌜ paper a ≡ shown (outcomeOf (now (bytes .entry)) at r (length (now (strip .entry)))) ⌝ }
-    ensures { λ _. ⌜ now (strip .exit) ≡ stripOf (now (bytes .entry)) at r (now (strip .entry)) ⌝ }
+    ensures answer { λ a. ⌜ paper a ≡ shown (outcomeOf (now (bytes .entry)) at r (length (now (strip .entry)))) ⌝ }
+    ensures strip { λ _. ⌜ now (strip .exit) ≡ stripOf (now (bytes .entry)) at r (now (strip .entry)) ⌝ }
 {
     let system = r.system;
     let system_end = r.system_end;

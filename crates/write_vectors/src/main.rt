@@ -46,8 +46,8 @@ fn strip_room() -> [u32; 214000]
 // Writes a strip into as much of the pages, and with as much work, as the record says.
 fn write_record(list: &[u8], at: usize, strip: &[u32], pages: &mut [u8]) -> SerializeAnswer
     requires { ⌜ at + 32 ≤ length (now list) ⌝ }
-    ensures { λ a. ⌜ paper a ≡ shown (outcomeOf (now (list .entry)) at (now (strip .entry)) (length (now (pages .entry)))) ⌝ }
-    ensures { λ _. ⌜ now (pages .exit) ≡ pagesOf (now (list .entry)) at (now (strip .entry)) (now (pages .entry)) ⌝ }
+    ensures answer { λ a. ⌜ paper a ≡ shown (outcomeOf (now (list .entry)) at (now (strip .entry)) (length (now (pages .entry)))) ⌝ }
+    ensures pages { λ _. ⌜ now (pages .exit) ≡ pagesOf (now (list .entry)) at (now (strip .entry)) (now (pages .entry)) ⌝ }
 {
     let mut work = work_room();
     let words = fields::least(u32_le(list, at + 4) as usize, 856000);

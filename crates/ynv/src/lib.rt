@@ -23,9 +23,9 @@ pub extern "C" fn ynv_parse<'a>(
     strip: &mut [u32],
     answer: &mut [u64; 8],
 ) -> u32
-    ensures { λ r. ⌜ r ≡ numberOf (shown (parseOutcome (now (system .entry)) (now (graphics .entry)) (length (now (strip .entry))))) ⌝ }
-    ensures { λ _. ⌜ now (answer .exit) ≡ over (answerWords parsedWords (shown (parseOutcome (now (system .entry)) (now (graphics .entry)) (length (now (strip .entry)))))) (now (answer .entry)) ⌝ }
-    ensures { λ _. ⌜ now (strip .exit) ≡ left (parseOutcome (now (system .entry)) (now (graphics .entry)) (length (now (strip .entry)))) (now (strip .entry)) ⌝ }
+    ensures number { λ r. ⌜ r ≡ numberOf (shown (parseOutcome (now (system .entry)) (now (graphics .entry)) (length (now (strip .entry))))) ⌝ }
+    ensures answer { λ _. ⌜ now (answer .exit) ≡ over (answerWords parsedWords (shown (parseOutcome (now (system .entry)) (now (graphics .entry)) (length (now (strip .entry)))))) (now (answer .entry)) ⌝ }
+    ensures strip { λ _. ⌜ now (strip .exit) ≡ left (parseOutcome (now (system .entry)) (now (graphics .entry)) (length (now (strip .entry)))) (now (strip .entry)) ⌝ }
 {
     read_entry::parse_entry(system, graphics, strip, answer)
 }
@@ -38,10 +38,10 @@ pub extern "C" fn ynv_serialize(
     pages: &mut [u8],
     answer: &mut [u64; 8],
 ) -> u32
-    ensures { λ r. ⌜ r ≡ numberOf (shown (serializeOutcome (now (strip .entry)) (length (now (work .entry))) (length (now (pages .entry))))) ⌝ }
-    ensures { λ _. ⌜ now (answer .exit) ≡ over (answerWords writtenWords (shown (serializeOutcome (now (strip .entry)) (length (now (work .entry))) (length (now (pages .entry)))))) (now (answer .entry)) ⌝ }
-    ensures { λ _. ⌜ now (pages .exit) ≡ left (serializeOutcome (now (strip .entry)) (length (now (work .entry))) (length (now (pages .entry)))) (now (pages .entry)) ⌝ }
-    ensures { λ _. ⌜ length (now (work .exit)) ≡ length (now (work .entry)) ⌝ }
+    ensures number { λ r. ⌜ r ≡ numberOf (shown (serializeOutcome (now (strip .entry)) (length (now (work .entry))) (length (now (pages .entry))))) ⌝ }
+    ensures answer { λ _. ⌜ now (answer .exit) ≡ over (answerWords writtenWords (shown (serializeOutcome (now (strip .entry)) (length (now (work .entry))) (length (now (pages .entry)))))) (now (answer .entry)) ⌝ }
+    ensures pages { λ _. ⌜ now (pages .exit) ≡ left (serializeOutcome (now (strip .entry)) (length (now (work .entry))) (length (now (pages .entry)))) (now (pages .entry)) ⌝ }
+    ensures work { λ _. ⌜ length (now (work .exit)) ≡ length (now (work .entry)) ⌝ }
 {
     write_entry::serialize_entry(strip, work, pages, answer)
 }
@@ -49,8 +49,8 @@ pub extern "C" fn ynv_serialize(
 // How many halves of all the strip's edges lie towards a neighbour.
 #[no_mangle]
 pub extern "C" fn ynv_count_seams(strip: &[u32], answer: &mut [u64; 8]) -> u32
-    ensures { λ r. ⌜ r ≡ numberOf (shown (seamOutcome (now (strip .entry)))) ⌝ }
-    ensures { λ _. ⌜ now (answer .exit) ≡ over (answerWords seamWords (shown (seamOutcome (now (strip .entry))))) (now (answer .entry)) ⌝ }
+    ensures number { λ r. ⌜ r ≡ numberOf (shown (seamOutcome (now (strip .entry)))) ⌝ }
+    ensures answer { λ _. ⌜ now (answer .exit) ≡ over (answerWords seamWords (shown (seamOutcome (now (strip .entry))))) (now (answer .entry)) ⌝ }
 {
     seams::seams_entry(strip, answer)
 }
@@ -58,8 +58,8 @@ pub extern "C" fn ynv_count_seams(strip: &[u32], answer: &mut [u64; 8]) -> u32
 // The lowest-numbered polygon that contains a spot, in shorts of the cell's box: 1 and its number, or 0 where none does.
 #[no_mangle]
 pub extern "C" fn ynv_pick_poly(strip: &[u32], x: u16, y: u16, answer: &mut [u64; 8]) -> u32
-    ensures { λ r. ⌜ r ≡ numberOf (shown (pickOutcome (now (strip .entry)) (record { x = x; y = y }))) ⌝ }
-    ensures { λ _. ⌜ now (answer .exit) ≡ over (answerWords foundWords (shown (pickOutcome (now (strip .entry)) (record { x = x; y = y })))) (now (answer .entry)) ⌝ }
+    ensures number { λ r. ⌜ r ≡ numberOf (shown (pickOutcome (now (strip .entry)) (record { x = x; y = y }))) ⌝ }
+    ensures answer { λ _. ⌜ now (answer .exit) ≡ over (answerWords foundWords (shown (pickOutcome (now (strip .entry)) (record { x = x; y = y })))) (now (answer .entry)) ⌝ }
 {
     picking::pick_entry(strip, x, y, answer)
 }
@@ -67,8 +67,8 @@ pub extern "C" fn ynv_pick_poly(strip: &[u32], x: u16, y: u16, answer: &mut [u64
 // The spot of a position: its two shorts by the cell's box.
 #[no_mangle]
 pub extern "C" fn ynv_spot_for_position(strip: &[u32], x: f32, y: f32, answer: &mut [u64; 8]) -> u32
-    ensures { λ r. ⌜ r ≡ numberOf (shown (spotOutcome (now (strip .entry)) x y)) ⌝ }
-    ensures { λ _. ⌜ now (answer .exit) ≡ over (answerWords spotWords (shown (spotOutcome (now (strip .entry)) x y))) (now (answer .entry)) ⌝ }
+    ensures number { λ r. ⌜ r ≡ numberOf (shown (spotOutcome (now (strip .entry)) x y)) ⌝ }
+    ensures answer { λ _. ⌜ now (answer .exit) ≡ over (answerWords spotWords (shown (spotOutcome (now (strip .entry)) x y))) (now (answer .entry)) ⌝ }
 {
     picking::spot_entry(strip, x, y, answer)
 }
@@ -76,8 +76,8 @@ pub extern "C" fn ynv_spot_for_position(strip: &[u32], x: f32, y: f32, answer: &
 // The two coordinates of the cell that contains a position. It refuses nothing.
 #[no_mangle]
 pub extern "C" fn ynv_cell_for_position(x: f32, y: f32, answer: &mut [u64; 8]) -> u32
-    ensures { λ r. ⌜ r ≡ 0 ⌝ }
-    ensures { λ _. ⌜ now (answer .exit) ≡ over (cellWords (cellAt x y)) (now (answer .entry)) ⌝ }
+    ensures number { λ r. ⌜ r ≡ 0 ⌝ }
+    ensures answer { λ _. ⌜ now (answer .exit) ≡ over (cellWords (cellAt x y)) (now (answer .entry)) ⌝ }
 {
     cell_grid::cell_entry(x, y, answer)
 }
@@ -85,8 +85,8 @@ pub extern "C" fn ynv_cell_for_position(x: f32, y: f32, answer: &mut [u64; 8]) -
 // The four sides of a cell as the bits of floats: least x, least y, greatest x, greatest y.
 #[no_mangle]
 pub extern "C" fn ynv_cell_bounds(cx: u32, cy: u32, answer: &mut [u64; 8]) -> u32
-    ensures { λ r. ⌜ r ≡ numberOf (shown (boundsOutcome cx cy)) ⌝ }
-    ensures { λ _. ⌜ now (answer .exit) ≡ over (answerWords boundsWords (shown (boundsOutcome cx cy))) (now (answer .entry)) ⌝ }
+    ensures number { λ r. ⌜ r ≡ numberOf (shown (boundsOutcome cx cy)) ⌝ }
+    ensures answer { λ _. ⌜ now (answer .exit) ≡ over (answerWords boundsWords (shown (boundsOutcome cx cy))) (now (answer .entry)) ⌝ }
 {
     cell_grid::bounds_entry(cx, cy, answer)
 }

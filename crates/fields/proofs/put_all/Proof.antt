@@ -22,8 +22,8 @@ abbrev μ-loop : tie.MeasureT-loop
 returns : tie.Need-returns Inv-loop μ-loop
 returns c = sym (past-end _ _ _ (c .if1 .taken))
 
-sub-if3 : tie.Need-sub-if3 Inv-loop μ-loop
-sub-if3 c = omega arith
+sub-if4 : tie.Need-sub-if4 Inv-loop μ-loop
+sub-if4 c = omega arith
 
 store-words-requires : tie.Need-store-words-requires Inv-loop μ-loop
 store-words-requires c κs = omega arith
@@ -33,8 +33,8 @@ same-length c = omega arith
 
 returns-2 : tie.Need-returns-2 Inv-loop μ-loop
 returns-2 c =
-    let a = c .before .before .before .before .before .before .before .before .before .args in
-    c .before .before .store-words .ensures ∙ ap (λ (k : ℕ). put (a .off) (les k (now (a .ws))) (now (a .b))) (sym (c .before .before .before .before .before .if2 .taken))
+    let a = c .before .before .before .before .before .before .before .before .before .before .args in
+    c .before .before .store-words .ensures ∙ ap (λ (k : ℕ). put (a .off) (les k (now (a .ws))) (now (a .b))) (sym (c .before .before .before .before .before .before .if2 .taken))
 
 loop-holds : tie.Need-loop-holds Inv-loop μ-loop
 loop-holds c = (omega arith, omega arith, refl, refl)
@@ -48,8 +48,8 @@ shared-slice-read-put-word c = omega arith
 put-word-requires : tie.Need-put-word-requires Inv-loop μ-loop
 put-word-requires c κs = search needs
 
-sub-if4 : tie.Need-sub-if4 Inv-loop μ-loop
-sub-if4 c = omega arith
+sub-if5 : tie.Need-sub-if5 Inv-loop μ-loop
+sub-if5 c = omega arith
 
 same-length-2 : tie.Need-same-length-2 Inv-loop μ-loop
 same-length-2 c = omega arith
@@ -98,7 +98,7 @@ put-all-spec =
     Inv-loop
     μ-loop
     returns
-    sub-if3
+    sub-if4
     store-words-requires
     same-length
     returns-2
@@ -106,7 +106,7 @@ put-all-spec =
     mul-put-word
     shared-slice-read-put-word
     put-word-requires
-    sub-if4
+    sub-if5
     same-length-2
     returns-3
     add-at
