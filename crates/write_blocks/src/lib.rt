@@ -92,8 +92,8 @@ pub fn address_of(l: Layout, size: usize) -> u32
 // Zeros up to where the next block starts, which is the answer.
 pub fn pad(out: &mut [u8], l: Layout, size: usize) -> usize
     requires { ⌜ behind (l .at) size < 2 ^ 28 ⌝ }
-    ensures { λ r. ⌜ r ≡ placeOf (l .at) size ⌝ }
-    ensures { λ _. ⌜ now (out .exit) ≡ put (l .at) (zeros (placeOf (l .at) size - l .at)) (now (out .entry)) ⌝ }
+    ensures start { λ r. ⌜ r ≡ placeOf (l .at) size ⌝ }
+    ensures out { λ _. ⌜ now (out .exit) ≡ put (l .at) (zeros (placeOf (l .at) size - l .at)) (now (out .entry)) ⌝ }
 {
     let start = l.start(size);
     fields::put_le(out, l.at, start - l.at, 0);

@@ -1,4 +1,4 @@
--- `vertices::add` meets its contract.
+-- `write_vertices::add` meets its contract: the link is set in the half at `place`, the triple in the two words behind the table, and a new vertex has no left child (`link-stored`).
 use native.Mathlib.Omega.{arith}
 use lib.ListN.{length-set}
 use Rattle.write_vertices.proofs.Links.{link-stored}

@@ -1,4 +1,4 @@
--- `vertices::child_of` meets its contract.
+-- `write_vertices::child_of` meets its contract: by the key's lowest bit it is the left child's half or the right one's (`left-child`, `right-child`).
 use native.Mathlib.Omega.{arith}
 use Rattle.write_vertices.proofs.Links.{left-child, right-child}
 use borrow.Author.Needs.{needs}

@@ -1,4 +1,4 @@
--- `vertices::clear` meets its contract: storing the zeros that are left makes the whole.
+-- `write_vertices::clear` meets its contract: storing the zeros that are left makes the whole.
 use Prim.Native.Nat.{_-_}
 use native.Mathlib.Omega.{arith}
 use mathlib.Core.Path.{_≡_, refl}

@@ -1,4 +1,4 @@
--- `vertices::find` meets its contract. The invariant, `Walking`: a vertex with the triple is still ahead.
+-- `write_vertices::find` meets its contract. The invariant, `Walking`: a vertex with the triple is still ahead.
 -- The measure falls since a child has a greater number than its vertex.
 use Prim.Native.Nat.{ℕ, _+_, _*_, _-_, _<_}
 use native.Mathlib.Omega.{arith}

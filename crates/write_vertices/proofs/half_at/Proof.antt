@@ -1,4 +1,4 @@
--- `vertices::half_at` meets its contract.
+-- `write_vertices::half_at` meets its contract: an even half is a word's rest by 2^16, an odd one its quotient (`half-low`, `half-high`).
 use mathlib.Core.Path.{sym}
 use native.Mathlib.Omega.{arith}
 use Prim.Native.Nat.{_/_}

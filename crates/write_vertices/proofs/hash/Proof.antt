@@ -1,4 +1,4 @@
--- `vertices::hash` meets its contract: a share of the trees is below their number.
+-- `write_vertices::hash` meets its contract: a share of the trees is below their number.
 use native.Mathlib.Nat.{mod-lt}
 use mathlib.Core.Path.{refl}
 use native.Mathlib.Omega.{arith}

@@ -1,4 +1,4 @@
--- `vertices::linked` meets its contract: a half that is 0 has room.
+-- `write_vertices::linked` meets its contract: a half that is 0 has room.
 use mathlib.Core.Path.{sym, _∙_}
 use native.Mathlib.Omega.{arith}
 use borrow.Author.Tests.{lt-ltb, le-ltb}

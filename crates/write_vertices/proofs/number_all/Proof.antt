@@ -1,4 +1,4 @@
--- `vertices::number_all` meets its contract: each way is a law of `Enough`.
+-- `write_vertices::number_all` meets its contract: each way is a law of `Enough`.
 use Prim.Native.Nat.{_/_, _<_}
 use native.Mathlib.Omega.{arith}
 use lib.ListN.{length}

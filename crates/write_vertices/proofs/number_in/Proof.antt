@@ -1,4 +1,4 @@
--- `vertices::number_in` meets its contract: as `number_all`, with the table as the tail of the one slice (`Parts`).
+-- `write_vertices::number_in` meets its contract: as `number_all`, with the table as the tail of the one slice (`Parts`).
 use Prim.Native.Nat.{ℕ, _-_, _≤_}
 use native.Mathlib.Omega.{arith}
 use mathlib.Core.Path.{_≡_, refl, _∙_}

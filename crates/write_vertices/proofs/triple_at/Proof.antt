@@ -1,4 +1,4 @@
--- `vertices::triple_at` meets its contract: words past the end are 0 in the definition too.
+-- `write_vertices::triple_at` meets its contract: words past the end are 0 in the definition too.
 use Prim.Native.Nat.{_+_}
 use native.Mathlib.Omega.{arith}
 use lib.ListN.{List·getD-eq-default}

@@ -1,4 +1,4 @@
--- `vertices::vertex_index` meets its contract: each answer is a law of `Lookup`.
+-- `write_vertices::vertex_index` meets its contract: each answer is a law of `Lookup`.
 use native.Mathlib.Omega.{arith}
 use borrow.Author.Needs.{needs}
 use Rattle.write_vertices.proofs.Links.{apart}

@@ -1,4 +1,4 @@
--- `vertices::whole_triple_at` meets its contract.
+-- `write_vertices::whole_triple_at` meets its contract: the sum is the definition's, and each part keeps to its bits.
 use native.Mathlib.Omega.{arith}
 use mathlib.Core.Path.{refl}
 use Rattle.write_vertices.specs.Table.{tripleAt}
