@@ -4,6 +4,6 @@ use mathlib.Core.Bool.{cond}
 use lib.Dec.{ltb}
 use lib.IntN.{ℤ, pos, negsuc}
 
--- and back
+-- from 16 bits back to the number that they stand for: `bits16` the other way round
 abbrev pub int16 : ℕ → ℤ
 int16 n = cond (ltb n 32768) (pos n) (negsuc (65535 - n))

@@ -4,7 +4,7 @@ use mathlib.Core.Bool.{true}
 use Rattle.strip.specs.Cell.{Vec3, Head}
 use Rattle.strip.specs.Box.{finiteBits}
 
--- the same of each of its words
+-- three words that are the bits of neither an infinity nor a NaN
 pub record FiniteVec (v : Vec3) : Type 0 where
   pub x : finiteBits (v .x) ≡ true
   pub y : finiteBits (v .y) ≡ true

@@ -9,7 +9,7 @@ pub data Outcome (A : Type 0) : Type 0 where
   refused : ℕ → ℕ → Outcome A
   done : A → List ℕ → Outcome A
 
--- what an answer says
+-- what an answer says, as the papers (documents 01 and 02) have it: by number and place, or by values
 pub data Paper (A : Type 0) : Type 0 where
   refusal : ℕ → ℕ → Paper A
   values : A → Paper A
