@@ -4,7 +4,7 @@ use mathlib.Core.Path.{_≡_, ap, _∙_}
 use mathlib.Core.Bool.{true}
 use mathlib.Core.List.{List}
 use Rattle.math.specs.declared.vec3.Vec3.{Vec3 as Floats}
-use Rattle.quantise.specs.declared.bounds.Aabb.{Aabb}
+use Rattle.quarters.specs.declared.bounds.Aabb.{Aabb}
 use Rattle.strip.specs.Cell.{Head}
 use Rattle.strip.specs.Box.{finiteBox}
 use Rattle.strip.specs.Reading.{word, headAt}

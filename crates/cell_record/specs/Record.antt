@@ -1,7 +1,7 @@
 -- The cell's record by value and the head of the cell that it stands for: floats there, their bits here. Definitions only.
 use lib.Ieee.{binary32, toBits}
 use Rattle.math.specs.declared.vec3.Vec3.{Vec3 as Floats}
-use Rattle.quantise.specs.declared.bounds.Aabb.{Aabb}
+use Rattle.quarters.specs.declared.bounds.Aabb.{Aabb}
 use Rattle.strip.specs.Cell.{Vec3, Head}
 use Rattle.cell_record.specs.declared.CellRecord.{CellRecord}
 use Rattle.cell_record.specs.Floats.{floats}

@@ -9,8 +9,8 @@ ghost use Rattle.quantise.specs.Coordinates.{coordinates};
 ghost use Rattle.cell_record.specs.Record.{recordOf, rootIn};
 use math::vec3::Vec3;
 use math::vec3::floats_at;
-use quantise::bounds::Aabb;
 use quantise::short::Shorts;
+use quarters::bounds::Aabb;
 
 pub struct CellRecord {
     pub content_flags: u32,

@@ -11,10 +11,11 @@ use Rattle.fields.specs.Put.{put}
 use Rattle.strip.specs.Cell.{Cell, encode}
 use Rattle.strip.proofs.Plain.{length-encode}
 use Rattle.strip.specs.Outcome.{Outcome, refused, done, refusal, values, shown, left}
-use Rattle.ynv_read.specs.declared.Parsed.{Parsed}
-use Rattle.ynv_read.specs.Reading.{Reading}
-use Rattle.ynv_read.specs.Reading as Reading
-use Rattle.ynv_read.specs.Parse.{countsOf, fitted, parseOutcome}
+use Rattle.read_decide.specs.declared.Parsed.{Parsed}
+use Rattle.read_decide.specs.Reading.{Reading}
+use Rattle.read_decide.specs.Reading as Reading
+use Rattle.read_decide.specs.Answer.{countsOf}
+use Rattle.ynv_read.specs.Parse.{fitted, parseOutcome}
 use Rattle.cellsum_line.specs.Line.{cellOutcome, acceptedText, refusedText, cellText, Stored}
 
 pub short-input : (input : List ℕ) (n : ℕ) → length input ≤ 65536 → cellOutcome input n ≡ parseOutcome input [] n

@@ -9,7 +9,7 @@ use Rattle.fields.specs.Bytes.{cat}
 use Rattle.fields.specs.Put.{put}
 use Rattle.strip.specs.Outcome.{Outcome, refused, done}
 use Rattle.decimal.specs.Text.{ascii, decimal}
-use Rattle.ynv_read.specs.declared.Parsed.{Parsed}
+use Rattle.read_decide.specs.declared.Parsed.{Parsed}
 use Rattle.ynv_read.specs.Parse.{parseOutcome}
 
 -- what reading the input into a strip of n words comes to: there are no graphics, and an input above 65,536 bytes is refused before anything else

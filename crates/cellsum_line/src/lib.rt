@@ -7,9 +7,9 @@ ghost use Rattle.strip.specs.Outcome.{left};
 ghost use Rattle.cellsum_line.specs.Line.{cellOutcome, named, countsText, acceptedText, refusedText, cellText, Stored};
 use decimal::put_decimal;
 use decimal::put_text;
+use read_decide::ParseAnswer;
+use read_decide::Parsed;
 use strip::Refusal;
-use ynv_read::ParseAnswer;
-use ynv_read::Parsed;
 
 pub const MOST_INPUT: usize = 65536;
 

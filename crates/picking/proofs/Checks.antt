@@ -10,7 +10,7 @@ use Rattle.strip.specs.Box.{finiteBox}
 use Rattle.strip.specs.Scan.{Scanned, ok, fault, scan}
 use Rattle.strip.specs.Outcome.{refused, done, refusal, values, shown}
 use Rattle.strip.specs.Check.{onCell}
-use Rattle.strip.specs.Boxed.{onBox, checked}
+use Rattle.strip_parts.specs.Boxed.{onBox, checked}
 use Rattle.strip.proofs.Faults.{Refused, scan-fault}
 use Rattle.strip.proofs.Faults as Faults
 

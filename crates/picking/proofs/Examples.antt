@@ -9,8 +9,9 @@ use Rattle.strip.specs.Reading.{itemsAt, headAt, polyAt, polygonOf}
 use Rattle.strip.specs.Box.{finiteBox}
 use Rattle.strip.specs.Scan.{firstGood, allBelow, edgesFit, polyFits, cellRecord, polygonRecord, portalRecord, endRecord, recordOf, recordAt, restFrom, restAt, scan}
 use Rattle.strip.specs.Outcome.{Paper, refusal, values, shown}
-use Rattle.picking.specs.declared.Spot.{Spot}
-use Rattle.picking.specs.Picking.{leftOf, crossed, crossings, lastOf, inside, Found, found, none, firstFrom, pickOutcome, spotOutcome}
+use Rattle.pick_contains.specs.declared.Spot.{Spot}
+use Rattle.pick_contains.specs.Inside.{leftOf, crossed, crossings, lastOf, inside}
+use Rattle.picking.specs.Picking.{Found, found, none, firstFrom, pickOutcome, spotOutcome}
 
 abbrev at : ℕ → ℕ → Spot
 at x y = record { x = x; y = y }

@@ -1,4 +1,4 @@
-pub mod Laws
+pub mod Search
 pub mod Checks
 pub mod Whole
 pub mod Sides

@@ -10,9 +10,10 @@ use lib.Dec.{eqb, leb, ltb}
 use borrow.Author.Tests.{ltb-true, ltb-false, leb-true, leb-false, lt-ltb, le-ltb, le-leb, lt-leb}
 use Rattle.quantise.proofs.Ops.{ltb-same}
 use Rattle.strip.specs.Cell.{NavPoly, Head}
-use Rattle.picking.specs.declared.Spot.{Spot}
+use Rattle.pick_contains.specs.declared.Spot.{Spot}
 use Rattle.strip.specs.Tests.{one}
-use Rattle.picking.specs.Picking.{spotOf, leftOf, crossed, crossings, lastOf, inside, contains}
+use Rattle.pick_contains.specs.Inside.{leftOf, crossed, crossings, lastOf, inside}
+use Rattle.picking.specs.Picking.{spotOf, contains}
 use Rattle.picking.proofs.Whole.{not-crossed}
 use Rattle.picking.proofs.Sides.{either-way}
 

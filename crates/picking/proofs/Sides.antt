@@ -14,9 +14,10 @@ use Rattle.quantise.proofs.Capped.{short-lt}
 use Rattle.strip.specs.Cell.{NavPoly, Head}
 use Rattle.strip.specs.Fits.{All}
 use Rattle.strip.proofs.Alls.{all-images}
-use Rattle.picking.specs.declared.Spot.{Spot}
+use Rattle.pick_contains.specs.declared.Spot.{Spot}
 use Rattle.strip.specs.Tests.{one}
-use Rattle.picking.specs.Picking.{spotOf, leftOf, crossed, crossings, lastOf, inside, contains}
+use Rattle.pick_contains.specs.Inside.{leftOf, crossed, crossings, lastOf, inside}
+use Rattle.picking.specs.Picking.{spotOf, contains}
 use Rattle.picking.proofs.Whole.{not-crossed}
 
 -- a side is crossed or not whichever way it goes

@@ -16,7 +16,7 @@ use Rattle.strip.specs.Box.{finiteBox}
 use Rattle.strip.specs.Scan.{ok, scan}
 use Rattle.strip.specs.Outcome.{Paper, refusal, values, shown}
 use Rattle.strip.specs.declared.Refusal.{Refusal}
-use Rattle.picking.specs.declared.Spot.{Spot}
+use Rattle.pick_contains.specs.declared.Spot.{Spot}
 use Rattle.picking.specs.declared.PickAnswer.{PickAnswer}
 use Rattle.picking.specs.declared.PickAnswer.the-variants.{Poly, Nothing, Refused}
 use Rattle.picking.specs.declared.SpotAnswer.{SpotAnswer}

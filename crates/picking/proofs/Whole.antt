@@ -8,9 +8,9 @@ use lib.Dec.{leb, ltb}
 use lib.IntN.{ℤ, pos, negsuc, negℤ, _-ℤ_, _*ℤ_}
 use lib.Signed.{ltZ}
 use borrow.Author.Tests.{ltb-true, ltb-false, lt-ltb, le-ltb, le-leb, lt-leb}
-use Rattle.picking.specs.declared.Spot.{Spot}
-use Rattle.picking.specs.Picking.{leftOf, crossed}
-use Rattle.picking.proofs.Laws.{same-test}
+use Rattle.pick_contains.specs.declared.Spot.{Spot}
+use Rattle.pick_contains.specs.Inside.{leftOf, crossed}
+use Rattle.pick_contains.proofs.Laws.{same-test}
 
 -- z is p - q
 data Minus (p q : ℕ) : ℤ → Type 0 where

@@ -1,3 +1,2 @@
 pub mod Picking
-pub mod Entries
-pub mod Vertices
+pub mod Axes

@@ -5,7 +5,7 @@ use Prim.Native.Nat.{ℕ, _/_, _%_, _^_}
 use lib.Ieee.{sub, div, mul, lt}
 use Rattle.fields.specs.Rows.{pack}
 use Rattle.quantise.specs.Short.{short, fraction, clamped, nearestNumber, magnitude, least}
-use Rattle.quantise.specs.Quarter.{side}
+use Rattle.quarters.specs.Quarter.{side}
 use Rattle.distinct.specs.Distinct.{distinctFrom, withNew, indexOf}
 use Rattle.areas.specs.EdgeHalf.{halfWord}
 use Rattle.write_blocks.specs.Layout.{placeOf}

@@ -7,7 +7,7 @@ use lib.IntN.{pos, negsuc}
 use lib.ListN.{length}
 use lib.Ieee.{Float, nan, fin}
 use Rattle.quantise.specs.Short.{short}
-use Rattle.quantise.specs.Quarter.{quarterFloor, quarterCeil}
+use Rattle.quarters.specs.Quarter.{quarterFloor, quarterCeil}
 use Rattle.areas.specs.Areas.{seeded}
 use Rattle.areas.specs.EdgeHalf.{halfWord}
 use Rattle.areas.specs.Decoded.{noneWord}

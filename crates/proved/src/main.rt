@@ -8,10 +8,10 @@ ghost use Rattle.strip.specs.Outcome.{shown, left};
 ghost use Rattle.ynv_write.specs.Serialize.{paper, serializeOutcome};
 ghost use Rattle.proved.specs.Table.{emptyStrip, lengthIn};
 use areas::edge::half_word;
-use quantise::quarter::bits16_of;
-use quantise::quarter::quarter_ceil;
-use quantise::quarter::quarter_floor;
 use quantise::short::quantise_axis;
+use quarters::quarter::bits16_of;
+use quarters::quarter::quarter_ceil;
+use quarters::quarter::quarter_floor;
 use ynv_write::SerializeAnswer;
 
 // lo 0, extent 2, a 1

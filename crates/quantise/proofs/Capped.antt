@@ -14,7 +14,7 @@ use lib.Ieee.Scale.{round-same}
 use lib.Ieee.Exact.{HasValue}
 use Rattle.quantise.specs.Short.{short, fraction, clamped, nearestNumber, magnitude, least, unit, nought, most}
 use Rattle.quantise.specs.Steps.{roundedU16}
-use Rattle.quantise.proofs.Scaled as scaled
+use Rattle.math.proofs.Scaled as scaled
 use Rattle.quantise.proofs.Ops.{mul-at}
 use Rattle.quantise.proofs.Chain.{in-units, capped}
 use Rattle.quantise.proofs.Units.{w, h, Rounded, rounded, rounded-value, nearest-value, at-end, in-range, clamps}

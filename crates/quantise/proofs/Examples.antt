@@ -1,12 +1,9 @@
 -- Cases that a near miss gets wrong, computed from the definitions.
 use mathlib.Core.Path.{_≡_, refl}
 use mathlib.Core.Bool.{true, false}
-use mathlib.Core.List.{[], _∷_}
 use lib.IntN.{pos, negsuc}
 use lib.Ieee.{fin, binary32, add, sub, div, mul, lt, ofBits}
 use Rattle.quantise.specs.Short.{short, fraction, clamped, nearestNumber, nought, unit}
-use Rattle.quantise.specs.Bounds.{leastSide, greatestSide}
-use Rattle.quantise.proofs.Sweep.{nan-sides}
 
 pub record Cases : Type 0 where
   -- the product is rounded to an f32 before it is rounded to a whole number: exactly it is below a half, and as an f32 it is a half
@@ -15,9 +12,7 @@ pub record Cases : Type 0 where
   pub half : (nearestNumber (ofBits binary32 0x3eff_ffff) ≡ 0) × (add binary32 (ofBits binary32 0x3eff_ffff) (fin false 1 (negsuc 0)) ≡ unit)
   -- a negative extent mirrors the axis
   pub mirrored : (short (fin false 5 (pos 0)) nought (fin true 1 (pos 0)) ≡ 0) × (short (fin true 5 (pos 0)) nought (fin true 1 (pos 0)) ≡ 65535)
-  -- the axis of a polygon with NaN only
-  pub nans : (leastSide (0x7fc0_0000 ∷ 0xff80_0001 ∷ 0x7f80_0001 ∷ []) ≡ pos 32767) × (greatestSide (0x7fc0_0000 ∷ 0xff80_0001 ∷ 0x7f80_0001 ∷ []) ≡ negsuc 32767)
 
 pub cases : Cases
 unfolding short fraction add sub div mul lt clamped nearestNumber ofBits
-cases = record { product = refl; half = (refl, refl); mirrored = (refl, refl); nans = nan-sides (0x7fc0_0000 ∷ 0xff80_0001 ∷ 0x7f80_0001 ∷ []) (refl, (refl, (refl, tt))) }
+cases = record { product = refl; half = (refl, refl); mirrored = (refl, refl) }

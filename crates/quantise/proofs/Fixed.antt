@@ -15,7 +15,7 @@ use lib.Ieee.Fits.{down-pos}
 use Rattle.math.proofs.Whole.{lt-true}
 use Rattle.quantise.specs.Short.{most, nearestWhole}
 use Rattle.quantise.specs.Steps.{roundedU16}
-use Rattle.quantise.proofs.Scaled.{within, units}
+use Rattle.math.proofs.Scaled.{within, units}
 use Rattle.quantise.proofs.Ops.{add-at}
 use Rattle.quantise.proofs.Chain.{in-units}
 use Rattle.quantise.proofs.Units.{rounded-value}

@@ -1,6 +1,4 @@
-pub mod Scaled
 pub mod Extent
-pub mod Quarters
 pub mod Near
 pub mod Numbers
 pub mod Ops
@@ -9,5 +7,4 @@ pub mod Units
 pub mod Capped
 pub mod Return
 pub mod Examples
-pub mod Sweep
 pub mod Fixed

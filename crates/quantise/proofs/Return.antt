@@ -12,8 +12,8 @@ use borrow.Author.Tests.{lt-ltb, le-ltb, ltb-true, ltb-false, ne-eqb}
 use lib.Ieee.{Float, nan, inf, fin, binary32, up, down, round, sum, add, sub, neg, mul, div, lt, ofInt, fits}
 use lib.Ieee.Exact.{HasValue, round-exact}
 use lib.Ieee.Fits.{down-pos, and-l, and-r, div-fits}
-use Rattle.quantise.proofs.Scaled as scaled
-use Rattle.quantise.proofs.Scaled.{Within}
+use Rattle.math.proofs.Scaled as scaled
+use Rattle.math.proofs.Scaled.{Within}
 use Rattle.quantise.specs.Short.{short, coordinate, least, clamped, most, unit, nought}
 use Rattle.quantise.specs.Steps.{roundedU16}
 use Rattle.quantise.proofs.Numbers.{signed, round-signed, part-is, part-near, last-part}

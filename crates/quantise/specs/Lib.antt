@@ -1,7 +1,3 @@
 pub mod Short
 pub mod Coordinates
-pub mod Quarter
-pub mod Int16
 pub mod Steps
-pub mod Bounds
-pub mod Bounding

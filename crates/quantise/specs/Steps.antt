@@ -1,18 +1,11 @@
 -- What the private steps of the code return, where that is more than the promises say. No promise of an exported function cites these. Definitions only.
 use Prim.Native.Nat.{ℕ, _*_, min}
-use mathlib.Core.Bool.{Bool, cond}
+use mathlib.Core.Bool.{cond}
 use lib.Ieee.{Float, nan, inf, fin, up, down}
 use Rattle.quantise.specs.Short.{nearestWhole}
-use Rattle.quantise.specs.Quarter.{rounded}
 
 -- Rust's `x.round() as u16`: halves away from zero, cut to 16 unsigned bits, and 0 for a NaN
 unfoldable pub roundedU16 : Float → ℕ
 roundedU16 nan = 0
 roundedU16 (inf s) = cond s 0 65535
 roundedU16 (fin s m e) = cond s 0 (min (nearestWhole (m * up e) (down e)) 65535)
-
--- A side for an x that is not negative, as a natural number and cut to 32768, which is past either end of the range. 0 for a negative x.
-unfoldable pub quarters : Bool → Float → ℕ
-quarters ceil nan = 0
-quarters ceil (inf s) = cond s 0 32768
-quarters ceil (fin s m e) = cond s 0 (min (rounded ceil (4 * (m * up e)) (down e)) 32768)

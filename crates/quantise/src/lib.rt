@@ -1,4 +1,2 @@
-// Coordinates in pages: vertices as short numbers of their box, and boxes in quarters.
-pub mod bounds;
-pub mod quarter;
+// Coordinates in pages: positions as short numbers of their box.
 pub mod short;

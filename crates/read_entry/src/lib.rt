@@ -8,7 +8,7 @@ ghost use Rattle.answers.specs.Words.{numberOf, answerWords};
 ghost use Rattle.read_entry.specs.Entries.{parsedWords};
 use answers::accept;
 use answers::refuse;
-use ynv_read::ParseAnswer;
+use read_decide::ParseAnswer;
 
 // The words of the strip, polygons, portals, points and the sectors visited.
 pub fn parse_entry<'a>(

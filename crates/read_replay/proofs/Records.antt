@@ -5,7 +5,7 @@ use mathlib.Core.List.{List}
 use lib.ListN.{length}
 use borrow.Author.Tests.{eq-eqb, ne-eqb, lt-ltb, le-ltb}
 use Rattle.fields.specs.Bytes.{leAt}
-use Rattle.ynv_read.specs.declared.Parsed.{Parsed}
+use Rattle.read_decide.specs.declared.Parsed.{Parsed}
 use Rattle.read_replay.specs.Agreement.{toldWord, toldWords}
 
 pub same-counts : (p : Parsed) (v w x y z : ℕ) → p .words ≡ v → p .polys ≡ w → p .portals ≡ x → p .points ≡ y → p .sectors ≡ z → p ≡ record { words = v; polys = w; portals = x; points = y; sectors = z }

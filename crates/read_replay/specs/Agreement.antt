@@ -8,7 +8,7 @@ use lib.ListN.{length, take, drop, getD, replicate}
 use Rattle.fields.specs.Bytes.{leAt}
 use Rattle.strip.specs.Outcome.{Outcome, Paper, shown, left}
 use Rattle.ynv_read.specs.Parse.{parseOutcome}
-use Rattle.ynv_read.specs.declared.Parsed.{Parsed}
+use Rattle.read_decide.specs.declared.Parsed.{Parsed}
 use Rattle.replay.specs.Ends.{recordEnd, padded}
 use Rattle.replay.specs.Told.{told}
 use Rattle.replay.specs.Tallies.{Within, Passed, Counted}

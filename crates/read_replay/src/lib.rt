@@ -6,14 +6,14 @@ ghost use mathlib.Core.Path.{_≡_};
 ghost use mathlib.Core.Bool.{true};
 ghost use Prim.Native.Nat.{ℕ, _+_, _*_, _^_, _≤_, _<_};
 ghost use lib.ListN.{length, getD};
-ghost use Rattle.ynv_read.specs.Parse.{paper};
+ghost use Rattle.read_decide.specs.Answer.{paper};
 ghost use Rattle.read_replay.specs.Agreement.{expected, expectedCounts, toldWord, toldWords, recordOf, Stands};
 use fields::u32_le;
+use read_decide::ParseAnswer;
+use read_decide::Parsed;
 use replay::end_of;
 use replay::padded;
 use replay::refusal_agrees;
-use ynv_read::ParseAnswer;
-use ynv_read::Parsed;
 
 // Where the sections of a record begin and end, its strip begins, and the next record.
 pub struct Record {

@@ -10,8 +10,6 @@ use mathlib.Core.List.{List, [], _∷_, _++_, append-assoc, append-nil}
 use Rattle.resource.specs.Section.{good, resolved}
 use Rattle.read_grammar.specs.Trees.{subsTo, Trees}
 use Rattle.read_grammar.proofs.Parts.{good-found, found-good}
-use Rattle.strip.specs.Outcome as Outcome
-use Rattle.read_sectors.specs.declared.Tree as Counts
 use Rattle.read_sectors.specs.Sector.{pointsOf, goodData}
 use Rattle.read_sectors.specs.Walk.{Walked, also, checked, sectorAt, walk}
 use Rattle.read_sectors.specs.Walk.Walked.{done, refused}

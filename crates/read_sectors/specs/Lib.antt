@@ -1,4 +1,3 @@
 pub mod Sector
 pub mod Walk
 pub mod Answer
-pub mod Write

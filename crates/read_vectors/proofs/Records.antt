@@ -6,7 +6,7 @@ use mathlib.Core.List.{List, _++_}
 use lib.ListN.{length, take, drop, getD, length-take}
 use Rattle.strip.specs.Outcome.{Paper, shown, left}
 use Rattle.ynv_read.specs.Parse.{parseOutcome}
-use Rattle.ynv_read.specs.declared.Parsed.{Parsed}
+use Rattle.read_decide.specs.declared.Parsed.{Parsed}
 use Rattle.read_replay.specs.Agreement.{expected, toldWord, lent, between, untouchedWords, outcomeOf, stripOf, Agrees}
 use Rattle.read_replay.specs.declared.Record.{Record}
 

@@ -5,10 +5,11 @@ ghost use mathlib.Core.Bool.{true};
 ghost use Prim.Native.Nat.{_+_, _≤_, _<_};
 ghost use lib.ListN.{length};
 ghost use Rattle.strip.specs.Outcome.{shown};
-ghost use Rattle.ynv_read.specs.Parse.{paper};
+ghost use Rattle.read_decide.specs.Answer.{paper};
 ghost use Rattle.replay.specs.Tallies.{Tallied, Step};
 ghost use Rattle.read_replay.specs.Agreement.{untouchedWords, outcomeOf, stripOf, Agrees, Asked, TallyOf, Stands};
 use fields::u32_le;
+use read_decide::ParseAnswer;
 use read_replay::Record;
 use read_replay::answer_agrees;
 use read_replay::record_at;
@@ -20,7 +21,6 @@ use replay::print_first;
 use replay::print_number;
 use replay::print_tally;
 use replay::tallied;
-use ynv_read::ParseAnswer;
 
 // Reads the sections of a record into as much of the strip as the record says.
 fn read_record(bytes: &[u8], at: usize, r: Record, strip: &mut [u32]) -> ParseAnswer

@@ -15,8 +15,8 @@ use Rattle.fields.proofs.Holds.{Holds}
 use Rattle.fields.proofs.Rows.{length-rows, field-back}
 use Rattle.math.specs.declared.vec3.Vec3.{Vec3 as Floats}
 use Rattle.math.proofs.Finite.{finite-bits}
-use Rattle.quantise.specs.declared.quarter.QuarterBox.{QuarterBox}
-use Rattle.quantise.specs.declared.bounds.Aabb.{Aabb}
+use Rattle.quarters.specs.declared.quarter.QuarterBox.{QuarterBox}
+use Rattle.quarters.specs.declared.bounds.Aabb.{Aabb}
 use Rattle.strip.specs.Cell.{Vec3, NavPoint, Head, Cell}
 use Rattle.strip.specs.Fits.{All}
 use Rattle.strip.specs.Box as Box

@@ -11,7 +11,7 @@ use Rattle.fields.proofs.Bytes.{length-les}
 use Rattle.fields.proofs.Holds.{Holds, held-end}
 use Rattle.fields.proofs.Rows.{length-rows, field-back}
 use Rattle.math.specs.declared.vec3.Vec3.{Vec3 as Floats}
-use Rattle.quantise.specs.declared.bounds.Aabb.{Aabb}
+use Rattle.quarters.specs.declared.bounds.Aabb.{Aabb}
 use Rattle.strip.specs.Cell.{NavPoint}
 use Rattle.strip.specs.Fits.{All}
 use Rattle.write_blocks.specs.Layout.{placeOf, behind, address}

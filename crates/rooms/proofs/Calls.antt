@@ -14,7 +14,8 @@ use Rattle.strip.specs.Outcome as Outcome
 use Rattle.strip.specs.Check.{onCell}
 use Rattle.strip.proofs.Exact.{scan-exact, scan-fits}
 use Rattle.strip.proofs.Faults.{scan-fault, refused-three}
-use Rattle.ynv_read.specs.Parse.{countsOf, parseOutcome}
+use Rattle.read_decide.specs.Answer.{countsOf}
+use Rattle.ynv_read.specs.Parse.{parseOutcome}
 use Rattle.write_pages.specs.Preorder.{sectorCount}
 use Rattle.write_pages.specs.Pages.{sectors, pages}
 use Rattle.write_pages.specs.Checks.{Verdict, fine, refused, onVerdict, cellVerdict, cellOutcome}

@@ -9,8 +9,8 @@ use native.Mathlib.Nat.{mul-add, mul-zero, suc-mul}
 use borrow.Author.Tests.{leb-false}
 use lib.Dec.{leb}
 use lib.ListN.{length}
-use Rattle.quantise.specs.declared.quarter.QuarterBox.{QuarterBox}
-use Rattle.quantise.specs.declared.bounds.Aabb.{Aabb}
+use Rattle.quarters.specs.declared.quarter.QuarterBox.{QuarterBox}
+use Rattle.quarters.specs.declared.bounds.Aabb.{Aabb}
 use Rattle.strip.specs.Cell.{NavPoint}
 use Rattle.write_blocks.specs.Layout.{aligned, placeOf, behind, endOf}
 use Rattle.write_blocks.specs.Laid.{sumOf}

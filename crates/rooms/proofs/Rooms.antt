@@ -4,7 +4,7 @@ use mathlib.Core.Path.{_≡_}
 use mathlib.Core.List.{List, [], _∷_, _++_, map}
 use native.Mathlib.Omega.{arith}
 use lib.ListN.{length, length-map}
-use Rattle.quantise.specs.declared.quarter.QuarterBox.{QuarterBox}
+use Rattle.quarters.specs.declared.quarter.QuarterBox.{QuarterBox}
 use Rattle.strip.specs.Cell.{Cell, encode}
 use Rattle.distinct.proofs.Final.{length-distinct}
 use Rattle.write_blocks.specs.Lists.{partCount, listSizes}
@@ -18,7 +18,7 @@ use Rattle.write_pages.specs.Reread.{reread}
 use Rattle.write_pages.specs.Accepted.{Accepted}
 use Rattle.write_pages.proofs.Placed.{few-corners, at-most-200, pages-placed}
 use Rattle.write_pages.proofs.Sizes.{pages-length}
-use Rattle.write_quadtree.proofs.Picks.{ids-few}
+use Rattle.write_leaf_checks.proofs.Picks.{ids-few}
 use Rattle.write_sectors.proofs.Cell.{few-points, cell-leaves}
 use Rattle.write_blocks.specs.Laid.{sumOf}
 use Rattle.write_blocks.proofs.Layouts.{end-sum, sum-append}

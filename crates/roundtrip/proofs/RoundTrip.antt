@@ -19,8 +19,8 @@ use Rattle.strip.specs.Outcome as Outcome
 use Rattle.strip.proofs.Exact.{scan-exact}
 use Rattle.read_grammar.specs.Polygons.{Each, none, more}
 use Rattle.read_grammar.specs.Derives.{Derives}
-use Rattle.ynv_read.specs.declared.Parsed.{Parsed}
-use Rattle.ynv_read.specs.Parse.{countsOf}
+use Rattle.read_decide.specs.declared.Parsed.{Parsed}
+use Rattle.read_decide.specs.Answer.{countsOf}
 use Rattle.ynv_read.proofs.Theorems.{accepted-exactly as read-exactly, too-short-exactly}
 use Rattle.write_pages.specs.Preorder.{sectorCount, preorder}
 use Rattle.write_pages.specs.Pages.{loOf, extentOf, sectors, pages}

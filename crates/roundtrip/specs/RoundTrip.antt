@@ -8,8 +8,9 @@ use Rattle.strip.specs.Cell.{NavPortal, NavPoint, Cell, encode}
 use Rattle.strip.specs.Scan.{Scanned, scan}
 use Rattle.strip.specs.Outcome.{Outcome, values, refusal, shown, left}
 use Rattle.read_grammar.specs.Polygons.{Each}
-use Rattle.ynv_read.specs.declared.Parsed.{Parsed}
-use Rattle.ynv_read.specs.Parse.{countsOf, parseOutcome}
+use Rattle.read_decide.specs.declared.Parsed.{Parsed}
+use Rattle.read_decide.specs.Answer.{countsOf}
+use Rattle.ynv_read.specs.Parse.{parseOutcome}
 use Rattle.write_pages.specs.Preorder.{sectorCount, preorder}
 use Rattle.write_pages.specs.Pages.{sectors, pages}
 use Rattle.write_pages.specs.Reread.{reread}

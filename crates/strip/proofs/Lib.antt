@@ -4,8 +4,6 @@ pub mod Steps
 pub mod Lengths
 pub mod Judged
 pub mod Laid
-pub mod Boxed
-pub mod Halves
 pub mod Bits
 pub mod Plain
 pub mod Encode

@@ -9,8 +9,5 @@ pub mod Laid
 pub mod Outcome
 pub mod Check
 pub mod Checked
-pub mod Boxed
-pub mod BoxedCell
-pub mod Halves
 pub mod Tests
 pub mod Faults

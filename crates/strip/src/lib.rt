@@ -2,14 +2,10 @@
 ghost use mathlib.Core.Path.{_≡_};
 ghost use Prim.Native.Nat.{_+_, _*_, _≤_, _<_};
 ghost use lib.ListN.{length};
-ghost use Rattle.strip.specs.Reading.{vecAt, polyAt, headAt};
-ghost use Rattle.strip.specs.Box.{finiteBits, finiteVec, finiteBox};
+ghost use Rattle.strip.specs.Reading.{polyAt};
 ghost use Rattle.strip.specs.Scan.{firstGood, allBelow, edgesFit, polyFits, cellRecord, polygonRecord, portalRecord, pointRecord, endRecord, recordAt};
 ghost use Rattle.strip.specs.Outcome.{shown};
 ghost use Rattle.strip.specs.Checked.{paper, stripOutcome};
-
-pub mod cells;
-pub mod edges;
 
 // Why a call was refused: the one form for all calls.
 pub struct Refusal {
@@ -93,41 +89,6 @@ pub fn poly_at(strip: &[u32], at: usize) -> Poly
         edge_at,
         next,
     }
-}
-
-// Whether w is the bits of neither an infinity nor a NaN.
-pub fn is_finite(w: u32) -> bool
-    ensures { λ r. ⌜ r ≡ finiteBits w ⌝ }
-{
-    w % 0x8000_0000 < 0x7F80_0000
-}
-
-// Whether the three words from `at` on are.
-fn finite_vec(strip: &[u32], at: usize) -> bool
-    requires { ⌜ at + 3 ≤ length (now strip) ⌝ }
-    ensures { λ r. ⌜ r ≡ finiteVec (vecAt (now (strip .entry)) at) ⌝ }
-{
-    if !is_finite(strip[at]) {
-        return false;
-    }
-    if !is_finite(strip[at + 1]) {
-        return false;
-    }
-    is_finite(strip[at + 2])
-}
-
-// Whether min, max and size of the cell's box are finite. A caller has the cell's record from `check_strip`.
-pub fn finite_box(strip: &[u32]) -> bool
-    requires { ⌜ 14 ≤ length (now strip) ⌝ }
-    ensures { λ r. ⌜ r ≡ finiteBox (headAt (now (strip .entry)) 0) ⌝ }
-{
-    if !finite_vec(strip, 5) {
-        return false;
-    }
-    if !finite_vec(strip, 8) {
-        return false;
-    }
-    finite_vec(strip, 11)
 }
 
 // Whether `n` words from `at` on are below `limit`.

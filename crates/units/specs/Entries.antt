@@ -9,7 +9,7 @@ use lib.Ieee.{Float}
 use Rattle.math.specs.declared.vec3.Vec3.{Vec3}
 use Rattle.math.specs.Floats.{floatsAt}
 use Rattle.quantise.specs.Short.{short}
-use Rattle.quantise.specs.Quarter.{quarterFloor, quarterCeil}
+use Rattle.quarters.specs.Quarter.{quarterFloor, quarterCeil}
 use Rattle.strip.specs.Outcome.{Paper, refusal, values}
 use Rattle.strip.specs.declared.Counts.{Counts}
 

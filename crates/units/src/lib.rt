@@ -9,11 +9,10 @@ ghost use Rattle.fields.specs.Bytes.{over};
 ghost use Rattle.fields.specs.Put.{put};
 ghost use Rattle.distinct.specs.Numbers.{upTo, numbersFrom};
 ghost use Rattle.quantise.specs.Short.{short, coordinate};
-ghost use Rattle.quantise.specs.Quarter.{bits16};
+ghost use Rattle.quarters.specs.Quarter.{bits16};
 ghost use Rattle.areas.specs.Areas.{seeded};
 ghost use Rattle.areas.specs.Tables.{areaAt};
-ghost use Rattle.write_vertices.specs.Table.{triplesOf};
-ghost use Rattle.write_vertices.specs.Vertices.{answerWith};
+ghost use Rattle.write_vertex_numbers.specs.Numbers.{triplesOf, answerWith};
 ghost use Rattle.strip.specs.Outcome.{shown};
 ghost use Rattle.strip.specs.Checked.{stripOutcome};
 ghost use Rattle.write_blocks.specs.Layout.{placeOf};
@@ -23,12 +22,12 @@ use areas::AreaAnswer;
 use math::num::bits_of_float;
 use math::num::float_of_bits;
 use math::vec3::floats_at;
-use quantise::quarter::bits16_of;
-use quantise::quarter::quarter_ceil;
-use quantise::quarter::quarter_floor;
 use quantise::short::Shorts;
+use quarters::quarter::bits16_of;
+use quarters::quarter::quarter_ceil;
+use quarters::quarter::quarter_floor;
 use strip::StripAnswer;
-use write_vertices::All;
+use write_vertex_numbers::All;
 
 // The short of a on an axis.
 #[no_mangle]
@@ -135,7 +134,7 @@ pub extern "C" fn leaf_number_all(triples: &[u32], work: &mut [u32]) -> usize
     ensures numbers { λ r. ⌜ (r ≤ 65536 → take (length (triplesOf (now (triples .entry)))) (now (work .exit)) ≡ numbersFrom [] (triplesOf (now (triples .entry)))) ⌝ }
     ensures rest { λ _. ⌜ drop (4 * length (triplesOf (now (triples .entry)))) (now (work .exit)) ≡ drop (4 * length (triplesOf (now (triples .entry)))) (now (work .entry)) ⌝ }
 {
-    match write_vertices::number_all(triples, work) {
+    match write_vertex_numbers::number_all(triples, work) {
         All::Count(n) => n,
         All::Over(_) => 65537,
         All::Short => 65538,

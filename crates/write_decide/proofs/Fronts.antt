@@ -27,18 +27,19 @@ use Rattle.distinct.proofs.Left.{drop-more}
 use Rattle.distinct.proofs.Final.{numbers-at-the-end}
 use Rattle.areas.specs.Areas.{seeded}
 use Rattle.write_vertices.specs.Table.{met, cleared}
-use Rattle.write_vertices.proofs.Numbering.{table-cleared, length-cleared, drop-cleared}
-use Rattle.write_vertices.proofs.Enough.{trees-fit}
+use Rattle.write_vertices.proofs.Clearing.{table-cleared, length-cleared, drop-cleared}
+use Rattle.write_vertices.proofs.Trees.{trees-fit}
 use Rattle.write_pages.specs.Items.{floats, Corner, corners, triples}
 use Rattle.write_pages.specs.Checks.{Verdict, faultIf, firstFault, at}
 use Rattle.write_pages.proofs.Firsts.{passed, at-none}
-use Rattle.write_decide.specs.Steps.{says, VerdictHas, TablesReady, PolygonsDone}
-use Rattle.write_decide.specs.declared.Verdict.{Verdict as Said}
-use Rattle.write_decide.specs.declared.Verdict.the-variants.{Fine, Refused}
-use Rattle.write_decide.proofs.Said.{never-both, fine-none}
+use Rattle.write_corner_checks.specs.Steps.{TablesReady}
+use Rattle.write_polygon_checks.specs.Steps.{says, VerdictHas, PolygonsDone}
+use Rattle.write_polygon_checks.specs.declared.Verdict.{Verdict as Said}
+use Rattle.write_polygon_checks.specs.declared.Verdict.the-variants.{Fine, Refused}
+use Rattle.write_polygon_checks.proofs.Said.{never-both, fine-none}
 use Rattle.write_decide.specs.Decide.{onPolygons, beforeLeaves, onScan, trees, most, indicesAt, tablesEnd, Tabled, WellDone, DecideDone}
-use Rattle.write_decide.specs.declared.polygons.Tables.{Tables}
-use Rattle.write_decide.specs.declared.polygons.Decided.{Decided}
+use Rattle.write_corner_checks.specs.declared.Tables.{Tables}
+use Rattle.write_polygon_checks.specs.declared.Decided.{Decided}
 use Rattle.write_decide.specs.declared.Decision.{Decision}
 
 -- the trees of a strip of so many words

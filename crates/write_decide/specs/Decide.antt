@@ -18,8 +18,8 @@ use Rattle.areas.specs.Tables.{areaIds}
 use Rattle.write_vertices.specs.Table.{met}
 use Rattle.write_pages.specs.Items.{floats, corners, vertexTable, areaTable, linksOf}
 use Rattle.write_pages.specs.Checks.{Verdict, refused, faultIf, firstFault, at, polygonsVerdict}
-use Rattle.write_decide.specs.Steps.{says}
-use Rattle.write_decide.specs.declared.Verdict.the-variants.{Fine}
+use Rattle.write_polygon_checks.specs.Steps.{says}
+use Rattle.write_polygon_checks.specs.declared.Verdict.the-variants.{Fine}
 use Rattle.write_decide.specs.declared.Decision.{Decision}
 use Rattle.write_decide.specs.declared.WorkPlaces.{WorkPlaces}
 

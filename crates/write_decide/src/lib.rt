@@ -9,24 +9,18 @@ ghost use Rattle.strip.specs.Reading.{headAt};
 ghost use Rattle.strip.specs.Rows.{afterPolygons};
 ghost use Rattle.strip.specs.Box.{finiteBox};
 ghost use Rattle.write_pages.specs.Checks.{faultIf, firstFault};
-ghost use Rattle.write_decide.specs.Steps.{VerdictHas};
-ghost use Rattle.write_decide.specs.declared.Verdict.the-variants.{Refused};
+ghost use Rattle.write_polygon_checks.specs.Steps.{VerdictHas};
+ghost use Rattle.write_polygon_checks.specs.declared.Verdict.the-variants.{Refused};
 ghost use Rattle.write_decide.specs.Decide.{trees, workPlaces, WellDone, DecideDone};
 use areas::Areas;
 use cell_record::CellRecord;
 use math::vec3::Vec3;
-use polygons::Tables;
 use strip::Counts;
 use strip::Refusal;
 use strip::StripAnswer;
-
-mod polygons;
-
-// Nothing is refused, or the first refusal.
-pub enum Verdict {
-    Fine,
-    Refused(Refusal),
-}
+use write_corner_checks::Tables;
+use write_polygon_checks::Verdict;
+use write_polygon_checks::decide_polygons;
 
 // What a strip comes to: the verdict, and where nothing is refused its cell's record, its counts, the area table, and how many vertices, corners
 // and links there are.
@@ -52,7 +46,7 @@ fn front_verdict(strip: &[u32], work: usize, polys: usize) -> Verdict
             place: 0,
         });
     }
-    if !strip::finite_box(strip) {
+    if !strip_parts::finite_box(strip) {
         return Verdict::Refused(Refusal {
             number: 10,
             place: 0,
@@ -120,7 +114,7 @@ fn decide_well(strip: &[u32], counts: Counts, work: &mut [u32]) -> Decision
     };
     let n = counts.polys;
     write_vertices::clear(work, buckets);
-    let d = polygons::decide_polygons(
+    let d = decide_polygons(
         strip,
         n,
         bb_min,

@@ -20,7 +20,7 @@ use Rattle.strip.proofs.Steps.{items-done, items-length, polygons-turn, after-p
 use Rattle.areas.specs.EdgeHalf.{halfWord}
 use Rattle.write_pages.specs.Items.{Corner, noHalf, noEdge, cornersOf, cornersIn, corners, gather, halfOf}
 use Rattle.write_pages.proofs.Placed.{length-corners}
-use Rattle.write_decide.proofs.Corners.{edgeOr, corners-turn}
+use Rattle.write_corner_checks.proofs.Corners.{edgeOr, corners-turn}
 use Rattle.write_edges.specs.Made.{edgeWords}
 
 -- ---- halves

@@ -8,7 +8,7 @@ use mir.Syntax.{w64}
 use mir.Val.{Fits}
 use borrow.Author.Tests.{leb-true, leb-false}
 use lib.Dec.{leb}
-use Rattle.quantise.specs.declared.bounds.Aabb.{Aabb}
+use Rattle.quarters.specs.declared.bounds.Aabb.{Aabb}
 use Rattle.write_blocks.specs.Layout.{aligned, placeOf, behind, endOf}
 use Rattle.write_blocks.specs.Laid.{empty, allocated, reached, sumOf, Within}
 use Rattle.write_blocks.specs.declared.Layout.{Layout}

@@ -4,7 +4,7 @@ use mathlib.Core.Path.{_≡_, refl, ap, sym, _∙_}
 use mathlib.Core.List.{List, [], _∷_, _++_, append-assoc}
 use native.Mathlib.Omega.{arith}
 use lib.ListN.{length}
-use Rattle.quantise.specs.declared.bounds.Aabb.{Aabb}
+use Rattle.quarters.specs.declared.bounds.Aabb.{Aabb}
 use Rattle.strip.specs.Cell.{NavPoint, Cell}
 use Rattle.write_blocks.specs.Layout.{behind, endOf}
 use Rattle.write_blocks.specs.Laid.{sumOf}
@@ -16,8 +16,8 @@ use Rattle.write_pages.specs.Sectors.{Sector, quarters, leafIds, grown, byteCou
 use Rattle.write_pages.specs.Sectors.Sector.{leaf, node}
 use Rattle.write_pages.specs.Pages.{allCorners, vertices, links, sectors, counts, sizesOf, sizes, pages}
 use Rattle.write_pages.proofs.Sizes.{pages-length}
-use Rattle.write_quadtree.specs.Work.{boxesIn, pickedFrom, countIn, treeBy}
-use Rattle.write_quadtree.proofs.Picks.{count-picked}
+use Rattle.write_leaf_checks.specs.Work.{boxesIn, pickedFrom, countIn, treeBy}
+use Rattle.write_leaf_checks.proofs.Picks.{count-picked}
 use Rattle.write_ends.specs.Ends.{leafSizes, sizesBy, listsEnd, pagesEnd, pagesSizes}
 use Rattle.write_ends.proofs.Behind.{behindVertices, behindIndices, behindEdges}
 

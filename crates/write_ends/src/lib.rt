@@ -13,7 +13,7 @@ use fields::sizes::POLY_SIZE;
 use fields::sizes::PORTAL_SIZE;
 use fields::sizes::SECTOR_DATA_SIZE;
 use fields::sizes::SECTOR_SIZE;
-use quantise::bounds::Aabb;
+use quarters::bounds::Aabb;
 use write_blocks::Layout;
 use write_decide::Decision;
 
@@ -51,8 +51,8 @@ fn leaf_by<'a>(l: Layout, b: Aabb, leaf: u32, boxes: &'a [u32], numbers: &'a [u3
     requires { ⌜ Within l (sizesBy (now boxes) (now numbers) 0 leaf b) ⌝ }
     ensures { λ r. ⌜ r ≡ reached l (sizesBy (now (boxes .entry)) (now (numbers .entry)) 0 leaf b) ⌝ }
 {
-    let ids = write_quadtree::leaves::leaf_ids(boxes, b);
-    let points = write_quadtree::leaves::count_points(numbers, leaf);
+    let ids = write_leaf_checks::leaf_ids(boxes, b);
+    let points = write_leaf_checks::count_points(numbers, leaf);
     leaf_end(l, ids, points)
 }
 

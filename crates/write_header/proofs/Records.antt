@@ -1,5 +1,5 @@
--- The words that the code stores have the bytes of the definition's rows. Assumes nothing.
-use Prim.Native.Nat.{ℕ, zero, suc, _+_, _*_, _-_, _/_, _%_, _^_, _≤_, _<_}
+-- The words that the code stores have the bytes of the header's rows. Assumes nothing.
+use Prim.Native.Nat.{ℕ, zero, suc, _+_, _*_, _-_, _^_, _≤_, _<_}
 use mathlib.Core.Path.{_≡_, refl, sym, ap, _∙_}
 use mathlib.Core.List.{List, [], _∷_, _++_, append-assoc, append-nil}
 use native.Mathlib.Omega.{arith}
@@ -9,18 +9,13 @@ use lib.ListN.{length, take}
 use lib.Seq.{take-all, length-take-le}
 use Rattle.fields.specs.Bytes.{leBytes, les}
 use Rattle.fields.specs.Put.{put}
-use Rattle.fields.specs.Rows.{rowBytes, pack, field}
-use Rattle.fields.proofs.Bytes.{length-les, bytes-join, bytes-mod, le-address, zero-words}
+use Rattle.fields.specs.Rows.{rowBytes}
+use Rattle.fields.proofs.Bytes.{length-les, bytes-join, le-address, zero-words}
 use Rattle.fields.proofs.Puts.{put-next}
 use Rattle.fields.proofs.Rows.{length-rows}
-use Rattle.math.specs.declared.vec3.Vec3.{Vec3 as Floats}
-use Rattle.quantise.specs.Short.{shorts}
-use Rattle.quantise.specs.declared.short.Shorts.{Shorts}
 use Rattle.strip.specs.Cell.{Head}
-use Rattle.strip.specs.Reading.{word, vecAt, low16, high16, portalAt}
-use Rattle.write_pages.specs.Items.{floats}
 use Rattle.write_pages.specs.Sectors.{nanWord}
-use Rattle.write_pages.specs.Pages.{Places, Counts, oneBits, headerFirst, headerLast, headerBytes, padded, portalRow}
+use Rattle.write_pages.specs.Pages.{Places, Counts, oneBits, headerFirst, headerLast, headerBytes, padded}
 use Rattle.write_pages.proofs.Sizes.{length-padded}
 
 -- ---- the header
@@ -92,25 +87,3 @@ module _ (ids : List ℕ) (len : ℕ) (xs : List ℕ) where
       padded-bytes 32 (take len ids) (omega arith) ∙ ap (λ (k : ℕ). les 4 (take len ids) ++ leBytes (128 - 4 * k) 0) n in
       q ∙ ap (put (152 + 4 * len) (leBytes (128 - 4 * len) 0)) p ∙ put-next (4 * len) 152 (les 4 (take len ids)) (leBytes (128 - 4 * len) 0) xs long
       ∙ ap (λ (bs : List ℕ). put 152 bs xs) (sym bytes)
-
--- ---- a portal
-
--- its first word is its kind and angle
-kind-angle : (w : ℕ) → leBytes 2 w ≡ leBytes 1 (field 0 8 w) ++ leBytes 1 (field 8 8 w)
-unfolding leBytes
-kind-angle w =
-    let a : w / 2 ^ 0 % 2 ^ 8 % 256 ≡ w % 256 = omega arith in
-    let b : w / 2 ^ 8 % 2 ^ 8 % 256 ≡ w / 256 % 256 = omega arith in
-    rw (a, b)
-
-module _ (bb-min bb-size : Floats) (s : List ℕ) (at : ℕ) where
-  pub portal-words : (a b : Shorts) (v : ℕ) → a ≡ shorts (floats (vecAt s (at + 2))) bb-min bb-size → b ≡ shorts (floats (vecAt s (at + 5))) bb-min bb-size
-      → v ≡ pack ((14, low16 (word s (at + 9))) ∷ (14, high16 (word s (at + 9))) ∷ (4, word s (at + 10)) ∷ [])
-      → les 2
-      (word s at ∷ word s (at + 1) ∷ a .x ∷ a .y ∷ a .z ∷ b .x ∷ b .y ∷ b .z
-      ∷ word s (at + 8) ∷ word s (at + 8) ∷ word s (at + 8) / 65536 ∷ word s (at + 8) / 65536 ∷ v ∷ v / 65536 ∷ [])
-      ≡ rowBytes (portalRow bb-min bb-size (portalAt s at))
-  unfolding les rowBytes portalAt
-  portal-words a b v ea eb ev =
-      rw (ea, eb, ← ev)
-      (simp (kind-angle (word s at), bytes-mod 2 (word s (at + 8)), bytes-join 2 2 v, append-assoc))

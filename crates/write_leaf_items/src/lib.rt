@@ -13,16 +13,16 @@ ghost use Rattle.write_blocks.specs.Layout.{behind, endOf};
 ghost use Rattle.write_blocks.specs.Laid.{Laid};
 ghost use Rattle.write_blocks.specs.Optional.{blockOf, sizeOf};
 ghost use Rattle.write_pages.specs.Sectors.{leafIds, quarters, dataRow, pointRow, pointItems};
-ghost use Rattle.write_quadtree.specs.Work.{boxesIn, pickedFrom};
+ghost use Rattle.write_leaf_checks.specs.Work.{boxesIn, pickedFrom};
 use fields::sizes::POINT_SIZE;
 use fields::sizes::SECTOR_DATA_SIZE;
 use math::vec3::Vec3;
 use math::vec3::floats_at;
-use quantise::bounds::Aabb;
-use quantise::quarter::QuarterBox;
-use quantise::quarter::quarter_box;
+use quarters::bounds::Aabb;
+use quarters::quarter::QuarterBox;
+use quarters::quarter::quarter_box;
 use write_blocks::Layout;
-use write_quadtree::leaves::meets_at;
+use write_leaf_checks::meets_at;
 
 // The points of a cell: where their records begin in the strip, and the box in which their shorts are measured, bb_min and bb_size.
 pub struct Points {

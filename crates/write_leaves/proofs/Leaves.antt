@@ -10,7 +10,7 @@ use Rattle.fields.specs.Rows.{rowBytes}
 use Rattle.fields.proofs.Bytes.{length-les}
 use Rattle.fields.proofs.Rows.{length-rows}
 use Rattle.math.specs.declared.vec3.Vec3.{Vec3 as Floats}
-use Rattle.quantise.specs.declared.bounds.Aabb.{Aabb}
+use Rattle.quarters.specs.declared.bounds.Aabb.{Aabb}
 use Rattle.strip.specs.Cell.{NavPoint}
 use Rattle.write_blocks.specs.declared.Layout.{Layout}
 use Rattle.write_blocks.specs.Layout.{placeOf, behind, endOf, address}

@@ -10,9 +10,9 @@ use mir.Val.{toZ, ofZ}
 use Rattle.fields.specs.Bytes.{leBytes, les}
 use Rattle.fields.specs.Rows.{rowBytes}
 use Rattle.fields.proofs.Bytes.{le-address, le-pair, zero-words}
-use Rattle.quantise.specs.Quarter.{quarterFloor, quarterCeil, bits16}
-use Rattle.quantise.specs.declared.bounds.Aabb.{Aabb}
-use Rattle.quantise.proofs.Quarters.{side-read}
+use Rattle.quarters.specs.Quarter.{quarterFloor, quarterCeil, bits16}
+use Rattle.quarters.specs.declared.bounds.Aabb.{Aabb}
+use Rattle.quarters.proofs.Quarters.{side-read}
 use Rattle.write_pages.specs.Items.{floats}
 use Rattle.write_pages.specs.Sectors.{nanWord, sectorRow}
 

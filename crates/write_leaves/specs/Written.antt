@@ -4,14 +4,14 @@ use mathlib.Core.Path.{_≡_}
 use mathlib.Core.List.{List}
 use lib.ListN.{length}
 use Rattle.math.specs.declared.vec3.Vec3.{Vec3 as Floats}
-use Rattle.quantise.specs.declared.bounds.Aabb.{Aabb}
+use Rattle.quarters.specs.declared.bounds.Aabb.{Aabb}
 use Rattle.strip.specs.Fits.{All}
 use Rattle.strip.specs.Rows.{pointsAt}
 use Rattle.write_blocks.specs.Layout.{endOf}
 use Rattle.write_blocks.specs.Laid.{Laid}
 use Rattle.write_pages.specs.Sectors.{Sector, pointCount, leafCounts, sizes, treeBlocks}
 use Rattle.write_pages.specs.Accepted.{FewIn}
-use Rattle.write_quadtree.specs.Work.{treeBy}
+use Rattle.write_leaf_checks.specs.Work.{treeBy}
 use Rattle.write_leaves.specs.declared.SectorCursor.{SectorCursor}
 
 -- the tree by the words of quarter boxes and leaves, of as many points, whose records stand in the strip from a place on

@@ -11,17 +11,17 @@ use fields::sizes::POINT_SIZE;
 use fields::sizes::SECTOR_DATA_SIZE;
 use fields::sizes::SECTOR_SIZE;
 use math::num::bits_of_float;
-use quantise::bounds::Aabb;
-use quantise::quarter::quarter_box;
+use quarters::bounds::Aabb;
+use quarters::quarter::quarter_box;
 use write_blocks::Layout;
 use write_blocks::address_of;
+use write_leaf_checks::count_points;
+use write_leaf_checks::leaf_ids;
+use write_leaf_checks::quarter_pair;
 use write_leaf_items::Points;
 use write_leaf_items::lay_data;
 use write_leaf_items::lay_ids;
 use write_leaf_items::lay_points;
-use write_quadtree::leaves::count_points;
-use write_quadtree::leaves::leaf_ids;
-use write_quadtree::leaves::quarter_pair;
 
 const NAN: u32 = 0x7FC0_0000;
 

@@ -1,4 +1,5 @@
--- The vertices, the indices and the edges in work, as the items of their lists.
+-- The vertices, the indices and the edges in work, as the items of their lists: what `write_list` lays out of the words from a place on is laid out of
+-- equal items (`relaid`), and for each of the three the items in these words are the list's (`vertex-words`, `index-words`, `edge-words`).
 use mathlib.Core.Path.{_≡_, refl, ap, _∙_, subst}
 use mathlib.Core.List.{List, [], _∷_, _++_, map, append-assoc, append-nil}
 use Prim.Native.Nat.{ℕ, zero, suc, _+_, _-_, _*_, _/_, _%_, _^_, _≤_, _<_}
@@ -9,7 +10,7 @@ use Rattle.fields.specs.Bytes.{leBytes, les}
 use Rattle.fields.specs.Put.{put}
 use Rattle.fields.specs.Rows.{rowBytes}
 use Rattle.fields.proofs.Bytes.{bytes-join, bytes-mod, le-append}
-use Rattle.fields.proofs.Puts.{put-eq, lent}
+use Rattle.fields.proofs.Puts.{put-eq}
 use Rattle.write_blocks.specs.Laid.{Laid}
 use Rattle.write_blocks.specs.Lists.{listBlocks}
 use Rattle.write_blocks.specs.declared.Layout.{Layout}
@@ -17,13 +18,8 @@ use Rattle.distinct.specs.Distinct.{indexOf}
 use Rattle.write_vertices.specs.Table.{tripleAt, met}
 use Rattle.write_pages.specs.Items.{Corner, vertexRow, vertexItems, indexItems, edgeItems}
 use Rattle.write_edges.specs.Made.{edgeWords}
+use Rattle.write_edges.proofs.Halves.{length-words}
 use Rattle.write_lists.specs.Words.{itemOf, itemsIn, numberItems}
-
--- words that are stored at a place stand there, when they are lent from it on
-pub made : (at : ℕ) (bs ws : List ℕ) → at + length bs ≤ length ws → take (length (put at bs ws) - at) (drop at (put at bs ws)) ≡ bs ++ drop (at + length bs) ws
-made at bs ws h =
-    lent at (put at bs ws) ∙ ap (drop at) (put-eq at bs ws h)
-    ∙ (rw append-assoc (drop-at (take at ws) (bs ++ drop (at + length bs) ws) at (length-take-le at ws (omega arith))))
 
 -- a list of items is laid out where equal items are
 pub relaid : {l r : Layout} {items items' : List (List ℕ)} {xs ys : List ℕ} (vft w : ℕ) → items ≡ items' → Laid l (listBlocks (l .at) vft w items) r xs ys
@@ -84,7 +80,18 @@ index-items table (k ∷ ks) =
 
 -- ---- edges
 
-pub edge-words : (ids : List ℕ) (ks : List Corner) (rest : List ℕ) → itemsIn 1 8 (length ks) (edgeWords ids ks ++ rest) ≡ edgeItems ids ks
+made-items : (ids : List ℕ) (ks : List Corner) (rest : List ℕ) → itemsIn 1 8 (length ks) (edgeWords ids ks ++ rest) ≡ edgeItems ids ks
 unfolding itemsIn itemOf edgeWords edgeItems les rowBytes
-edge-words ids [] rest = refl
-edge-words ids (k ∷ ks) rest = rw (edge-words ids ks rest) (simp append-nil)
+made-items ids [] rest = refl
+made-items ids (k ∷ ks) rest = rw (made-items ids ks rest) (simp append-nil)
+
+-- words that are stored at a place stand there
+made : (at : ℕ) (bs ws : List ℕ) → at + length bs ≤ length ws → drop at (put at bs ws) ≡ bs ++ drop (at + length bs) ws
+made at bs ws h =
+    ap (drop at) (put-eq at bs ws h) ∙ (rw append-assoc (drop-at (take at ws) (bs ++ drop (at + length bs) ws) at (length-take-le at ws (omega arith))))
+
+pub edge-words : (ids : List ℕ) (ks : List Corner) (w w' : List ℕ) (n b : ℕ) → n ≡ length ks → b + 2 * n ≤ length w → w' ≡ put b (edgeWords ids ks) w
+    → itemsIn 1 8 n (drop b w') ≡ edgeItems ids ks
+edge-words ids ks w w' n b many room e =
+    let fits : b + length (edgeWords ids ks) ≤ length w = omega (arith, length-words ids ks) in
+    rw (e, many, made b (edgeWords ids ks) w fits) (made-items ids ks _)

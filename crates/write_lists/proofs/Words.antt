@@ -39,6 +39,10 @@ module _ (s w : ℕ) (words : List ℕ) (from : ℕ) (fits : from + s < length w
 
 -- ---- items
 
+-- so many words stand behind a place
+pub lies : (from : ℕ) (words : List ℕ) {k : ℕ} → from + k ≤ length words → k ≤ length (drop from words)
+lies from words h = omega (arith, length-drop from words)
+
 pub length-items : (s w n : ℕ) (ws : List ℕ) → length (itemsIn s w n ws) ≡ n
 unfolding itemsIn
 length-items s w zero ws = refl
@@ -116,18 +120,17 @@ module _ (words : List ℕ) (from m s w at : ℕ) (out₀ : List ℕ) where
 -- the bytes of m items that stand in the words from `from` on
 pub part-long : (s w m from : ℕ) (words : List ℕ) → from + (s + 1) * m ≤ length words → 4 * s ≤ w → length (cat (itemsIn s w m (drop from words))) ≡ w * m
 part-long s w m from words room le =
-    let h : (s + 1) * m ≤ length (drop from words) = omega (arith, length-drop from words) in
-    length-cat w (itemsIn s w m (drop from words)) (items-wide s w m (drop from words) h le) ∙ ap (λ (j : ℕ). w * j) (length-items s w m (drop from words))
+    length-cat w (itemsIn s w m (drop from words)) (items-wide s w m (drop from words) (lies from words room) le) ∙ ap (λ (j : ℕ). w * j) (length-items s w m (drop from words))
 
-pub record Laying (words : List ℕ) (s w per k n : ℕ) (l : Layout) (out₀ : List ℕ) (next : Layout) (out : List ℕ) (from left i : ℕ) : Type 0 where
-  pub from-here : from + (s + 1) * left ≡ (s + 1) * n
-  pub parts : Parting w per k n (itemsIn s w n words) l out₀ next out left (itemsIn s w left (drop from words)) i
+pub record Laying (words : List ℕ) (base s w per k n : ℕ) (l : Layout) (out₀ : List ℕ) (next : Layout) (out : List ℕ) (from left i : ℕ) : Type 0 where
+  pub from-here : from + (s + 1) * left ≡ base + (s + 1) * n
+  pub parts : Parting w per k n (itemsIn s w n (drop base words)) l out₀ next out left (itemsIn s w left (drop from words)) i
 
-module _ (words : List ℕ) (s w per k n : ℕ) (l : Layout) (out₀ : List ℕ) where
-  pub laying : (s + 1) * n ≤ length words → 4 * s ≤ w → Laying words s w per k n l out₀ l out₀ 0 n 0
-  laying room few = record { from-here = omega arith; parts = parting w per k n (itemsIn s w n words) l out₀ (length-items s w n words) (items-wide s w n words room few) }
+module _ (words : List ℕ) (base s w per k n : ℕ) (l : Layout) (out₀ : List ℕ) (room : base + (s + 1) * n ≤ length words) where
+  pub laying : 4 * s ≤ w → Laying words base s w per k n l out₀ l out₀ base n 0
+  laying few = record { from-here = refl; parts = parting w per k n (itemsIn s w n (drop base words)) l out₀ (length-items s w n (drop base words)) (items-wide s w n (drop base words) (lies base words room) few) }
 
-  module _ (next : Layout) (out : List ℕ) (from left i : ℕ) (g : Laying words s w per k n l out₀ next out from left i) (h : i < k) (m : ℕ) (is : m ≡ min per left) (room : (s + 1) * n ≤ length words) where
+  module _ (next : Layout) (out : List ℕ) (from left i : ℕ) (g : Laying words base s w per k n l out₀ next out from left i) (h : i < k) (m : ℕ) (is : m ≡ min per left) where
     -- the part that a turn lays out stands in the words, and ends below 2^28
     pub laying-room : endOf (l .at) (sizes w (partCounts k per n)) < 2 ^ 28 → (from + (s + 1) * m ≤ length words) × (behind (next .at) (w * m) < 2 ^ 28)
     laying-room below =
@@ -135,7 +138,7 @@ module _ (words : List ℕ) (s w per k n : ℕ) (l : Layout) (out₀ : List ℕ)
         (omega (arith, mul-le-mul-left (s + 1) le, g .from-here), parting-room _ _ _ _ _ _ _ _ _ _ _ _ (g .parts) h m is below)
 
     pub laying-turn : (next' : Layout) (out' : List ℕ) → length out' ≡ length out → Laid next (cat (itemsIn s w m (drop from words)) ∷ []) next' out out'
-        → Laying words s w per k n l out₀ next' out' (from + (s + 1) * m) (left - m) (i + 1)
+        → Laying words base s w per k n l out₀ next' out' (from + (s + 1) * m) (left - m) (i + 1)
     laying-turn next' out' same block =
         let le : m ≤ left = omega arith in
         let these = items-take s w m left (drop from words) le in

@@ -11,6 +11,7 @@ ghost use Rattle.write_blocks.specs.Laid.{Laid};
 ghost use Rattle.write_blocks.specs.Lists.{partSizes, listSizes, listBlocks};
 ghost use Rattle.write_blocks.specs.ListRoom.{ListRoom};
 ghost use Rattle.write_lists.specs.Words.{itemOf, itemsIn, numberItems};
+ghost use Rattle.areas.specs.Tables.{areaIds};
 ghost use Rattle.write_vertices.specs.Table.{met};
 ghost use Rattle.write_plan.specs.Plan.{boxes};
 ghost use Rattle.write_pages.specs.Items.{vertexItems, edgeItems, polygonItems};
@@ -18,6 +19,7 @@ ghost use Rattle.strip.specs.Rows.{polygonsAt, afterPolygons};
 ghost use Rattle.write_edges.specs.Made.{edgeWords, cornersAt};
 ghost use Rattle.write_polygons.specs.Parts.{partsOf};
 ghost use Rattle.fields.specs.Sizes.{LIST-VFT-EDGES, LIST-VFT-INDICES, LIST-VFT-POLYS, LIST-VFT-VERTICES};
+use areas::Areas;
 use fields::sizes::EDGE_SIZE;
 use fields::sizes::INDEX_SIZE;
 use fields::sizes::LIST_VFT_EDGES;
@@ -83,15 +85,23 @@ fn lay_part(
     l.alloc(w * m)
 }
 
-// The items of all parts, n of them.
-fn lay_items(out: &mut [u8], l: Layout, words: &[u32], n: usize, whole: usize, w: usize) -> Layout
-    requires { ⌜ ((whole + 1) * n ≤ length (now words)) × (4 * whole ≤ w) × ListRoom (l .at) w n (partSizes w n) ⌝ }
-    ensures { λ r. ⌜ Laid l (partsOf w n (itemsIn whole w n (now (words .entry)))) r (now (out .entry)) (now (out .exit)) ⌝ }
+// The items of all parts, n of them, whose words stand from `base` on.
+fn lay_items(
+    out: &mut [u8],
+    l: Layout,
+    words: &[u32],
+    base: usize,
+    n: usize,
+    whole: usize,
+    w: usize,
+) -> Layout
+    requires { ⌜ (base + (whole + 1) * n ≤ length (now words)) × (4 * whole ≤ w) × ListRoom (l .at) w n (partSizes w n) ⌝ }
+    ensures { λ r. ⌜ Laid l (partsOf w n (itemsIn whole w n (drop base (now (words .entry))))) r (now (out .entry)) (now (out .exit)) ⌝ }
 {
     let per = PART_SIZE / w;
     let k = write_blocks::part_count(w, n);
     let mut next = l;
-    let mut from = 0;
+    let mut from = base;
     let mut left = n;
     let mut i = 0;
     while i < k {
@@ -104,21 +114,22 @@ fn lay_items(out: &mut [u8], l: Layout, words: &[u32], n: usize, whole: usize, w
     next
 }
 
-// A list of n items of w bytes that stand in words, `whole` + 1 to an item: header, part table, items of each part, offsets.
+// A list of n items of w bytes that stand in words from `base` on, `whole` + 1 to an item: header, part table, items of each part, offsets.
 pub fn write_list(
     out: &mut [u8],
     l: Layout,
     vft: u32,
     words: &[u32],
+    base: usize,
     n: usize,
     whole: usize,
     w: usize,
 ) -> Layout
-    requires { ⌜ ((whole + 1) * n ≤ length (now words)) × (4 * whole ≤ w) × ListRoom (l .at) w n (listSizes w n) ⌝ }
-    ensures { λ r. ⌜ Laid l (listBlocks (l .at) vft w (itemsIn whole w n (now (words .entry)))) r (now (out .entry)) (now (out .exit)) ⌝ }
+    requires { ⌜ (base + (whole + 1) * n ≤ length (now words)) × (4 * whole ≤ w) × ListRoom (l .at) w n (listSizes w n) ⌝ }
+    ensures { λ r. ⌜ Laid l (listBlocks (l .at) vft w (itemsIn whole w n (drop base (now (words .entry))))) r (now (out .entry)) (now (out .exit)) ⌝ }
 {
     let parts = write_blocks::lay_list_front(out, l, vft, w, n);
-    let offsets = lay_items(out, parts, words, n, whole, w);
+    let offsets = lay_items(out, parts, words, base, n, whole, w);
     write_blocks::lay_offsets(out, offsets, w, n)
 }
 
@@ -127,15 +138,7 @@ pub fn lay_vertices(out: &mut [u8], l: Layout, work: &[u32], buckets: usize, n: 
     requires { ⌜ (buckets + 2 * n ≤ length (now work)) × ListRoom (l .at) 6 n (listSizes 6 n) ⌝ }
     ensures { λ r. ⌜ Laid l (listBlocks (l .at) LIST-VFT-VERTICES 6 (vertexItems (met (now (work .entry)) buckets n))) r (now (out .entry)) (now (out .exit)) ⌝ }
 {
-    write_list(
-        out,
-        l,
-        LIST_VFT_VERTICES,
-        &work[buckets..],
-        n,
-        1,
-        VERTEX_SIZE,
-    )
+    write_list(out, l, LIST_VFT_VERTICES, work, buckets, n, 1, VERTEX_SIZE)
 }
 
 // The list of the n indices that stand in work from `from` on.
@@ -143,29 +146,28 @@ pub fn lay_indices(out: &mut [u8], l: Layout, work: &[u32], from: usize, n: usiz
     requires { ⌜ (from + n ≤ length (now work)) × ListRoom (l .at) 2 n (listSizes 2 n) ⌝ }
     ensures { λ r. ⌜ Laid l (listBlocks (l .at) LIST-VFT-INDICES 2 (numberItems 2 (take n (drop from (now (work .entry)))))) r (now (out .entry)) (now (out .exit)) ⌝ }
 {
-    write_list(out, l, LIST_VFT_INDICES, &work[from..], n, 0, INDEX_SIZE)
+    write_list(out, l, LIST_VFT_INDICES, work, from, n, 0, INDEX_SIZE)
 }
 
-// The list of the edges of the strip's n polygons, which have `corners` corners, by the area table of `len` ids. Its items are made in work from
-// `base` on.
+// The list of the edges of the strip's n polygons, which have `corners` corners, by the area table. Its items are made in work from `base` on.
 pub fn lay_edges(
     out: &mut [u8],
     l: Layout,
     strip: &[u32],
     n: usize,
     corners: usize,
-    ids: &[u32],
-    len: usize,
+    areas: Areas,
     work: &mut [u32],
     base: usize,
 ) -> Layout
     requires { ⌜ (afterPolygons (now strip) 14 n ≤ length (now strip)) × (corners ≡ length (cornersAt (now strip) n)) × (base + 2 * corners ≤ length (now work))
         × ListRoom (l .at) 8 corners (listSizes 8 corners) ⌝ }
-    ensures laid { λ r. ⌜ Laid l (listBlocks (l .at) LIST-VFT-EDGES 8 (edgeItems (take len (now (ids .entry))) (cornersAt (now (strip .entry)) n))) r (now (out .entry)) (now (out .exit)) ⌝ }
-    ensures made { λ _. ⌜ now (work .exit) ≡ put base (edgeWords (take len (now (ids .entry))) (cornersAt (now (strip .entry)) n)) (now (work .entry)) ⌝ }
+    ensures laid { λ r. ⌜ Laid l (listBlocks (l .at) LIST-VFT-EDGES 8 (edgeItems (areaIds areas) (cornersAt (now (strip .entry)) n))) r (now (out .entry)) (now (out .exit)) ⌝ }
+    ensures made { λ _. ⌜ now (work .exit) ≡ put base (edgeWords (areaIds areas) (cornersAt (now (strip .entry)) n)) (now (work .entry)) ⌝ }
 {
-    write_edges::put_edges(strip, n, ids, len, work, base);
-    write_list(out, l, LIST_VFT_EDGES, &work[base..], corners, 1, EDGE_SIZE)
+    let ids = areas.ids;
+    write_edges::put_edges(strip, n, &ids, areas.len, work, base);
+    write_list(out, l, LIST_VFT_EDGES, work, base, corners, 1, EDGE_SIZE)
 }
 
 // The list of the n polygons of a cell with this area id, whose quarter boxes stand in `sides`, three words to each. A record is built in its block.

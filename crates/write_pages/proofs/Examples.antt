@@ -8,8 +8,8 @@ use Rattle.fields.specs.Bytes.{les, leBytes, cat}
 use Rattle.fields.specs.Rows.{rowBytes, pack}
 use Rattle.math.specs.MinMax.{lesser, greater}
 use Rattle.quantise.specs.Short.{short, fraction, clamped, nearestNumber, coordinate}
-use Rattle.quantise.specs.Quarter.{side}
-use Rattle.quantise.specs.Bounds.{fold}
+use Rattle.quarters.specs.Quarter.{side}
+use Rattle.quarters.specs.Bounds.{fold}
 use Rattle.strip.specs.Cell.{Vec3, NavEdgeEnd, NavEdge, NavPoly, NavPortal, Cell, encode, each, vecWords, headWords, halfWords, edgeWords, polygonHeadAs, polygonWordsAs, portalWords, pointWords}
 use Rattle.strip.specs.Box.{finiteBox}
 use Rattle.strip.proofs.Plain.{encode-plain}

@@ -5,8 +5,8 @@ use mathlib.Core.Path.{_≡_, refl, ap, sym, _∙_}
 use mathlib.Core.List.{List, [], _∷_, _++_}
 use native.Mathlib.Omega.{arith}
 use lib.ListN.{length, length-append}
-use Rattle.quantise.specs.declared.quarter.QuarterBox.{QuarterBox}
-use Rattle.quantise.specs.declared.bounds.Aabb.{Aabb}
+use Rattle.quarters.specs.declared.quarter.QuarterBox.{QuarterBox}
+use Rattle.quarters.specs.declared.bounds.Aabb.{Aabb}
 use Rattle.math.specs.declared.vec3.Vec3.{Vec3 as Floats}
 use Rattle.strip.specs.Cell.{Vec3, NavEdge, NavPoly, NavPoint, Cell}
 use Rattle.strip.specs.Fits.{All}

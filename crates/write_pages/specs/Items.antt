@@ -6,10 +6,10 @@ use lib.ListN.{length}
 use Rattle.fields.specs.Rows.{rowBytes, pack}
 use Rattle.math.specs.declared.vec3.Vec3.{Vec3 as Floats}
 use Rattle.quantise.specs.Short.{shorts}
-use Rattle.quantise.specs.Quarter.{bits16}
-use Rattle.quantise.specs.Bounds.{leastSide, greatestSide}
+use Rattle.quarters.specs.Quarter.{bits16}
+use Rattle.quarters.specs.Bounds.{leastSide, greatestSide}
 use Rattle.quantise.specs.declared.short.Shorts.{Shorts}
-use Rattle.quantise.specs.declared.quarter.QuarterBox.{QuarterBox}
+use Rattle.quarters.specs.declared.quarter.QuarterBox.{QuarterBox}
 use Rattle.strip.specs.Cell.{Vec3, NavEdgeEnd, NavEdge, NavPoly}
 pub use Rattle.cell_record.specs.Floats.{floats}
 use Rattle.distinct.specs.Distinct.{indexOf, distinctFrom}

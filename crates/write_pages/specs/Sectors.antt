@@ -12,9 +12,9 @@ use Rattle.fields.specs.Bytes.{les, cat}
 use Rattle.fields.specs.Rows.{rowBytes}
 use Rattle.math.specs.declared.vec3.Vec3.{Vec3 as Floats}
 use Rattle.quantise.specs.Short.{nought, shorts}
-use Rattle.quantise.specs.Quarter.{quarterBox, bits16}
-use Rattle.quantise.specs.declared.quarter.QuarterBox.{QuarterBox}
-use Rattle.quantise.specs.declared.bounds.Aabb.{Aabb}
+use Rattle.quarters.specs.Quarter.{quarterBox, bits16}
+use Rattle.quarters.specs.declared.quarter.QuarterBox.{QuarterBox}
+use Rattle.quarters.specs.declared.bounds.Aabb.{Aabb}
 use Rattle.strip.specs.Cell.{NavPoly, NavPoint, Head}
 use Rattle.write_blocks.specs.Layout.{placeOf, behind, endOf, address}
 use Rattle.write_pages.specs.Items.{floats, boxOf}

@@ -5,7 +5,7 @@ use mathlib.Core.Bool.{true, false}
 use mathlib.Core.List.{List, [], _∷_, _++_}
 use lib.ListN.{length}
 use Rattle.math.specs.declared.vec3.Vec3.{Vec3 as Floats}
-use Rattle.quantise.specs.declared.bounds.Aabb.{Aabb}
+use Rattle.quarters.specs.declared.bounds.Aabb.{Aabb}
 use Rattle.strip.specs.Cell.{NavPoint, Cell}
 use Rattle.write_pages.specs.Sectors.{Sector, leaves, depthOf, rootBox, inside, pointsOf}
 use Rattle.write_pages.specs.Sectors.Sector.{leaf, node}

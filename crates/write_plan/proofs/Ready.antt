@@ -17,9 +17,9 @@ use Rattle.write_pages.specs.Checks.{Verdict, fine, refused, faultIf, at, cellV
 use Rattle.write_pages.proofs.Accepted.{accepted}
 use Rattle.write_pages.proofs.Firsts.{at-none}
 use Rattle.write_decide.specs.Decide.{beforeLeaves, decisionThen}
-use Rattle.write_decide.specs.Steps.{says}
-use Rattle.write_decide.specs.declared.Verdict.{Verdict as Said}
-use Rattle.write_decide.specs.declared.Verdict.the-variants.{Fine, Refused}
+use Rattle.write_polygon_checks.specs.Steps.{says}
+use Rattle.write_polygon_checks.specs.declared.Verdict.{Verdict as Said}
+use Rattle.write_polygon_checks.specs.declared.Verdict.the-variants.{Fine, Refused}
 use Rattle.write_decide.specs.declared.Decision.{Decision}
 use Rattle.strip.proofs.Laid.{Well, well-cell}
 use Rattle.write_plan.specs.Plan.{afterPolygonChecks, Planned}

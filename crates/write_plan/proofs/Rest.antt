@@ -8,7 +8,7 @@ use lib.ListN.{length, getD, take, drop, length-append}
 use lib.Seq.{getD-append-add}
 use Rattle.fields.specs.Put.{put}
 use Rattle.fields.proofs.Puts.{put-next}
-use Rattle.quantise.specs.declared.bounds.Aabb.{Aabb}
+use Rattle.quarters.specs.declared.bounds.Aabb.{Aabb}
 use Rattle.strip.specs.Cell.{NavPoly, NavPoint}
 use Rattle.strip.specs.Reading.{word, polyAt, pointAt, headAt}
 use Rattle.strip.specs.Rows.{after, polygonsAt, afterPolygons, pointsAt}
@@ -20,9 +20,9 @@ use Rattle.strip.proofs.Judged.{poly-next}
 use Rattle.write_pages.specs.Items.{floats, boxOf, gather}
 use Rattle.write_pages.specs.Sectors.{Sector, leafOf, leaves, depthBy, depthOf, rootBox, leafCounts, treeOf}
 use Rattle.write_pages.specs.Checks.{leavesVerdict}
-use Rattle.write_quadtree.specs.Work.{treeBy, FirstRefused, BoxesHeld, LeavesHeld}
-use Rattle.write_quadtree.specs.declared.leaves.LeafCheck.{LeafCheck}
-use Rattle.write_quadtree.proofs.Held.{tree-held}
+use Rattle.write_leaf_checks.specs.Work.{treeBy, FirstRefused, BoxesHeld, LeavesHeld}
+use Rattle.write_leaf_checks.specs.declared.LeafCheck.{LeafCheck}
+use Rattle.write_leaf_checks.proofs.Held.{tree-held}
 use Rattle.write_decide.specs.Decide.{workPlaces}
 use Rattle.write_decide.specs.declared.WorkPlaces.{WorkPlaces}
 use Rattle.write_decide.proofs.Fronts.{trees-in}

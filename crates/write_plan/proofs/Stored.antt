@@ -10,12 +10,12 @@ use lib.ListN.{length, set}
 use lib.IntN.{ℤ}
 use mir.Syntax.{w16}
 use mir.Val.{toZ, ofZ}
-use Rattle.quantise.proofs.Quarters.{side-read}
+use Rattle.quarters.proofs.Quarters.{side-read}
 use Rattle.fields.specs.Put.{put}
 use Rattle.fields.proofs.Puts.{length-put, put-nil, put-cons, put-one, put-next}
-use Rattle.quantise.specs.Bounding.{everyThird, held, quarterBounds}
-use Rattle.quantise.specs.declared.quarter.QuarterBox.{QuarterBox}
-use Rattle.quantise.specs.declared.bounds.Aabb.{Aabb}
+use Rattle.quarters.specs.Bounding.{everyThird, held, quarterBounds}
+use Rattle.quarters.specs.declared.quarter.QuarterBox.{QuarterBox}
+use Rattle.quarters.specs.declared.bounds.Aabb.{Aabb}
 use Rattle.strip.specs.Cell.{Vec3, NavPoly, NavPoint}
 use Rattle.strip.specs.Reading.{word, itemsAt, vecAt, vecsAt, polyAt, polygonOf, polygonAt, pointAt}
 use Rattle.strip.specs.Rows.{polygonsAt, afterPolygons, pointsAt}

@@ -10,7 +10,7 @@ use Rattle.strip.specs.Scan.{Scanned, ok, fault, scan}
 use Rattle.write_pages.specs.Pages.{links, pages}
 use Rattle.write_pages.specs.Checks.{Verdict, fine, refused, faultIf, firstFault, at, cellVerdict}
 use Rattle.write_decide.specs.Decide.{beforeLeaves, onScan, decisionThen}
-use Rattle.write_decide.specs.declared.Verdict.the-variants.{Fine}
+use Rattle.write_polygon_checks.specs.declared.Verdict.the-variants.{Fine}
 use Rattle.write_decide.specs.declared.Decision.{Decision}
 use Rattle.write_plan.specs.Plan.{afterPolygonChecks}
 

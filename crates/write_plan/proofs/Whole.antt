@@ -26,14 +26,14 @@ use Rattle.write_pages.specs.Sectors.{leaves, depthOf, rootBox, leafCounts, tre
 use Rattle.write_pages.specs.Pages.{links, sectors}
 use Rattle.write_pages.specs.Checks.{Verdict, fine, faultIf, firstFault, at}
 use Rattle.write_pages.proofs.Firsts.{passed}
-use Rattle.write_quadtree.specs.Work.{FirstRefused, passedThen}
-use Rattle.write_quadtree.specs.declared.leaves.LeafCheck.{LeafCheck}
+use Rattle.write_leaf_checks.specs.Work.{FirstRefused, passedThen}
+use Rattle.write_leaf_checks.specs.declared.LeafCheck.{LeafCheck}
 use Rattle.write_decide.specs.Decide.{beforeLeaves, onScan, decisionThen, trees, indicesAt, tablesEnd, Tabled, DecideDone}
-use Rattle.write_decide.specs.Steps.{says, VerdictHas}
-use Rattle.write_decide.specs.declared.Verdict.{Verdict as Said}
-use Rattle.write_decide.specs.declared.Verdict.the-variants.{Fine, Refused}
+use Rattle.write_polygon_checks.specs.Steps.{says, VerdictHas}
+use Rattle.write_polygon_checks.specs.declared.Verdict.{Verdict as Said}
+use Rattle.write_polygon_checks.specs.declared.Verdict.the-variants.{Fine, Refused}
 use Rattle.write_decide.specs.declared.Decision.{Decision}
-use Rattle.write_decide.proofs.Said.{never-both}
+use Rattle.write_polygon_checks.proofs.Said.{never-both}
 use Rattle.write_decide.proofs.Fronts.{trees-in}
 use Rattle.write_plan.specs.Plan.{boxes, leafWords, pointsIn, restWords, WorkHeld, afterPolygonChecks, judged, Planned}
 use Rattle.write_plan.proofs.Verdicts.{scanned-cell}

@@ -5,9 +5,9 @@ use mathlib.Core.List.{List, [], _∷_, _++_, map}
 use lib.ListN.{length, take, drop}
 use lib.Dec.{ltb}
 use lib.IntN.{ℤ}
-use Rattle.quantise.specs.Quarter.{bits16}
-use Rattle.quantise.specs.declared.quarter.QuarterBox.{QuarterBox}
-use Rattle.quantise.specs.declared.bounds.Aabb.{Aabb}
+use Rattle.quarters.specs.Quarter.{bits16}
+use Rattle.quarters.specs.declared.quarter.QuarterBox.{QuarterBox}
+use Rattle.quarters.specs.declared.bounds.Aabb.{Aabb}
 use Rattle.strip.specs.Cell.{Cell, NavPoly, NavPoint}
 use Rattle.strip.specs.Reading.{headAt}
 use Rattle.strip.specs.Rows.{polygonsAt, pointsAt}
@@ -19,8 +19,8 @@ use Rattle.write_pages.specs.Sectors.{leafOf, leaves, depthOf, rootBox, leafCou
 use Rattle.write_pages.specs.Pages.{links, sectors}
 use Rattle.write_pages.specs.Checks.{Verdict, faultIf, firstFault, at, leavesVerdict}
 use Rattle.write_decide.specs.Decide.{beforeLeaves, onScan, decisionThen, workPlaces, Tabled}
-use Rattle.write_decide.specs.declared.Verdict.{Verdict as Said}
-use Rattle.write_decide.specs.declared.Verdict.the-variants.{Fine}
+use Rattle.write_polygon_checks.specs.declared.Verdict.{Verdict as Said}
+use Rattle.write_polygon_checks.specs.declared.Verdict.the-variants.{Fine}
 use Rattle.write_decide.specs.declared.Decision.{Decision}
 
 -- two sides in one word, the min below

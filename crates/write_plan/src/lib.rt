@@ -4,7 +4,7 @@ ghost use mathlib.Core.List.{[], _∷_};
 ghost use lib.Dec.{ltb};
 ghost use Rattle.write_pages.specs.Checks.{Verdict as Saying, faultIf, firstFault, at, leavesVerdict};
 ghost use Rattle.write_decide.specs.Decide.{workPlaces};
-ghost use Rattle.write_decide.specs.Steps.{VerdictHas};
+ghost use Rattle.write_polygon_checks.specs.Steps.{VerdictHas};
 ghost use Prim.Native.Nat.{_+_, _*_, _/_, _%_, _^_, _≤_};
 ghost use lib.ListN.{length};
 ghost use Rattle.fields.specs.Put.{put};
@@ -14,25 +14,25 @@ ghost use Rattle.strip.specs.Laid.{Whole};
 ghost use Rattle.cell_record.specs.Record.{recordOf};
 ghost use Rattle.write_pages.specs.Items.{boxOf};
 ghost use Rattle.write_pages.specs.Sectors.{leaves, depthBy, leafCounts, treeOf};
-ghost use Rattle.write_quadtree.specs.Work.{FirstRefused};
+ghost use Rattle.write_leaf_checks.specs.Work.{FirstRefused};
 ghost use Rattle.write_plan.specs.Plan.{boxWords, boxes, leafWords, pointsIn, restWords, WorkHeld, judged, Planned};
 use cell_record::CellRecord;
 use math::vec3::floats_at;
-use quantise::bounds::Aabb;
+use quarters::bounds::Aabb;
 use strip::Counts;
 use strip::Poly;
 use strip::Refusal;
 use write_decide::Decision;
-use write_decide::Verdict;
-use write_quadtree::leaves::LeafCheck;
-use write_quadtree::leaves::quarter_pair;
+use write_leaf_checks::LeafCheck;
+use write_leaf_checks::quarter_pair;
+use write_polygon_checks::Verdict;
 
 // A polygon's quarter box, in three words from `at` on.
 fn put_box(strip: &[u32], p: Poly, work: &mut [u32], at: usize)
     requires { ⌜ (p .«vertex_at» + 3 * p .vertices ≤ length (now strip)) × (at + 3 ≤ length (now work)) ⌝ }
     ensures { λ _. ⌜ now (work .exit) ≡ put at (boxWords (boxOf (polygonOf (now (strip .entry)) p))) (now (work .entry)) ⌝ }
 {
-    let q = quantise::bounds::quarter_bounds(strip, p.vertex_at, p.vertices);
+    let q = quarters::bounds::quarter_bounds(strip, p.vertex_at, p.vertices);
     work[at] = quarter_pair(q.x_min, q.x_max);
     work[at + 1] = quarter_pair(q.y_min, q.y_max);
     work[at + 2] = quarter_pair(q.z_min, q.z_max);
@@ -90,7 +90,7 @@ fn put_rest(strip: &[u32], cell: CellRecord, counts: Counts, work: &mut [u32])
     let points = counts.points;
     put_boxes(strip, n, work, places.boxes);
     let b = cell.root_box();
-    let first = strip::cells::first_point(strip, counts);
+    let first = strip_parts::first_point(strip, counts);
     put_leaves(
         strip,
         first,
@@ -113,7 +113,7 @@ fn check_leaves(strip: &[u32], cell: CellRecord, counts: Counts, work: &[u32]) -
     let end = places.end;
     let b = cell.root_box();
     let depth = write_quadtree::boxes::depth_of(cell.content_flags);
-    write_quadtree::leaves::check_leaves(depth, b, &work[boxes..leaves], &work[leaves..end])
+    write_leaf_checks::check_leaves(depth, b, &work[boxes..leaves], &work[leaves..end])
 }
 
 // 19 and 20.

@@ -12,11 +12,11 @@ use Rattle.fields.specs.Put.{put}
 use Rattle.fields.specs.Rows.{rowBytes, pack}
 use Rattle.fields.proofs.Bytes.{le-pair, bytes-mod, le-zeros}
 use Rattle.fields.proofs.Rows.{length-rows}
-use Rattle.quantise.specs.Quarter.{bits16}
-use Rattle.quantise.specs.Bounds.{fold, greatest, leastSide}
-use Rattle.quantise.proofs.Quarters.{side-fits}
+use Rattle.quarters.specs.Quarter.{bits16}
+use Rattle.quarters.specs.Bounds.{fold, greatest, leastSide}
+use Rattle.quarters.proofs.Quarters.{side-fits}
 use Rattle.math.specs.MinMax.{lesser}
-use Rattle.write_quadtree.proofs.Picks.{bits-below}
+use Rattle.write_leaf_checks.proofs.Picks.{bits-below}
 use Rattle.strip.specs.Cell.{NavPoly}
 use Rattle.strip.specs.Reading.{word, itemsAt, vecAt, polyAt, polygonOf, polygonAt}
 use Rattle.strip.specs.Rows.{after, polygonsAt, afterPolygons}

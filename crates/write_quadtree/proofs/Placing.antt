@@ -6,7 +6,7 @@ use Prim.Native.Nat.{ℕ, zero, suc, _+_, _≤_, _<_}
 use native.Mathlib.Omega.{arith}
 use lib.ListN.{length}
 use Rattle.math.specs.declared.vec3.Vec3.{Vec3}
-use Rattle.quantise.specs.declared.bounds.Aabb.{Aabb}
+use Rattle.quarters.specs.declared.bounds.Aabb.{Aabb}
 use Rattle.write_pages.specs.Sectors.{leaves, leafOf, inside}
 use Rattle.write_quadtree.specs.Lines.{linesOf, rangesOf, firstOf, leavesOf}
 

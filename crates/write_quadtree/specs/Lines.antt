@@ -3,7 +3,7 @@ use Prim.Native.Nat.{ℕ, suc}
 use mathlib.Core.Bool.{Bool, cond, _&&_}
 use mathlib.Core.List.{List, [], _∷_, _++_}
 use lib.Ieee.{Float}
-use Rattle.quantise.specs.declared.bounds.Aabb.{Aabb}
+use Rattle.quarters.specs.declared.bounds.Aabb.{Aabb}
 use Rattle.write_pages.specs.Sectors.{middle, between}
 use Rattle.write_quadtree.specs.declared.boxes.Axis.{Axis}
 use Rattle.write_quadtree.specs.declared.boxes.Lines.{Lines}

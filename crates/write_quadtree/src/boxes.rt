@@ -5,7 +5,7 @@ ghost use Prim.Native.Nat.{_+_, _/_, _%_, _^_, _≤_, _<_};
 ghost use Rattle.write_pages.specs.Sectors.{middle, centre, sub0, sub1, sub2, sub3, between, inside, leaves, leafOf, depthBy};
 ghost use Rattle.write_quadtree.specs.Lines.{axisOf, linesOf, rangesOf, firstOf, subsOf, leavesOf};
 use math::vec3::Vec3;
-use quantise::bounds::Aabb;
+use quarters::bounds::Aabb;
 
 // The bit of a cell's content flags that says a vehicle carries it.
 const CONTENT_VEHICLE: u32 = 4;

@@ -1,3 +1,2 @@
-// The quadtree over a cell's box: how a box splits itself, the leaf of a point, what stands in a leaf, and the checks of the leaves.
+// The quadtree over a cell's box: how a box splits itself, and the leaf of a point.
 pub mod boxes;
-pub mod leaves;

@@ -13,7 +13,7 @@ use Rattle.replay.specs.Ends.{recordEnd, padded}
 use Rattle.replay.specs.Told.{told}
 use Rattle.replay.specs.Tallies.{Within, Passed, Counted}
 use Rattle.replay.specs.declared.Tally.{Tally}
-use Rattle.write_replay.specs.Runs.{Unrolled}
+use Rattle.write_runs.specs.Runs.{Unrolled}
 use Rattle.write_replay.specs.declared.Record.{Record}
 
 -- the answer that the record at a place tells

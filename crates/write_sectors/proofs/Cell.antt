@@ -19,7 +19,7 @@ use Rattle.write_pages.specs.Pages.{Counts, loOf, extentOf, counts, sectors, si
 use Rattle.strip.proofs.Alls.{all-apart}
 use Rattle.write_pages.proofs.Placed.{pages-short}
 use Rattle.write_pages.proofs.Sizes.{pages-length}
-use Rattle.write_quadtree.proofs.LeafVerdicts.{leaves-length}
+use Rattle.write_leaf_checks.proofs.LeafVerdicts.{leaves-length}
 use Rattle.write_leaves.specs.declared.SectorCursor.{SectorCursor}
 use Rattle.write_leaves.specs.Written.{TreeRoom, Wrote}
 use Rattle.write_sectors.proofs.Steps.{laid-of}

@@ -10,8 +10,8 @@ use Rattle.fields.specs.Put.{put}
 use Rattle.fields.specs.Rows.{rowBytes}
 use Rattle.fields.proofs.Rows.{length-rows}
 use Rattle.math.specs.declared.vec3.Vec3.{Vec3 as Floats}
-use Rattle.quantise.specs.declared.quarter.QuarterBox.{QuarterBox}
-use Rattle.quantise.specs.declared.bounds.Aabb.{Aabb}
+use Rattle.quarters.specs.declared.quarter.QuarterBox.{QuarterBox}
+use Rattle.quarters.specs.declared.bounds.Aabb.{Aabb}
 use Rattle.strip.specs.Cell.{NavPoint}
 use Rattle.strip.specs.Fits.{All}
 use Rattle.write_blocks.specs.Layout.{placeOf, behind, endOf}

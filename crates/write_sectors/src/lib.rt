@@ -9,7 +9,7 @@ ghost use Rattle.write_blocks.specs.Layout.{behind};
 ghost use Rattle.write_pages.specs.Sectors.{sectorRow, sectorAddress};
 ghost use Rattle.write_leaves.specs.Written.{treeIn, TreeRoom, Wrote};
 use fields::sizes::SECTOR_SIZE;
-use quantise::bounds::Aabb;
+use quarters::bounds::Aabb;
 use write_blocks::Layout;
 use write_blocks::address_of;
 use write_leaf_items::Points;

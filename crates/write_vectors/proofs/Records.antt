@@ -7,7 +7,7 @@ use lib.ListN.{length, take, drop, length-take}
 use Rattle.strip.specs.Outcome.{Paper, shown, left}
 use Rattle.ynv_write.specs.Serialize.{serializeOutcome}
 use Rattle.ynv_write.specs.declared.Written.{Written}
-use Rattle.write_replay.specs.Runs.{Unrolled}
+use Rattle.write_runs.specs.Runs.{Unrolled}
 use Rattle.write_replay.specs.Agreement.{expected, lent, lentWork, between, outcomeOf, pagesOf, PagesAgree, Agrees, untouchedBytes}
 use Rattle.write_replay.specs.declared.Record.{Record}
 

@@ -18,9 +18,9 @@ use replay::print_tally;
 use replay::tallied;
 use write_replay::Record;
 use write_replay::answer_agrees;
-use write_replay::make_strip;
 use write_replay::pages_agree;
 use write_replay::record_at;
+use write_runs::make_strip;
 use ynv_write::SerializeAnswer;
 
 // What the pages hold before a record's strip is written into them.

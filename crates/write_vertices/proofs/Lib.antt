@@ -7,7 +7,4 @@ pub mod Walking
 pub mod Adding
 pub mod Lookup
 pub mod Clearing
-pub mod Numbering
-pub mod Parts
-pub mod OneSlice
-pub mod Enough
+pub mod Trees

@@ -1,18 +1,20 @@
--- The three answers of `vertex_index` are what `LookedUp` says.
+-- The three answers of `vertex_index` are what `LookedUp` says, and what such an answer says of the test that it goes by.
 use Prim.Native.Nat.{ℕ, _+_, _≤_, _<_}
 use native.Mathlib.Omega.{arith}
 use mathlib.Core.Path.{_≡_, refl, ap, sym, _∙_}
-use mathlib.Core.Bool.{true, false}
+use mathlib.Core.Bool.{Bool, true, false, cond}
 use mathlib.Core.List.{List, [], _∷_, _++_}
 use lib.ListN.{length}
+use lib.Dec.{leb}
 use borrow.Author.Tests.{lt-ltb, le-ltb}
-use Rattle.strip.specs.Outcome.{values}
-use Rattle.distinct.specs.Distinct.{indexOf, isIn}
+use Rattle.strip.specs.Outcome.{Paper, refusal, values}
+use Rattle.distinct.specs.Distinct.{indexOf, isIn, withNew}
 use Rattle.distinct.specs.Numbers.{upTo}
-use Rattle.write_vertices.specs.Vertices.{paper, numberOf}
+use Rattle.write_vertices.specs.Vertices.{paper, numberOf, countAfter}
 use Rattle.write_vertices.specs.Table.{triple, met, added, Table, Finds, Ends, TableRoom, LookedUp}
+use Rattle.write_vertices.specs.declared.Numbered.{Numbered}
 use Rattle.write_vertices.specs.declared.Numbered.the-variants.{Vertex, Full}
-use Rattle.distinct.proofs.Laws.{index-at, index-none, with-old, length-fresh, fresh-index, up-old, up-new, up-full}
+use Rattle.distinct.proofs.Laws.{index-at, index-none, with-old, length-with, length-fresh, fresh-index, up-old, up-new, up-full}
 use Rattle.write_vertices.proofs.Triples.{length-met, met-at}
 use Rattle.write_vertices.proofs.Adding.{met-added, table-added, drop-added, length-added}
 
@@ -66,3 +68,19 @@ module _ (t : List ℕ) (b n x : ℕ) where
   looked-full s T ge E =
       let a = answer-full (met t b n) x (omega (arith, length-met t b n)) (missing (E .none)) in
       record { answer = a .0; now-met = sym (a .1); table = T; rest = refl; long = refl }
+
+-- what an answer says of the test that it goes by
+pub vertex-in : (s : Bool) (i j m n : ℕ) {r : Numbered} → r ≡ Vertex i m → paper r 0 ≡ cond s (values (j, n)) (refusal 14 0) → (s ≡ true) × (i ≡ j) × (m ≡ n)
+vertex-in true i j m n e h = let same : _≡_ {A = Paper (ℕ × ℕ)} (values (i, m)) (values (j, n)) = rw e at h in
+    let pair : _≡_ {A = ℕ × ℕ} (i, m) (j, n) = cc in
+    (refl, ap (λ (p : ℕ × ℕ). p .0) pair, ap (λ (p : ℕ × ℕ). p .1) pair)
+vertex-in false i j m n e h = let other : _≡_ {A = Paper (ℕ × ℕ)} (values (i, m)) (refusal 14 0) = rw e at h in let z : _≡_ {A = ℕ} 0 1 = cc in absurd (omega arith)
+
+pub full-in : (s : Bool) (j n : ℕ) {r : Numbered} → r ≡ Full → paper r 0 ≡ cond s (values (j, n)) (refusal 14 0) → s ≡ false
+full-in true j n e h = let other : _≡_ {A = Paper (ℕ × ℕ)} (refusal 14 0) (values (j, n)) = rw e at h in let z : _≡_ {A = ℕ} 0 1 = cc in absurd (omega arith)
+full-in false j n e h = refl
+
+-- an answer has one triple more at most
+pub count-le : (ts : List ℕ) (x n : ℕ) → length ts ≡ n → (r : Numbered) → paper r 0 ≡ numberOf ts x 0 → countAfter r n ≤ n + 1
+count-le ts x n e (Vertex i m) h = omega (arith, vertex-in (leb (length (withNew ts x)) 65536) i (indexOf ts x) m (length (withNew ts x)) refl h .2, length-with ts x)
+count-le ts x n e Full h = omega arith

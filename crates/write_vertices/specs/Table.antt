@@ -3,21 +3,18 @@
 -- child, is half a word: 1 + the vertex, or 0 where there is none. Vertex 65,535 has no link that leads to it: of a full table a walk looks at it last.
 -- Word k below b holds the root of tree k (low) and the right child of vertex k (high); a left child stands above its vertex's z.
 -- Definitions only.
-use Prim.Native.Nat.{ℕ, zero, suc, _+_, _*_, _-_, _/_, _%_, _≤_, _<_, _^_, min}
+use Prim.Native.Nat.{ℕ, zero, suc, _+_, _*_, _-_, _/_, _%_, _≤_, _<_, _^_}
 use mathlib.Core.Bool.{cond}
 use mathlib.Core.Path.{_≡_}
 use mathlib.Core.List.{List, [], _∷_, _++_}
-use lib.ListN.{length, getD, take, drop, set}
+use lib.ListN.{length, getD, drop, set}
 use lib.Dec.{ltb}
 use Rattle.fields.specs.Bytes.{over, zeros}
-use Rattle.distinct.specs.Distinct.{distinctFrom}
-use Rattle.distinct.specs.Numbers.{upTo, numbersFrom}
-use Rattle.write_vertices.specs.Vertices.{paper, numberOf, countAfter, allPaper, answerAll, answerWith}
+use Rattle.distinct.specs.Numbers.{upTo}
+use Rattle.write_vertices.specs.Vertices.{paper, numberOf, countAfter}
 use Rattle.write_vertices.specs.declared.Found.{Found}
 use Rattle.write_vertices.specs.declared.Found.the-variants.{At, End}
 use Rattle.write_vertices.specs.declared.Numbered.{Numbered}
-use Rattle.write_vertices.specs.declared.All.{All}
-use Rattle.write_vertices.specs.declared.All.the-variants.{Count, Short}
 
 -- the triple whose first word is at `at`: x and y in that word, z in the low half of the next
 unfoldable pub tripleAt : List ℕ → ℕ → ℕ
@@ -31,10 +28,6 @@ triple t b i = tripleAt t (b + 2 * i)
 unfoldable pub met : List ℕ → ℕ → ℕ → List ℕ
 met t b zero = []
 met t b (suc n) = met t b n ++ (triple t b n ∷ [])
-
--- the triples of a list of words, two to a triple; a last word alone is none
-abbrev pub triplesOf : List ℕ → List ℕ
-triplesOf ws = met ws 0 (length ws / 2)
 
 -- the tree, below b, in which the triple x stands. Only speed depends on it
 unfoldable pub hashOf : ℕ → ℕ → ℕ
@@ -143,18 +136,3 @@ pub record LookedUp (t t' : List ℕ) (b n x : ℕ) (r : Numbered) : Type 0 wher
   pub table : Table t' b (countAfter r n)
   pub rest : drop (b + 2 * countAfter r n) t' ≡ drop (b + 2 * countAfter r n) t
   pub long : length t' ≡ length t
-
--- the answer r for the m triples xs, with the words from w to w': the m numbers first, and the table from m on
-pub record InWork (xs : List ℕ) (m b : ℕ) (w w' : List ℕ) (r : All) : Type 0 where
-  pub answer : allPaper r ≡ answerAll xs
-  pub numbered : (n : ℕ) → r ≡ Count n → (met (drop m w') b n ≡ distinctFrom [] xs) × (take m w' ≡ numbersFrom [] xs)
-  pub rest : drop (m + (b + 2 * m)) w' ≡ drop (m + (b + 2 * m)) w
-
--- the answer r for the triples xs, with the words from w to w': where there are enough, the numbers first, and behind them the table on
--- as many trees as there are triples, or 65536; where there are too few, nothing is changed
-pub record NumberedAll (xs w w' : List ℕ) (r : All) : Type 0 where
-  pub answer : allPaper r ≡ answerWith (length w) xs
-  pub numbers : (n : ℕ) → r ≡ Count n → take (length xs) w' ≡ numbersFrom [] xs
-  pub vertices : (n : ℕ) → r ≡ Count n → met (drop (length xs) w') (min (length xs) 65536) n ≡ distinctFrom [] xs
-  pub rest : drop (4 * length xs) w' ≡ drop (4 * length xs) w
-  pub short : r ≡ Short → w' ≡ w

@@ -3,7 +3,7 @@
 ghost use mathlib.Core.Path.{_≡_};
 ghost use Prim.Native.Nat.{_+_, _*_, _/_, _≤_, _<_, _^_, min};
 ghost use lib.ListN.{length, getD};
-ghost use Rattle.write_vertices.specs.Table.{tripleAt, hashOf, met, half, halfAt, childOf, Walked, cleared, linkedWith, added, Table, TableRoom, LookedUp, InWork, triplesOf, NumberedAll};
+ghost use Rattle.write_vertices.specs.Table.{tripleAt, hashOf, half, halfAt, childOf, Walked, cleared, linkedWith, added, Table, TableRoom, LookedUp};
 
 enum Found {
     // The vertex with the triple.
@@ -19,15 +19,6 @@ pub enum Numbered {
     Full,
 }
 
-pub enum All {
-    // How many vertices there are.
-    Count(usize),
-    // The place of a 65,537th.
-    Over(usize),
-    // There is too little work.
-    Short,
-}
-
 // The tree in which a triple stands: a product's low half, spread over the trees. A `%` would cost a division.
 fn hash(triple: u64, buckets: usize) -> usize
     requires { ⌜ (0 < buckets) × (buckets ≤ 2 ^ 32) ⌝ }
@@ -40,7 +31,7 @@ fn hash(triple: u64, buckets: usize) -> usize
 }
 
 // The triple whose first word is at `at`, where both its words are there.
-fn whole_triple_at(table: &[u32], at: usize) -> u64
+pub fn whole_triple_at(table: &[u32], at: usize) -> u64
     requires { ⌜ at + 1 < length (now table) ⌝ }
     ensures { λ r. ⌜ (r ≡ tripleAt (now (table .entry)) at) × (r < 2 ^ 48) ⌝ }
 {
@@ -167,32 +158,6 @@ pub fn vertex_index(table: &mut [u32], buckets: usize, count: usize, triple: u64
     }
 }
 
-// The numbers of m triples, first in `work`; the table lies from m on.
-fn number_in(triples: &[u32], m: usize, work: &mut [u32], buckets: usize) -> All
-    requires { ⌜ (0 < buckets) × (buckets ≤ 2 ^ 32) × (2 * m ≤ length (now triples)) × (m + (buckets + 2 * m) ≤ length (now work))
-        × (min m 65536 ≤ buckets) ⌝ }
-    ensures { λ r. ⌜ InWork (met (now (triples .entry)) 0 m) m buckets (now (work .entry)) (now (work .exit)) r ⌝ }
-{
-    clear(&mut work[m..], buckets);
-    let mut n = 0;
-    let mut i = 0;
-    while i < m {
-        let triple = whole_triple_at(triples, 2 * i);
-        let known = vertex_index(&mut work[m..], buckets, n, triple);
-        match known {
-            Numbered::Vertex(number, count) => {
-                work[i] = number as u32;
-                n = count;
-            }
-            Numbered::Full => {
-                return All::Over(i);
-            }
-        }
-        i += 1;
-    }
-    All::Count(n)
-}
-
 // How many trees a table for m triples has: one for each, as far as there can be vertices.
 pub fn tree_count(m: usize) -> usize
     ensures { λ r. ⌜ r ≡ min m 65536 ⌝ }
@@ -201,20 +166,4 @@ pub fn tree_count(m: usize) -> usize
         return m;
     }
     65536
-}
-
-// The number of each triple, which is given as two words; a last word alone is none. The numbers come first in `work`, the table behind them:
-// four words to a triple are enough.
-pub fn number_all(triples: &[u32], work: &mut [u32]) -> All
-    ensures { λ r. ⌜ NumberedAll (triplesOf (now (triples .entry))) (now (work .entry)) (now (work .exit)) r ⌝ }
-{
-    let m = triples.len() / 2;
-    if work.len() / 4 < m {
-        return All::Short;
-    }
-    if m == 0 {
-        return All::Count(0);
-    }
-    let buckets = tree_count(m);
-    number_in(triples, m, work, buckets)
 }

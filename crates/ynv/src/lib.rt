@@ -10,7 +10,7 @@ ghost use Rattle.write_entry.specs.Entries.{writtenWords};
 ghost use Rattle.seams.specs.Seams.{seamOutcome};
 ghost use Rattle.seams.specs.Entries.{seamWords};
 ghost use Rattle.picking.specs.Picking.{pickOutcome, spotOutcome};
-ghost use Rattle.picking.specs.Entries.{foundWords, spotWords};
+ghost use Rattle.pick_entry.specs.Entries.{foundWords, spotWords};
 ghost use Rattle.cell_grid.specs.Grid.{cellAt, boundsOutcome};
 ghost use Rattle.cell_grid.specs.Entries.{cellWords, boundsWords};
 ghost use Rattle.answers.specs.Words.{numberOf, answerWords};
@@ -61,7 +61,7 @@ pub extern "C" fn ynv_pick_poly(strip: &[u32], x: u16, y: u16, answer: &mut [u64
     ensures number { λ r. ⌜ r ≡ numberOf (shown (pickOutcome (now (strip .entry)) (record { x = x; y = y }))) ⌝ }
     ensures answer { λ _. ⌜ now (answer .exit) ≡ over (answerWords foundWords (shown (pickOutcome (now (strip .entry)) (record { x = x; y = y })))) (now (answer .entry)) ⌝ }
 {
-    picking::pick_entry(strip, x, y, answer)
+    pick_entry::pick_entry(strip, x, y, answer)
 }
 
 // The spot of a position: its two shorts by the cell's box.
@@ -70,7 +70,7 @@ pub extern "C" fn ynv_spot_for_position(strip: &[u32], x: f32, y: f32, answer: &
     ensures number { λ r. ⌜ r ≡ numberOf (shown (spotOutcome (now (strip .entry)) x y)) ⌝ }
     ensures answer { λ _. ⌜ now (answer .exit) ≡ over (answerWords spotWords (shown (spotOutcome (now (strip .entry)) x y))) (now (answer .entry)) ⌝ }
 {
-    picking::spot_entry(strip, x, y, answer)
+    pick_entry::spot_entry(strip, x, y, answer)
 }
 
 // The two coordinates of the cell that contains a position. It refuses nothing.

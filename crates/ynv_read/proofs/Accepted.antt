@@ -5,7 +5,7 @@ use mathlib.Core.Bool.{true}
 use mathlib.Core.List.{List, [], _∷_}
 use lib.Dec.{ltb}
 use Rattle.fields.specs.Bytes.{leAt}
-use Rattle.strip.specs.Outcome.{Paper, values, refusal}
+use Rattle.strip.specs.Outcome.{Paper, values}
 use Rattle.strip.specs.Cell.{Cell}
 use Rattle.strip.specs.Box.{finiteBox}
 use Rattle.read_lists.specs.Lists.{readableAt, listed}
@@ -13,7 +13,7 @@ use Rattle.read_sectors.specs.Walk.{walk}
 use Rattle.read_sectors.specs.Walk as Walk
 use Rattle.read_polygons.specs.Polygons.{limitsOf}
 use Rattle.read_polygon_tally.specs.Tally.{tallyFrom}
-use Rattle.ynv_read.specs.Reading.{made, check, onPaper, onWalk, header, rootAt, head, source, polygons, portalCount, cellOf, onHead, onLists, afterWalk, readCell}
+use Rattle.read_decide.specs.Reading.{made, check, onPaper, onWalk, header, rootAt, head, source, polygons, portalCount, cellOf, onHead, onLists, afterWalk, readCell}
 use Rattle.ynv_read.proofs.Checks.{check-in, paper-in, walk-in}
 
 -- the list of items of w bytes whose address stands in the header at off was accepted

@@ -15,7 +15,7 @@ use Rattle.read_lists.specs.Lists.{readableAt}
 use Rattle.read_lists.proofs.Lists.{whole-of, length-whole}
 use Rattle.read_sectors.specs.Walk.{Walked}
 use Rattle.read_sectors.specs.Walk as Walk
-use Rattle.ynv_read.specs.Reading.{Reading, made, refused, check, onPaper, onWalk}
+use Rattle.read_decide.specs.Reading.{Reading, made, refused, check, onPaper, onWalk}
 
 refused-made : {number place k : ℕ} {c : Cell} → refused number place ≡ made c k → ⊥
 refused-made e = let z : _≡_ {A = ℕ} 0 1 = cc in omega arith

@@ -7,7 +7,7 @@ use mathlib.Core.List.{List, [], _∷_}
 use lib.ListN.{length}
 use borrow.Author.Tests.{lt-ltb}
 use Rattle.fields.specs.Bytes.{leAt, cut}
-use Rattle.strip.specs.Outcome.{Paper, values, refusal}
+use Rattle.strip.specs.Outcome.{values}
 use Rattle.strip.specs.Cell.{Cell}
 use Rattle.strip.specs.Box.{finiteBox}
 use Rattle.read_grammar.specs.Parts.{Good, Array}
@@ -28,7 +28,7 @@ use Rattle.read_sectors.proofs.Exact.{walk-sound, walk-complete}
 use Rattle.read_polygons.specs.Polygons as Polygons
 use Rattle.read_list_set.specs.Items.{itemsIn}
 use Rattle.read_polygons.proofs.Exact.{tally-made, made-tally}
-use Rattle.ynv_read.specs.Reading.{made, header, rootAt, root, head, itemsAt, source, polygons, portalCount, portals, cellOf, onHead, onLists, afterWalk, readCell}
+use Rattle.read_decide.specs.Reading.{made, header, rootAt, root, head, itemsAt, source, polygons, portalCount, portals, cellOf, onHead, onLists, afterWalk, readCell}
 use Rattle.ynv_read.proofs.Accepted.{accepted}
 use Rattle.ynv_read.proofs.Checks.{good-in, good-out, array-in, array-out}
 

@@ -21,27 +21,28 @@ use Rattle.read_lists.specs.Lists.{readableAt, total, tableOf}
 use Rattle.read_lists.specs.Listed.{Readable}
 use Rattle.read_lists.proofs.Lists.{length-whole}
 use Rattle.read_sectors.specs.Walk.{walk}
-use Rattle.read_sectors.specs.Walk as Walk
-use Rattle.read_sectors.specs.Write.{pointsIn, pointsWords, HasRoom}
+use Rattle.read_points.specs.Write.{pointsIn, pointsWords, HasRoom}
 use Rattle.read_polygon_words.specs.Front.{linksOf}
 use Rattle.read_polygon_words.proofs.Words.{links-are}
 use Rattle.read_polygons.specs.Polygons.{Source, limitsOf, polygonMade}
 use Rattle.read_list_set.specs.Items.{itemsIn}
 use Rattle.read_polygons.specs.Passes.{sourceOf, Passed}
 use Rattle.read_polygons.proofs.Exact.{tally-made}
-use Rattle.ynv_read.specs.declared.ListAddresses.{ListAddresses}
+use Rattle.read_decide.specs.declared.ListAddresses.{ListAddresses}
 use Rattle.cell_record.specs.declared.CellRecord.{CellRecord}
-use Rattle.ynv_read.specs.declared.Parsed.{Parsed}
-use Rattle.ynv_read.specs.declared.ParseAnswer.{ParseAnswer}
-use Rattle.ynv_read.specs.declared.ParseAnswer.the-variants as ParseAnswer
-use Rattle.ynv_read.specs.Reading.{Reading, made, refused, header, rootAt, head, source, polygons, portalCount, portals, cellOf, readCell}
-use Rattle.ynv_read.specs.Parse.{paper, countsOf, parseOutcome}
-use Rattle.ynv_read.specs.Passes.{answerOf, addresses, linkBytes, polysWords, portalsWords, Given, ListsReady, ReadyFor, PolysFit, Fillable}
+use Rattle.read_decide.specs.declared.Parsed.{Parsed}
+use Rattle.read_decide.specs.declared.ParseAnswer.{ParseAnswer}
+use Rattle.read_decide.specs.declared.ParseAnswer.the-variants as ParseAnswer
+use Rattle.read_decide.specs.Reading.{Reading, made, refused, header, rootAt, head, source, polygons, portalCount, portals, cellOf, readCell}
+use Rattle.read_decide.specs.Answer.{paper, countsOf}
+use Rattle.ynv_read.specs.Parse.{parseOutcome}
+use Rattle.read_decide.specs.Deciding.{answerOf, addresses, linkBytes, polysWords, portalsWords, ListsReady, ReadyFor}
+use Rattle.ynv_read.specs.Filling.{Given, PolysFit, Fillable}
 use Rattle.ynv_read.proofs.Accepted.{accepted}
 use Rattle.read_list_set.proofs.Runs.{length-items}
-use Rattle.ynv_read.proofs.Heads.{back-is}
+use Rattle.ynv_read.proofs.Records.{back-is}
 use Rattle.strip.proofs.Plain.{head-length}
-use Rattle.ynv_read.proofs.Lengths.{polys-count, portals-length, points-length, encode-is, encode-length}
+use Rattle.read_decide.proofs.Lengths.{polys-count, portals-length, points-length, encode-is, encode-length}
 
 -- ---- polygons
 

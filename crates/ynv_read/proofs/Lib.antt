@@ -1,9 +1,7 @@
 pub mod Checks
-pub mod Heads
+pub mod Records
 pub mod Accepted
 pub mod Exact
 pub mod Named
 pub mod Theorems
-pub mod Lengths
-pub mod Decides
 pub mod Fills

@@ -21,7 +21,7 @@ use Rattle.read_list_set.specs.declared.Limits.{Limits}
 use Rattle.read_polygons.specs.Polygons.{limitsOf}
 use Rattle.read_polygon_tally.specs.Tally.{tallyFrom}
 use Rattle.read_polygon_tally.proofs.Tallies.{tally-refused}
-use Rattle.ynv_read.specs.Reading.{Reading, made, refused, check, onPaper, onWalk, header, rootAt, head, source, polygons, portalCount, cellOf, onHead, onLists, afterWalk, readCell}
+use Rattle.read_decide.specs.Reading.{Reading, made, refused, check, onPaper, onWalk, header, rootAt, head, source, polygons, portalCount, cellOf, onHead, onLists, afterWalk, readCell}
 use Rattle.ynv_read.specs.Theorems.{Named, bad-header, no-root, bad-sector, many-sectors, bad-data, bad-box, bad-list, bad-counts, bad-run, bad-index, bad-portals}
 
 abbrev pub AsNamed : ℕ → Reading → Type 0

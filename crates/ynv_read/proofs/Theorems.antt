@@ -21,9 +21,10 @@ use Rattle.read_grammar.specs.Formed.{Bytes}
 use Rattle.read_grammar.specs.Vehicle.{vehiclePages, vehicleCell, vehicleStrip}
 use Rattle.read_grammar.proofs.Formed.{derived-scans}
 use Rattle.read_grammar.proofs.Examples.{p12-makes}
-use Rattle.ynv_read.specs.declared.Parsed.{Parsed}
-use Rattle.ynv_read.specs.Reading.{Reading, made, refused, polygons, readCell}
-use Rattle.ynv_read.specs.Parse.{countsOf, fitted, parseOutcome}
+use Rattle.read_decide.specs.declared.Parsed.{Parsed}
+use Rattle.read_decide.specs.Reading.{Reading, made, refused, polygons, readCell}
+use Rattle.read_decide.specs.Answer.{countsOf}
+use Rattle.ynv_read.specs.Parse.{fitted, parseOutcome}
 use Rattle.ynv_read.specs.Theorems.{Named, Accepts}
 use Rattle.ynv_read.proofs.Exact.{accepted-made, made-accepted}
 use Rattle.ynv_read.proofs.Named.{AsNamed, named, late}

@@ -1,4 +1,3 @@
-pub mod Reading
 pub mod Parse
-pub mod Passes
+pub mod Filling
 pub mod Theorems

@@ -4,29 +4,12 @@ use mathlib.Core.Bool.{cond}
 use mathlib.Core.List.{List}
 use lib.Dec.{leb}
 use lib.ListN.{length}
-use Rattle.strip.specs.Cell.{Cell, encode}
-use Rattle.strip.specs.Outcome.{Outcome, Paper, values, refusalOf}
+use Rattle.strip.specs.Cell.{encode}
+use Rattle.strip.specs.Outcome.{Outcome}
 use Rattle.strip.specs.Outcome as Outcome
-use Rattle.ynv_read.specs.Reading.{Reading, made, refused, readCell}
-use Rattle.ynv_read.specs.declared.Parsed.{Parsed}
-use Rattle.ynv_read.specs.declared.ParseAnswer.{ParseAnswer}
-use Rattle.ynv_read.specs.declared.ParseAnswer.the-variants as ParseAnswer
-
--- what each case of the answer says
-abbrev pub paper : ParseAnswer → Paper Parsed
-paper (ParseAnswer.Parsed p) = values p
-paper (ParseAnswer.Refused r) = refusalOf r
-
--- how much a cell has
-abbrev pub countsOf : Cell → ℕ → Parsed
-countsOf c sectors =
-    record {
-      words = length (encode c);
-      polys = length (c .polys);
-      portals = length (c .portals);
-      points = length (c .points);
-      sectors = sectors;
-    }
+use Rattle.read_decide.specs.Reading.{Reading, made, refused, readCell}
+use Rattle.read_decide.specs.declared.Parsed.{Parsed}
+use Rattle.read_decide.specs.Answer.{countsOf}
 
 -- 2 comes last: a strip is long enough when it has at least as many words as the derived one
 abbrev pub fitted : ℕ → Reading → Outcome Parsed

@@ -4,8 +4,8 @@ use mathlib.Core.Path.{_≡_}
 use mathlib.Core.List.{List}
 use lib.ListN.{length}
 use Rattle.read_grammar.specs.Derives.{Derives}
-use Rattle.ynv_read.specs.declared.Parsed.{Parsed}
-use Rattle.ynv_read.specs.Parse.{countsOf}
+use Rattle.read_decide.specs.declared.Parsed.{Parsed}
+use Rattle.read_decide.specs.Answer.{countsOf}
 
 -- of the sections S and G with a strip of n words: the grammar derives w, it fits, and the answer counts the derived cell's parts and its tree's sectors
 pub record Accepts (S G : List ℕ) (n : ℕ) (p : Parsed) (w : List ℕ) : Type 0 where

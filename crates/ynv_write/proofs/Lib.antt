@@ -1,7 +1,3 @@
-pub mod Rooms
-pub mod Lists
-pub mod Tree
-pub mod Rest
-pub mod Whole
+pub mod Answer
 pub mod Named
 pub mod Theorems

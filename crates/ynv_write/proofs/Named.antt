@@ -16,7 +16,7 @@ use Rattle.write_pages.specs.Items.{Corner, cornersIn, triples, named}
 use Rattle.write_pages.specs.Sectors.{treeOf, leafCounts, depthOf, rootBox}
 use Rattle.write_pages.specs.Pages.{loOf, extentOf, links, sectors, pages}
 use Rattle.write_pages.specs.Checks.{Verdict, fine, refused, faultIf, firstFault, at, cornerFault, cornersFault, polygonFault, polygonsVerdict, leafFault, leavesVerdict, cellVerdict}
-use Rattle.write_quadtree.proofs.LeafVerdicts.{leaves-length}
+use Rattle.write_leaf_checks.proofs.LeafVerdicts.{leaves-length}
 use Rattle.ynv_write.specs.Theorems.{Named, short-work, endless-box, many-polygons, vertex-count, late-start, many-vertices, many-areas, polygon-links, many-ids, many-points, many-portals, many-links, short-pages}
 
 pub above-zero : {c : Cell} {number place : ℕ} → Named c number place → 0 < number

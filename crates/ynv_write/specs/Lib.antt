@@ -1,3 +1,2 @@
 pub mod Serialize
-pub mod Filled
 pub mod Theorems

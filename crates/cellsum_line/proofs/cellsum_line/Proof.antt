@@ -4,7 +4,8 @@ use mathlib.Core.Path.{refl, sym, ap, _∙_}
 use mathlib.Core.List.{[]}
 use lib.ListN.{length, getD}
 use denote.Ref.{now}
-use Rattle.ynv_read.specs.Parse.{paper, parseOutcome}
+use Rattle.read_decide.specs.Answer.{paper}
+use Rattle.ynv_read.specs.Parse.{parseOutcome}
 use Rattle.cellsum_line.specs.Line.{acceptedText}
 use Rattle.cellsum_line.proofs.Outcomes.{short-input, long-input, accepted-line, refused-line, promised}
 use borrow.Author.Needs.{needs}

@@ -4,7 +4,7 @@ use Prim.Native.Nat.{ℕ, _+_}
 use native.Mathlib.Omega.{arith}
 use lib.Ieee.{Float, binary32, ofBits}
 use Rattle.strip.specs.Reading.{word}
-use Rattle.picking.proofs.Laws.{same-place}
+use Rattle.pick_contains.proofs.Laws.{same-place}
 use Rattle.picking.proofs.axis_at.Statement.{statement}
 use Rattle.picking.proofs.axis_at.Tie as tie
 

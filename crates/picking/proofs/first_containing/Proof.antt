@@ -11,7 +11,7 @@ use Rattle.strip.specs.Rows.{polygonsAt, afterPolygons}
 use Rattle.strip.specs.Outcome.{values}
 use Rattle.strip.proofs.Steps.{parts, after-polygon, next-inside}
 use Rattle.picking.specs.Picking.{contains, found, firstFrom}
-use Rattle.picking.proofs.Laws.{first-found, first-turn, first-done}
+use Rattle.picking.proofs.Search.{first-found, first-turn, first-done}
 use Rattle.picking.proofs.first_containing.Statement.{statement}
 use Rattle.picking.proofs.first_containing.Tie as tie
 

@@ -3,7 +3,7 @@ use borrow.Author.Needs.{needs}
 use mathlib.Core.List.{[]}
 use native.Mathlib.Omega.{arith}
 use Rattle.strip.specs.Outcome.{done}
-use Rattle.strip.proofs.Boxed.{boxed, on-box, not-boxed}
+use Rattle.strip_parts.proofs.Boxed.{boxed, on-box, not-boxed}
 use Rattle.picking.specs.Picking.{lowest}
 use Rattle.picking.proofs.pick_poly.Statement.{statement}
 use Rattle.picking.proofs.pick_poly.Tie as tie

@@ -4,7 +4,7 @@ use mathlib.Core.List.{[]}
 use native.Mathlib.Omega.{arith}
 use Rattle.strip.specs.Reading.{headAt}
 use Rattle.strip.specs.Outcome.{done}
-use Rattle.strip.proofs.Boxed.{boxed, on-box, not-boxed}
+use Rattle.strip_parts.proofs.Boxed.{boxed, on-box, not-boxed}
 use Rattle.picking.specs.Picking.{spotAt}
 use Rattle.picking.proofs.spot_for_position.Statement.{statement}
 use Rattle.picking.proofs.spot_for_position.Tie as tie

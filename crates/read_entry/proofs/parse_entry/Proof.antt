@@ -1,7 +1,7 @@
 -- `read_entry::parse_entry` meets its contract: the words of what the reader answers, stored or refused.
 use mathlib.Core.Path.{sym, ap, _∙_}
 use denote.Ref.{now}
-use Rattle.ynv_read.specs.Parse.{paper}
+use Rattle.read_decide.specs.Answer.{paper}
 use Rattle.read_entry.specs.Entries.{parsedWords}
 use Rattle.answers.proofs.Answers.{answers}
 use borrow.Author.Needs.{needs}

@@ -1,7 +1,7 @@
 -- `read_replay::answer_agrees` meets its contract, by the answer's cases: the counts or the refusal that the record tells.
 use mathlib.Core.Bool.{false≢true}
 use mathlib.Core.Path.{ap, sym, _∙_}
-use Rattle.ynv_read.specs.Parse.{paper}
+use Rattle.read_decide.specs.Answer.{paper}
 use Rattle.replay.proofs.Told.{told-values, told-refusal}
 use borrow.Author.Needs.{needs}
 use Rattle.read_replay.proofs.answer_agrees.Statement.{statement}

@@ -1,7 +1,7 @@
 -- `units::leaf_number_all` meets its contract: the number of what its callee answers.
 use native.Mathlib.Omega.{arith}
 use mathlib.Core.Path.{sym, ap, _∙_}
-use Rattle.write_vertices.specs.Vertices.{allPaper}
+use Rattle.write_vertex_numbers.specs.Numbers.{allPaper}
 use Rattle.units.specs.Entries.{countOrWhy}
 use borrow.Author.Needs.{needs}
 use Rattle.units.proofs.leaf_number_all.Statement.{statement}

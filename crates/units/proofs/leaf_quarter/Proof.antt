@@ -3,7 +3,7 @@ use mathlib.Core.Path.{_≡_, ap, _∙_}
 use mir.Syntax.{w16}
 use mir.Val.{toZ, ofZ}
 use borrow.Author.Tests.{eq-eqb, ne-eqb}
-use Rattle.quantise.specs.Quarter.{bits16}
+use Rattle.quarters.specs.Quarter.{bits16}
 use borrow.Author.Needs.{needs}
 use Rattle.units.proofs.leaf_quarter.Statement.{statement}
 use Rattle.units.proofs.leaf_quarter.Tie as tie

@@ -6,8 +6,8 @@ use lib.ListN.{length}
 use denote.Ref.{now}
 use Rattle.replay.specs.Tallies.{Tallied, at-first}
 use Rattle.replay.proofs.Tallies.{later, one-record}
-use Rattle.vectors.specs.Agreement.{PassedAt, AgreesAt, recordOf}
-use Rattle.vectors.specs.declared.Record.{Record}
+use Rattle.leaf_replay.specs.Agreement.{PassedAt, AgreesAt, recordOf}
+use Rattle.leaf_replay.specs.declared.Record.{Record}
 use Rattle.vectors.proofs.tally_of.Statement.{statement}
 use Rattle.vectors.proofs.tally_of.Tie as tie
 

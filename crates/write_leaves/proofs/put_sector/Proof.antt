@@ -4,7 +4,7 @@ use mathlib.Core.List.{List}
 use Prim.Native.Nat.{ℕ}
 use denote.Ref.{now}
 use Rattle.fields.specs.Put.{put}
-use Rattle.quantise.specs.declared.quarter.QuarterBox.{QuarterBox}
+use Rattle.quarters.specs.declared.quarter.QuarterBox.{QuarterBox}
 use Rattle.write_leaves.proofs.Records.{axis-word, sector-words}
 use borrow.Author.Needs.{needs}
 use Rattle.write_leaves.proofs.put_sector.Statement.{statement}

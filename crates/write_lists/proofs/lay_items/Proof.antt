@@ -8,10 +8,10 @@ use Rattle.write_lists.proofs.lay_items.Statement.{statement}
 use Rattle.write_lists.proofs.lay_items.Tie as tie
 
 abbrev Inv-loop : tie.InvT-loop
-Inv-loop out₀ words n whole w per k next₀ from₀ left₀ i₀ out next from left i = Laying words whole w per k n next₀ out₀ next out from left i
+Inv-loop out₀ words base n whole w per k next₀ from₀ left₀ i₀ out next from left i = Laying words base whole w per k n next₀ out₀ next out from left i
 
 abbrev μ-loop : tie.MeasureT-loop
-μ-loop out₀ words n whole w per k next₀ from₀ left₀ i₀ out next from left i = k - i
+μ-loop out₀ words base n whole w per k next₀ from₀ left₀ i₀ out next from left i = k - i
 
 div-per : tie.Need-div-per Inv-loop μ-loop
 div-per c = omega (arith, c .before .before .pre .2 .some)
@@ -22,7 +22,7 @@ part-count-requires c κs = search needs
 loop-holds : tie.Need-loop-holds Inv-loop μ-loop
 loop-holds c =
     let entry = c .before .before .before in
-    laying _ _ _ _ _ _ _ _ (entry .pre .0) (entry .pre .1)
+    laying _ _ _ _ _ _ _ _ _ (entry .pre .0) (entry .pre .1)
 
 least-requires : tie.Need-least-requires Inv-loop μ-loop
 least-requires c κs = search needs
@@ -32,7 +32,7 @@ lay-part-requires c κs =
     let at-loop = c .before .before .before in
     let after-part-count = at-loop .before in
     let entry = after-part-count .before .before .before in
-    let q = laying-room _ _ _ _ _ _ _ _ _ _ _ _ _ (at-loop .loop .inv) (c .before .before .loop-test .taken) _ (c .before .least .ensures) (entry .pre .0) (rw (after-part-count .part-count .ensures) (entry .pre .2 .below)) in
+    let q = laying-room _ _ _ _ _ _ _ _ _ (entry .pre .0) _ _ _ _ _ (at-loop .loop .inv) (c .before .before .loop-test .taken) _ (c .before .least .ensures) (rw (after-part-count .part-count .ensures) (entry .pre .2 .below)) in
     (q .0, entry .pre .1, q .1)
 
 add-from : tie.Need-add-from Inv-loop μ-loop
@@ -48,7 +48,7 @@ mul-from c =
     let at-loop = tested .before in
     let after-part-count = at-loop .before in
     let entry = after-part-count .before .before .before in
-    omega (arith, laying-room _ _ _ _ _ _ _ _ _ _ _ _ _ (at-loop .loop .inv) (tested .loop-test .taken) _ (after-least .least .ensures) (entry .pre .0) (rw (after-part-count .part-count .ensures) (entry .pre .2 .below)) .0, entry .good)
+    omega (arith, laying-room _ _ _ _ _ _ _ _ _ (entry .pre .0) _ _ _ _ _ (at-loop .loop .inv) (tested .loop-test .taken) _ (after-least .least .ensures) (rw (after-part-count .part-count .ensures) (entry .pre .2 .below)) .0, entry .good)
 
 add-from-2 : tie.Need-add-from-2 Inv-loop μ-loop
 add-from-2 c =
@@ -57,7 +57,7 @@ add-from-2 c =
     let at-loop = tested .before in
     let after-part-count = at-loop .before in
     let entry = after-part-count .before .before .before in
-    omega (arith, laying-room _ _ _ _ _ _ _ _ _ _ _ _ _ (at-loop .loop .inv) (tested .loop-test .taken) _ (after-least .least .ensures) (entry .pre .0) (rw (after-part-count .part-count .ensures) (entry .pre .2 .below)) .0, entry .good)
+    omega (arith, laying-room _ _ _ _ _ _ _ _ _ (entry .pre .0) _ _ _ _ _ (at-loop .loop .inv) (tested .loop-test .taken) _ (after-least .least .ensures) (rw (after-part-count .part-count .ensures) (entry .pre .2 .below)) .0, entry .good)
 
 sub-left : tie.Need-sub-left Inv-loop μ-loop
 sub-left c = omega (arith, c .before .before .before .before .least .ensures)
@@ -77,7 +77,7 @@ loop-again c =
     let tested = after-least .before in
     let at-loop = tested .before in
     let entry = at-loop .before .before .before .before in
-    laying-turn _ _ _ _ _ _ _ _ _ _ _ _ _ (at-loop .loop .inv) (tested .loop-test .taken) _ (after-least .least .ensures) (entry .pre .0) _ _ (search needs) (c .before .before .lay-part .ensures)
+    laying-turn _ _ _ _ _ _ _ _ _ (entry .pre .0) _ _ _ _ _ (at-loop .loop .inv) (tested .loop-test .taken) _ (after-least .least .ensures) _ _ (search needs) (c .before .before .lay-part .ensures)
 
 same-length : tie.Need-same-length Inv-loop μ-loop
 same-length c = c .before .loop .inv .parts .long

@@ -1,7 +1,8 @@
 -- `write_lists::write_list` meets its contract: front, items and offsets, each laid out behind the one before.
 use Rattle.write_blocks.proofs.Lists.{front-room, items-room, list-laid}
 use Rattle.write_lists.specs.Words.{itemsIn}
-use Rattle.write_lists.proofs.Words.{length-items, items-wide}
+use Rattle.write_lists.proofs.Words.{lies, length-items, items-wide}
+use lib.ListN.{drop}
 use borrow.Author.Needs.{needs}
 use Rattle.write_lists.proofs.write_list.Statement.{statement}
 use Rattle.write_lists.proofs.write_list.Tie as tie
@@ -22,8 +23,8 @@ lay-offsets-requires c κs =
     let after-lay-list-front = after-lay-items .before .before .before .before in
     let entry = after-lay-list-front .before .before .before .before in
     let a = entry .args in
-    let ws = a .words .now in
-    items-room (a .vft) (a .w) (a .n) (itemsIn (a .whole) (a .w) (a .n) ws) (entry .pre .2) (items-wide (a .whole) (a .w) (a .n) ws (entry .pre .0) (entry .pre .1)) (length-items (a .whole) (a .w) (a .n) ws) (after-lay-list-front .lay-list-front .ensures) (after-lay-items .lay-items .ensures)
+    let ws = drop (a .base) (a .words .now) in
+    items-room (a .vft) (a .w) (a .n) (itemsIn (a .whole) (a .w) (a .n) ws) (entry .pre .2) (items-wide (a .whole) (a .w) (a .n) ws (lies (a .base) (a .words .now) (entry .pre .0)) (entry .pre .1)) (length-items (a .whole) (a .w) (a .n) ws) (after-lay-list-front .lay-list-front .ensures) (after-lay-items .lay-items .ensures)
 
 same-length : tie.Need-same-length
 same-length c = search needs
@@ -35,7 +36,7 @@ returns c =
     let after-lay-list-front = after-lay-items .before .before .before .before in
     let entry = after-lay-list-front .before .before .before .before in
     let a = entry .args in
-    let ws = a .words .now in
+    let ws = drop (a .base) (a .words .now) in
     list-laid (a .vft) (a .w) (a .n) (itemsIn (a .whole) (a .w) (a .n) ws) (length-items (a .whole) (a .w) (a .n) ws) (after-lay-list-front .lay-list-front .ensures) (after-lay-items .lay-items .ensures) (after-lay-offsets .lay-offsets .ensures)
 
 pub write-list-spec : {M : Type 1} → statement M

@@ -7,12 +7,12 @@ use native.Mathlib.Omega.{arith}
 use lib.ListN.{length}
 use denote.Ref.{now}
 use Rattle.math.specs.declared.vec3.Vec3.{Vec3 as Floats}
-use Rattle.quantise.specs.declared.quarter.QuarterBox.{QuarterBox}
+use Rattle.quarters.specs.declared.quarter.QuarterBox.{QuarterBox}
 use Rattle.strip.specs.Cell.{NavPoint}
 use Rattle.strip.specs.Rows.{pointsAt}
 use Rattle.write_blocks.specs.Layout.{behind}
 use Rattle.write_pages.specs.Sectors.{leafIds, grown, from0}
-use Rattle.write_quadtree.specs.Work.{boxesIn, pickedFrom}
+use Rattle.write_leaf_checks.specs.Work.{boxesIn, pickedFrom}
 use Rattle.write_quadtree.proofs.Widths.{down}
 use Rattle.write_leaves.specs.declared.SectorCursor.{SectorCursor}
 use Rattle.write_leaves.specs.Written.{TreeRoom}

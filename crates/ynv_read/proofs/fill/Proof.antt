@@ -4,7 +4,7 @@ use lib.ListN.{length, length-set}
 use native.Mathlib.Omega.{arith}
 use Rattle.fields.specs.Put.{put}
 use Rattle.strip.specs.Cell.{Head, headWords}
-use Rattle.ynv_read.proofs.Heads.{cell-of, head-is}
+use Rattle.ynv_read.proofs.Records.{cell-of, head-is}
 use Rattle.ynv_read.proofs.Fills.{room, filled}
 use borrow.Author.Needs.{needs}
 use Rattle.ynv_read.proofs.fill.Statement.{statement}

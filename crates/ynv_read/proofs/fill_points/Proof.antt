@@ -3,7 +3,7 @@ use Prim.Native.Nat.{ℕ}
 use mathlib.Core.Path.{ap, _∙_}
 use mathlib.Core.List.{List}
 use Rattle.fields.specs.Bytes.{leAt}
-use Rattle.ynv_read.proofs.Heads.{back-is}
+use Rattle.ynv_read.proofs.Records.{back-is}
 use borrow.Author.Needs.{needs}
 use Rattle.ynv_read.proofs.fill_points.Statement.{statement}
 use Rattle.ynv_read.proofs.fill_points.Tie as tie

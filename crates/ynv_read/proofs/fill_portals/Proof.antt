@@ -3,8 +3,8 @@ use Prim.Native.Nat.{ℕ}
 use mathlib.Core.Path.{ap, _∙_}
 use mathlib.Core.List.{List}
 use Rattle.fields.specs.Bytes.{leAt}
-use Rattle.ynv_read.specs.Passes.{portalsWords}
-use Rattle.ynv_read.proofs.Heads.{back-is}
+use Rattle.read_decide.specs.Deciding.{portalsWords}
+use Rattle.ynv_read.proofs.Records.{back-is}
 use borrow.Author.Needs.{needs}
 use Rattle.ynv_read.proofs.fill_portals.Statement.{statement}
 use Rattle.ynv_read.proofs.fill_portals.Tie as tie

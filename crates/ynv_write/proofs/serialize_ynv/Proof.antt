@@ -8,7 +8,7 @@ use Rattle.write_pages.specs.Pages.{pages}
 use Rattle.strip.specs.Laid.{cellAt}
 use Rattle.write_plan.proofs.Ready.{ready}
 use Rattle.write_ends.proofs.Planned.{pages-reached}
-use Rattle.ynv_write.proofs.Whole.{refuses, too-short, writes, answers-length}
+use Rattle.ynv_write.proofs.Answer.{refuses, too-short, writes, answers-length}
 use borrow.Author.Needs.{needs}
 use Rattle.ynv_write.proofs.serialize_ynv.Statement.{statement}
 use Rattle.ynv_write.proofs.serialize_ynv.Tie as tie

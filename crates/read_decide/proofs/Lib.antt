@@ -1,0 +1,3 @@
+pub mod Heads
+pub mod Lengths
+pub mod Decides

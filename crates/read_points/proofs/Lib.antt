@@ -1,0 +1,4 @@
+pub mod Stores
+pub mod Puts
+pub mod Shorts
+pub mod Turned

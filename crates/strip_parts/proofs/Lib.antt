@@ -1,0 +1,2 @@
+pub mod Boxed
+pub mod Halves

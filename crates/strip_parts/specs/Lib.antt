@@ -1,0 +1,3 @@
+pub mod Boxed
+pub mod BoxedCell
+pub mod Halves

@@ -1,0 +1,175 @@
+// The corners of a polygon in order: per vertex 14, then 15 for half a and b. On the way the vertex table, each corner's index and the area table
+// are made.
+ghost use mathlib.Core.Bool.{cond};
+ghost use mathlib.Core.Path.{_≡_};
+ghost use Prim.Native.Nat.{_+_, _*_, _≤_, _<_, _^_};
+ghost use lib.ListN.{length};
+ghost use lib.Dec.{ltb};
+ghost use Rattle.strip.specs.Reading.{word, vecAt, polygonOf};
+ghost use Rattle.areas.specs.EdgeHalf.{none};
+ghost use Rattle.write_pages.specs.Items.{tripleIn, cornersIn};
+ghost use Rattle.write_corner_checks.specs.Steps.{EdgeHas, TablesReady, CornerDone, CornersDone};
+use areas::AreaAnswer;
+use math::vec3::Vec3;
+use math::vec3::floats_at;
+use strip::Poly;
+use write_vertices::Numbered;
+
+// How many areas and vertices there are.
+pub struct Tables {
+    pub areas: usize,
+    pub vertices: usize,
+}
+
+// What a check comes to. The place of a refusal is the polygon, which `decide_polygons` has.
+pub enum Check {
+    Passed,
+    // The number of the refusal.
+    Refused(u32),
+}
+
+// The count of areas after an edge, and whether there was room for both.
+pub struct EdgeAreas {
+    pub len: usize,
+    pub check: Check,
+}
+
+// The tables after some corners, up to the first that is refused.
+pub struct TablesAfter {
+    pub tables: Tables,
+    pub check: Check,
+}
+
+// The areas of both halves of an edge: 15 where one would be a 33rd.
+fn ensure_edge(ids: &mut [u32; 32], len: usize, a: u32, b: u32) -> EdgeAreas
+    requires { ⌜ length (now ids) ≡ 32 ⌝ }
+    ensures { λ r. ⌜ EdgeHas (now (ids .entry)) (now (ids .exit)) len a b r ⌝ }
+{
+    let one = areas::ensure_id(ids, len, a);
+    let at_a = one.at;
+    match at_a {
+        AreaAnswer::At(_) => {
+            let two = areas::ensure_id(ids, one.len, b);
+            let at_b = two.at;
+            match at_b {
+                AreaAnswer::At(_) => EdgeAreas {
+                    len: two.len,
+                    check: Check::Passed,
+                },
+                AreaAnswer::Full => EdgeAreas {
+                    len: two.len,
+                    check: Check::Refused(15),
+                },
+            }
+        }
+        AreaAnswer::Full => EdgeAreas {
+            len: one.len,
+            check: Check::Refused(15),
+        },
+    }
+}
+
+// The triple of the vertex whose three words stand at `at`.
+fn triple_of(strip: &[u32], at: usize, bb_min: Vec3, bb_size: Vec3) -> u64
+    requires { ⌜ at + 3 ≤ length (now strip) ⌝ }
+    ensures triple { λ r. ⌜ r ≡ tripleIn «bb_min» «bb_size» (vecAt (now (strip .entry)) at) ⌝ }
+    ensures below { λ r. ⌜ r < 2 ^ 48 ⌝ }
+{
+    let v = floats_at(strip, at);
+    let q = quantise::short::quantise(v, bb_min, bb_size);
+    (q.x as u64) + 65536 * (q.y as u64) + 4294967296 * (q.z as u64)
+}
+
+// The area that stands at `at` for a half of edge i, or that of no neighbour where there are only `edges`.
+fn area_at(strip: &[u32], at: usize, i: usize, edges: usize) -> u32
+    requires { ⌜ (i < edges → at < length (now strip)) ⌝ }
+    ensures { λ r. ⌜ r ≡ cond (ltb i edges) (word (now (strip .entry)) at) none ⌝ }
+{
+    if i < edges {
+        return strip[at];
+    }
+    areas::ADJACENT_NONE
+}
+
+// A corner: its triple is numbered (14), the areas of its edge are ensured (15), and its number is stored as index `item`.
+fn decide_corner(
+    work: &mut [u32],
+    ids: &mut [u32; 32],
+    buckets: usize,
+    room: usize,
+    item: usize,
+    old: Tables,
+    triple: u64,
+    a: u32,
+    b: u32,
+) -> TablesAfter
+    requires { ⌜ TablesReady (now work) (now ids) buckets room (old .vertices) item × (item < room) × (triple < 2 ^ 48) ⌝ }
+    ensures { λ r. ⌜ CornerDone (now (work .entry)) (now (work .exit)) (now (ids .entry)) (now (ids .exit)) buckets room old item triple a b r ⌝ }
+{
+    let areas = old.areas;
+    let vertices = old.vertices;
+    let known = write_vertices::vertex_index(work, buckets, vertices, triple);
+    match known {
+        Numbered::Vertex(number, count) => {
+            let e = ensure_edge(ids, areas, a, b);
+            let tables = Tables {
+                areas: e.len,
+                vertices: count,
+            };
+            let check = e.check;
+            if let Check::Refused(_) = check {
+                return TablesAfter { tables, check };
+            }
+            work[buckets + 2 * room + item] = number as u32;
+            TablesAfter { tables, check }
+        }
+        Numbered::Full => TablesAfter {
+            tables: old,
+            check: Check::Refused(14),
+        },
+    }
+}
+
+// The corners of a polygon, the first of them number `start`.
+pub fn decide_vertices(
+    strip: &[u32],
+    p: Poly,
+    bb_min: Vec3,
+    bb_size: Vec3,
+    work: &mut [u32],
+    ids: &mut [u32; 32],
+    buckets: usize,
+    room: usize,
+    start: usize,
+    old: Tables,
+) -> TablesAfter
+    requires { ⌜ (p .«vertex_at» + 3 * p .vertices ≤ length (now strip)) × (p .«edge_at» + 6 * p .edges ≤ length (now strip))
+        × (start + p .vertices ≤ room) × TablesReady (now work) (now ids) buckets room (old .vertices) start ⌝ }
+    ensures { λ r. ⌜ CornersDone (now (work .entry)) (now (work .exit)) (now (ids .entry)) (now (ids .exit)) buckets room old start
+        (cornersIn «bb_min» «bb_size» (polygonOf (now (strip .entry)) p)) r ⌝ }
+{
+    let vertices = p.vertices;
+    let edges = p.edges;
+    let mut v = p.vertex_at;
+    let mut e = p.edge_at;
+    let mut tables = old;
+    let mut i: usize = 0;
+    while i < vertices {
+        let triple = triple_of(strip, v, bb_min, bb_size);
+        let a = area_at(strip, e, i, edges);
+        let b = area_at(strip, e + 3, i, edges);
+        let after = decide_corner(work, ids, buckets, room, start + i, tables, triple, a, b);
+        tables = after.tables;
+        let check = after.check;
+        if let Check::Refused(_) = check {
+            return TablesAfter { tables, check };
+        }
+        v += 3;
+        e += 6;
+        i += 1;
+    }
+    TablesAfter {
+        tables,
+        check: Check::Passed,
+    }
+}

@@ -1,0 +1,3 @@
+pub mod Picks
+pub mod LeafVerdicts
+pub mod Held

@@ -1,0 +1,68 @@
+-- `write_leaf_checks::check_leaf` meets its contract: the two counts are those of the leaf in the tree, and each return is a law of proofs/LeafVerdicts by the tests that led there.
+use mathlib.Core.Path.{_≡_, ap, sym, _∙_}
+use mathlib.Core.List.{List}
+use native.Mathlib.Omega.{arith}
+use lib.ListN.{length}
+use denote.Ref.{now}
+use Rattle.strip.specs.Cell.{NavPoint}
+use Rattle.write_pages.specs.Sectors.{grown, leafCounts}
+use Rattle.write_leaf_checks.specs.Work.{countIn, pickedFrom}
+use Rattle.write_leaf_checks.proofs.Picks.{count-picked}
+use Rattle.write_leaf_checks.proofs.LeafVerdicts.{tells-17, tells-18, tells-none}
+use Rattle.write_leaf_checks.proofs.check_leaf.Statement.{statement}
+use Rattle.write_leaf_checks.proofs.check_leaf.Tie as tie
+use Rattle.write_leaf_checks.proofs.check_leaf.Reads as reads
+use Rattle.write_leaf_checks.proofs.check_leaf.Lts as lts
+use Rattle.write_leaf_checks.proofs.count_points.Reads as count-points-reads
+use Rattle.write_leaf_checks.proofs.leaf_ids.Reads as leaf-ids-reads
+
+abbrev claims : lts.Claims
+claims = (leaf-ids-reads.Asked, leaf-ids-reads.Learnt, count-points-reads.Asked, count-points-reads.Learnt)
+
+abbrev Begin : Type 0
+Begin = lts.Start claims reads.Pre reads.Post
+
+abbrev Ids : Type 0
+Ids = lts.After-leaf-ids claims reads.Pre reads.Post
+
+abbrev start : Ids → Begin
+start c = c .before .before .before
+
+-- the points that are counted are the leaf's
+points-count : (s : Begin) (ts : List NavPoint) → length ts ≡ length (now (s .args .leaf-numbers))
+    → countIn (now (s .args .leaf-numbers)) (s .args .leaf) 0 (length (now (s .args .leaf-numbers))) ≡ length (pickedFrom (now (s .args .leaf-numbers)) (s .args .leaf) 0 ts)
+points-count s ts l = ap (countIn (now (s .args .leaf-numbers)) (s .args .leaf) 0) (sym l) ∙ count-picked (now (s .args .leaf-numbers)) (s .args .leaf) 0 ts
+
+leaf-ids-requires : tie.Need-leaf-ids-requires
+leaf-ids-requires c κs = tt
+
+returns : tie.Need-returns
+unfolding grown leafCounts
+returns c ts l = let s = start (c .before) in tells-17 _ _ (s .args .leaf) (omega (arith, c .before .leaf-ids .ensures, c .if1 .taken))
+
+count-points-requires : tie.Need-count-points-requires
+count-points-requires c κs = tt
+
+returns-2 : tie.Need-returns-2
+unfolding grown leafCounts
+returns-2 c ts l =
+    let k = c .before .before .before in
+    let s = start k in
+    tells-18 _ _ (s .args .leaf) (omega (arith, k .leaf-ids .ensures, c .before .before .if1 .left)) (omega (arith, points-count s ts l, c .before .count-points .ensures, c .if2 .taken))
+
+returns-3 : tie.Need-returns-3
+unfolding grown leafCounts
+returns-3 c ts l =
+    let k = c .before .before .before in
+    let s = start k in
+    tells-none _ _ (s .args .leaf) (omega (arith, k .leaf-ids .ensures, c .before .before .if1 .left)) (omega (arith, points-count s ts l, c .before .count-points .ensures, c .if2 .left))
+
+pub check-leaf-spec : {M : Type 1} → statement M
+check-leaf-spec =
+    tie.close
+    (tie.spec
+    leaf-ids-requires
+    returns
+    count-points-requires
+    returns-2
+    returns-3)

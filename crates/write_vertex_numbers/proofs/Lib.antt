@@ -1,0 +1,4 @@
+pub mod Parts
+pub mod Numbering
+pub mod OneSlice
+pub mod Enough
