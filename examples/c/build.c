@@ -1,5 +1,5 @@
 /* Builds a cell of three polygons from nothing, saves it, opens it and prints it. With a file name it writes the pages
- * there, too.
+ * there, too. It has two benches, of which one stands outside the box: saving drops that one and says so.
  *
  *     (0, 150) +-----------------+ (150, 150)
  *              | 2, higher up    |
@@ -60,11 +60,12 @@ static struct strip three_polygons(void)
 {
     struct strip strip = { NULL, 0, 0 };
     const struct portal climb = { 1, 0, { 40, 74, 10 }, { 40, 76, 14 }, 0, 2, AREA };
-    const struct position bench = { 100, 100, 14 };
+    const struct position bench = { 100, 100, 14 }, beyond = { 151, 100, 14 };
     put_map_cell(&strip, 0, 50);
     put_three(&strip);
     put_portal(&strip, &climb);
     put_point(&strip, 64, 0, bench);
+    put_point(&strip, 64, 0, beyond);
     put_end(&strip);
     return strip;
 }
@@ -152,6 +153,7 @@ int main(int argc, char **argv)
         return 2;
     }
     printf("saved: %zu words of strip as %zu bytes of pages\n", strip.length, pages.length);
+    printf("points: %" PRIu64 " stored, %" PRIu64 " outside the box and dropped\n", answer[1], answer[2]);
     again = open_saved(pages, answer);
     print_strip(&again);
     if (argc > 1)

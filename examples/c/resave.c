@@ -85,9 +85,9 @@ static struct words read_cell(struct bytes system)
     return strip;
 }
 
-static struct bytes write_cell(struct words strip)
+/* Writes a strip. Answer: as ynv_serialize(). */
+static struct bytes write_cell(struct words strip, uint64_t answer[8])
 {
-    uint64_t answer[8];
     struct words work = { NULL, ynv_work_words(strip.length) };
     struct bytes pages = { NULL, ynv_pages_bytes(strip.length) };
     work.at = room(work.length, sizeof *work.at);
@@ -140,9 +140,11 @@ int main(int argc, char **argv)
     print_seams(strip);
     print_middle(strip);
     print_grid_cell(-1500.0f, 2000.0f);
-    struct bytes after = write_cell(strip);
+    uint64_t answer[8];
+    struct bytes after = write_cell(strip, answer);
     int same = before.length == after.length && memcmp(before.at, after.at, after.length) == 0;
     printf("written again: %zu bytes, %s\n", after.length, same ? "the same" : "other ones");
+    printf("points stored %" PRIu64 " dropped %" PRIu64 "\n", answer[1], answer[2]);
     free(before.at);
     free(strip.at);
     free(after.at);

@@ -31,8 +31,8 @@
 //! strip[2] = ynv::AREA_ALONE;
 //! strip[14] = 5 << 28; // kind 5, the end
 //!
-//! let pages = ynv::serialize(&strip)?;
-//! assert_eq!(pages.len(), 688);
+//! let (pages, written) = ynv::serialize(&strip)?;
+//! assert_eq!((pages.len(), written.points_stored, written.points_dropped), (688, 0, 0));
 //!
 //! let (again, counts) = ynv::parse(&pages, &[])?;
 //! assert_eq!(again, strip);
@@ -83,6 +83,19 @@ pub struct Counts {
     pub sectors: usize,
 }
 
+/// What saving wrote, and what became of the points: a point is stored once, in the first leaf that contains it in x and
+/// y, borders included, and dropped where none does. Stored and dropped make the points of the strip, which is proved.
+#[derive(Debug, Clone, Copy, PartialEq, Eq)]
+#[non_exhaustive]
+pub struct Written {
+    /// Bytes of the pages.
+    pub length: usize,
+    /// Points that are in the pages.
+    pub points_stored: usize,
+    /// Points that lie in no leaf, outside the box or with a NaN, and are not in the pages.
+    pub points_dropped: usize,
+}
+
 /// The answer of an accepted call, or the refusal with its place.
 fn accepted(number: u32, answer: Answer) -> Result<Answer, Refusal> {
     match number {
@@ -112,7 +125,9 @@ pub fn parse_ynv(system: &[u8], graphics: &[u8]) -> Result<Ynv, Refusal> {
 pub struct Saved {
     /// The system section; there is no graphics section.
     pub pages: Vec<u8>,
-    /// Points that lie in no leaf of the cell.
+    /// Points that are in the pages.
+    pub points_stored: usize,
+    /// Points that lie in no leaf of the cell, outside its box or with a NaN. With those stored they are all.
     pub points_dropped: usize,
     /// Edges beyond the number of their polygon's vertices.
     pub edges_dropped: usize,
@@ -134,20 +149,14 @@ pub struct Saved {
 ///     cell.points.push(NavPoint { position: Vec3::new(x, 75.0, 0.0), angle: 0, kind: 0 });
 /// }
 /// let saved = ynv::serialize_ynv(&cell)?;
-/// assert_eq!(saved.points_dropped, 1); // the one outside the box
+/// assert_eq!((saved.points_stored, saved.points_dropped), (1, 1)); // one lies outside the box
 /// assert_eq!(ynv::parse_ynv(&saved.pages, &[])?.points.len(), 1);
 /// # Ok::<(), ynv::Refusal>(())
 /// ```
 pub fn serialize_ynv(cell: &Ynv) -> Result<Saved, Refusal> {
-    let pages = serialize(&cell.to_strip()?)?;
-    let points_dropped = cell.points.len() - points_stored(&pages);
-    Ok(Saved { points_dropped, edges_dropped: surplus_edges(cell), numbers_cut: large_numbers(cell), pages })
-}
-
-/// The number of points in written pages, which stands in their header.
-fn points_stored(pages: &[u8]) -> usize {
-    let count = pages[0x148..0x14C].try_into().expect("written pages have a header");
-    u32::from_le_bytes(count) as usize
+    let (pages, Written { points_stored, points_dropped, .. }) = serialize(&cell.to_strip()?)?;
+    let (edges_dropped, numbers_cut) = (surplus_edges(cell), large_numbers(cell));
+    Ok(Saved { pages, points_stored, points_dropped, edges_dropped, numbers_cut })
 }
 
 fn surplus_edges(cell: &Ynv) -> usize {
@@ -190,7 +199,7 @@ pub fn parse(system: &[u8], graphics: &[u8]) -> Result<(Vec<u32>, Counts), Refus
 /// ```
 /// # let mut strip = vec![0; 15];
 /// # (strip[0], strip[1], strip[14]) = (1 << 28, 4, 5 << 28);
-/// # let pages = ynv::serialize(&strip)?;
+/// # let (pages, _) = ynv::serialize(&strip)?;
 /// assert_eq!(ynv::parse_within(&pages, &[], 15)?.0.len(), 15);
 /// assert_eq!(ynv::parse_within(&pages, &[], 14).unwrap_err().number, ynv::Refusal::OVER_CAP);
 /// # Ok::<(), ynv::Refusal>(())
@@ -227,7 +236,7 @@ fn parse_lending(words: usize, system: &[u8], graphics: &[u8]) -> Result<(Vec<u3
 /// ```
 /// # let mut strip = vec![0; 15];
 /// # (strip[0], strip[1], strip[14]) = (1 << 28, 4, 5 << 28);
-/// # let pages = ynv::serialize(&strip)?;
+/// # let (pages, _) = ynv::serialize(&strip)?;
 /// let mut lent = [7; 20];
 /// let counts = ynv::parse_into(&pages, &[], &mut lent)?;
 /// assert_eq!(lent[..counts.words], strip);
@@ -244,7 +253,7 @@ pub fn parse_into(system: &[u8], graphics: &[u8], strip: &mut [u32]) -> Result<C
     Ok(Counts { words, polys, portals, points, sectors })
 }
 
-/// Writes a strip's cell as pages, a system section.
+/// Writes a strip's cell as pages, a system section, and says how many points it stored and dropped.
 ///
 /// It lends [`work_words`] and [`pages_bytes`], so it is refused neither with 1 nor with 2, which is proved.
 ///
@@ -253,22 +262,35 @@ pub fn parse_into(system: &[u8], graphics: &[u8], strip: &mut [u32]) -> Result<C
 /// [`Refusal::MANY_LINKS`]; [`Refusal::NO_MEMORY`].
 ///
 /// ```
+/// // A cell from 0 to 150 in x and y with a point at (150, 75), on its border, and one at (151, 75).
+/// let mut strip = vec![0; 14];
+/// strip[0] = 1 << 28;
+/// strip[8..14].fill(150f32.to_bits());
+/// for x in [150f32, 151.0] {
+///     strip.extend([4 << 28, x.to_bits(), 75f32.to_bits(), 0]);
+/// }
+/// strip.push(5 << 28);
+/// let (pages, written) = ynv::serialize(&strip)?;
+/// assert_eq!((written.points_stored, written.points_dropped), (1, 1));
+/// assert_eq!(written.length, pages.len());
+///
 /// let refusal = ynv::serialize(&[1 << 28]).unwrap_err();
 /// assert_eq!((refusal.number, refusal.place), (3, 1)); // the cell's record ends early
+/// # Ok::<(), ynv::Refusal>(())
 /// ```
-pub fn serialize(strip: &[u32]) -> Result<Vec<u8>, Refusal> {
+pub fn serialize(strip: &[u32]) -> Result<(Vec<u8>, Written), Refusal> {
     // What is no strip is refused before memory is asked for on its behalf.
     count_seams(strip)?;
     let mut work = lent(work_words(strip))?;
     let mut pages = lent(pages_bytes(strip))?;
-    let length = serialize_into(strip, &mut work, &mut pages)?;
-    pages.truncate(length);
+    let written = serialize_into(strip, &mut work, &mut pages)?;
+    pages.truncate(written.length);
     pages.shrink_to_fit();
-    Ok(pages)
+    Ok((pages, written))
 }
 
-/// Writes a strip's cell into the lent pages and returns how many bytes it takes; the others stay as they were, and a
-/// refusal changes none. Work may hold anything, before and after.
+/// Writes a strip's cell into the lent pages, whose first `length` bytes are the cell then; the others stay as they were,
+/// and a refusal changes none. Work may hold anything, before and after.
 ///
 /// # Errors
 /// [`Refusal::BAD_STRIP`], [`Refusal::TOO_LITTLE_WORK`]; the reasons why a cell can't be saved,
@@ -279,17 +301,19 @@ pub fn serialize(strip: &[u32]) -> Result<Vec<u8>, Refusal> {
 /// # (strip[0], strip[1], strip[14]) = (1 << 28, 4, 5 << 28);
 /// let mut work = vec![0; ynv::work_words(&strip)];
 /// let mut pages = [0; 1000];
-/// assert_eq!(ynv::serialize_into(&strip, &mut work, &mut pages)?, 688);
+/// let written = ynv::serialize_into(&strip, &mut work, &mut pages)?;
+/// assert_eq!((written.length, written.points_stored, written.points_dropped), (688, 0, 0));
 ///
 /// let refused = |work: &mut [u32], pages: &mut [u8]| ynv::serialize_into(&strip, work, pages).unwrap_err().number;
 /// assert_eq!(refused(&mut work[1..], &mut pages), 1);
 /// assert_eq!(refused(&mut work, &mut pages[..687]), 2);
 /// # Ok::<(), ynv::Refusal>(())
 /// ```
-pub fn serialize_into(strip: &[u32], work: &mut [u32], pages: &mut [u8]) -> Result<usize, Refusal> {
+pub fn serialize_into(strip: &[u32], work: &mut [u32], pages: &mut [u8]) -> Result<Written, Refusal> {
     let mut answer = [0; 8];
     let number = ffi::serialize(strip, work, pages, &mut answer);
-    Ok(accepted(number, answer)?[0] as usize)
+    let [length, points_stored, points_dropped, ..] = accepted(number, answer)?.map(|count| count as usize);
+    Ok(Written { length, points_stored, points_dropped })
 }
 
 /// Counts the seams of a strip: halves of its edges, surplus ones too, whose area differs from the cell's by 1 or 100.

@@ -43,7 +43,7 @@ fn the_sample_there_and_back() {
     assert_eq!((strip.len(), counts.words, counts.sectors), (15, 15, 1));
     assert_eq!((counts.polys, counts.portals, counts.points), (0, 0, 0));
     assert_eq!(strip[2], 10_000);
-    assert_eq!(serialize(&strip).unwrap(), SAMPLE);
+    assert_eq!(serialize(&strip).unwrap().0, SAMPLE);
 }
 
 #[test]
@@ -51,22 +51,22 @@ fn lent_memory_is_enough() {
     // 8,192 polygons are the most that a leaf takes, and 67,582 corners the most that a cell takes.
     for (polygons, corners) in [(0, 3), (1, 3), (341, 3), (342, 3), (8192, 3), (8192, 8), (33, 2047)] {
         let written = strip(polygons, corners);
-        let pages = serialize(&written).unwrap();
+        let (pages, _) = serialize(&written).unwrap();
         let (read, counts) = parse(&pages, &[]).unwrap();
         assert_eq!((counts.polys, counts.words), (polygons, read.len()));
         assert_eq!(read.len(), written.len() + 6 * polygons * corners, "as many edges as vertices");
         assert!(read.len() <= ynv::strip_words(&pages, &[]));
         assert!(pages.len() <= ynv::pages_bytes(&written));
         // A quarter box may move when a corner has become its short, but then no byte moves any more.
-        let again = serialize(&read).unwrap();
+        let (again, _) = serialize(&read).unwrap();
         assert_eq!(again.len(), pages.len());
-        assert!(serialize(&parse(&again, &[]).unwrap().0).unwrap() == again);
+        assert!(serialize(&parse(&again, &[]).unwrap().0).unwrap().0 == again);
     }
 }
 
 /// Pages of one polygon, with the list of polygons naming its one part so many times.
 fn repeated(times: u32) -> Vec<u8> {
-    let mut pages = serialize(&strip(1, 2047)).unwrap();
+    let (mut pages, _) = serialize(&strip(1, 2047)).unwrap();
     let word = |pages: &[u8], at: usize| u32::from_le_bytes(pages[at..at + 4].try_into().unwrap());
     let offset = |pages: &[u8], at: usize| (word(pages, at) - 0x5000_0000) as usize;
     let list = offset(&pages, 0x118);
@@ -141,6 +141,36 @@ fn refusals_name_their_place() {
     let mut lost = SAMPLE.to_vec();
     lost[0x80..0x84].copy_from_slice(&0x5FFF_FFFFu32.to_le_bytes());
     assert_eq!(parse(&lost, &[]), Err(refusal(35, 2)));
+}
+
+/// Points stored and dropped, of a map cell and of a vehicle with these points in a box from 0 to 150.
+fn points_of(points: &[(f32, f32)]) -> [(usize, usize); 2] {
+    [1, 4].map(|content| {
+        let mut words = cell();
+        words[1] = content;
+        words.extend(points.iter().flat_map(|(x, y)| [4 << 28, x.to_bits(), y.to_bits(), 0]));
+        words.push(5 << 28);
+        let (pages, written) = serialize(&words).unwrap();
+        assert_eq!(written.points_stored + written.points_dropped, points.len());
+        assert_eq!(parse(&pages, &[]).unwrap().1.points, written.points_stored);
+        let (mut work, mut lent) = (vec![0; ynv::work_words(&words)], vec![0; pages.len()]);
+        assert_eq!(serialize_into(&words, &mut work, &mut lent), Ok(written));
+        assert_eq!((written.length, &lent), (pages.len(), &pages));
+        (written.points_stored, written.points_dropped)
+    })
+}
+
+#[test]
+fn points_are_stored_once_or_dropped() {
+    assert_eq!(points_of(&[]), [(0, 0); 2]);
+    // Where two leaves meet, where four do, and on the border of the box.
+    let borders = [(75.0, 10.0), (75.0, 75.0), (37.5, 112.5), (0.0, 0.0), (-0.0, 150.0), (150.0, 150.0)];
+    assert_eq!(points_of(&borders), [(6, 0); 2]);
+    let outside = [(-0.001, 75.0), (75.0, 150.001), (f32::NAN, 75.0), (75.0, f32::NAN), (f32::NEG_INFINITY, 0.0)];
+    assert_eq!(points_of(&outside), [(0, 5); 2]);
+    assert_eq!(points_of(&[borders.as_slice(), &outside].concat()), [(6, 5); 2]);
+    // The forty benches.
+    assert_eq!(points_of(&[vec![(20.0, 20.0); 38], vec![(151.0, 20.0); 2]].concat()), [(38, 2); 2]);
 }
 
 /// Two rectangles side by side, and one that covers both: a spot on the side that two share is in the right one alone,

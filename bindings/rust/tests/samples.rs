@@ -22,6 +22,7 @@ fn samples_save_as_they_lie_there() {
         let drawn = cell(&sample(&format!("{name}.strip")));
         let saved = serialize_ynv(&drawn).unwrap();
         assert_eq!((drawn.polys.len(), saved.points_dropped), (polys, dropped), "{name}");
+        assert_eq!(saved.points_stored + dropped, drawn.points.len(), "{name}");
         assert!(saved.pages == sample(&format!("{name}.pages")), "{name}");
         let opened = parse_ynv(&saved.pages, &[]).unwrap();
         assert_eq!(opened.points.len() + dropped, drawn.points.len(), "{name}");

@@ -87,10 +87,39 @@ fn there_and_back() {
     assert_eq!(out(&written), "bytes 688\n");
     assert_eq!(fs::read(&pages).unwrap(), fs::read(SAMPLE).unwrap());
     assert_eq!(names(&folder), ["sample.pages", "sample.strip"]);
+}
 
-    let yard = yard_strip(&folder);
-    let written = run(["write", text(&yard), text(&pages)]);
-    assert!(out(&written).ends_with(", points dropped 1\n"), "{}", out(&written));
+#[test]
+fn dropped_points_are_told() {
+    let folder = folder("dropped");
+    let (strip, pages) = (folder.join("benches.strip"), folder.join("benches.pages"));
+    let said = |inside: usize, outside: usize, to: &str| {
+        let mut cell = Ynv::new_cell(4040, Vec3::ZERO, Vec3::new(150.0, 150.0, 50.0));
+        let bench = |x: f32| NavPoint { position: Vec3::new(x, 75.0, 7.0), ..NavPoint::default() };
+        cell.points = [vec![bench(75.0); inside], vec![bench(151.0); outside]].concat();
+        fs::write(&strip, bytes(&cell.to_strip().unwrap())).unwrap();
+        let output = run(["write", text(&strip), to]);
+        assert_eq!(output.status.code(), Some(0));
+        output
+    };
+    for (inside, outside, told) in [
+        (0, 0, ""),
+        (40, 0, ""),
+        (38, 2, "; 38 points stored, 2 lie outside the box and were dropped"),
+        (1, 1, "; 1 point stored, 1 lies outside the box and was dropped"),
+        (0, 3, "; 0 points stored, 3 lie outside the box and were dropped"),
+    ] {
+        let output = said(inside, outside, text(&pages));
+        let length = fs::metadata(&pages).unwrap().len();
+        assert_eq!((out(&output), err(&output)), (format!("bytes {length}{told}\n"), String::new()));
+    }
+    // Where standard output is the pages, the error output has the words.
+    said(38, 2, text(&pages));
+    let output = said(38, 2, "-");
+    assert_eq!(output.stdout, fs::read(&pages).unwrap());
+    let told = "38 points stored, 2 lie outside the box and were dropped";
+    assert_eq!(err(&output), format!("ynv: {}: {told}\n", strip.display()));
+    assert_eq!(err(&said(40, 0, "-")), "");
 }
 
 #[test]
@@ -128,7 +157,7 @@ fn refusals_have_status_1_and_say_what_to_do() {
     let refused =
         "refused 16 at polygon 1: The polygon has more than 7 portal links. Leave this polygon at most 7 portal links.";
     assert!(lines[2].ends_with(refused), "{}", lines[2]);
-    assert!(lines[3].ends_with(", points dropped 1"));
+    assert!(lines[3].ends_with("; 1 point stored, 1 lies outside the box and was dropped"), "{}", lines[3]);
     assert_eq!(run(["check", SAMPLE]).status.code(), Some(0));
     // A file that can't be read outweighs a refusal.
     assert_eq!(run(["check", text(&short), "no such file", SAMPLE]).status.code(), Some(2));

@@ -130,10 +130,13 @@ fn saving_says_what_it_loses() {
     for seed in 0..CELLS {
         let cell = Seeded(seed).savable();
         let saved = serialize_ynv(&cell).unwrap_or_else(|refusal| panic!("seed {seed}: {refusal}"));
-        assert_eq!(saved.pages, serialize(&cell.to_strip().unwrap()).unwrap());
+        let (pages, written) = serialize(&cell.to_strip().unwrap()).unwrap();
+        assert_eq!((saved.pages.len(), &saved.pages), (written.length, &pages));
+        let told = (saved.points_stored, saved.points_dropped);
+        assert_eq!(told, (written.points_stored, written.points_dropped));
         let opened = parse_ynv(&saved.pages, &[]).unwrap();
         assert_eq!(opened.to_strip().unwrap(), parse(&saved.pages, &[]).unwrap().0);
-        assert_eq!(opened.points.len() + saved.points_dropped, cell.points.len(), "seed {seed}");
+        assert_eq!(told, (opened.points.len(), cell.points.len() - opened.points.len()), "seed {seed}");
 
         let (mut dropped, mut cut) = (0, 0);
         for (poly, before) in opened.polys.iter().zip(&cell.polys) {

@@ -10,7 +10,7 @@ use Rattle.fields.specs.Bytes.{leAt, les}
 use Rattle.fields.specs.Rows.{rowBytes}
 use Rattle.fields.specs.RowPlaces.{rowAt}
 use Rattle.fields.proofs.Bytes.{length-les}
-use Rattle.fields.proofs.Holds.{Holds, all-held, held-first, held-second, number-in}
+use Rattle.fields.proofs.Holds.{Holds, all-held, held-in, held-first, held-second, number-in}
 use Rattle.fields.proofs.Rows.{length-rows, field-in}
 use Rattle.strip.specs.Cell.{Head}
 use Rattle.strip.specs.Fits.{All}
@@ -104,6 +104,10 @@ module _ (h : Head) (a : Places) (n : Counts) (areas : List ℕ) where
 
   pub area-back : h .area < 2 ^ 32 → leAt 4 H 0x140 ≡ h .area
   area-back s = last-field 0x28 4 (h .area) (omega arith) refl s
+
+  -- nobody reads this one: of whatever holds the header
+  pub point-count-back : {s : List ℕ} → Holds s 0 H → n .points < 2 ^ 32 → leAt 4 s 0x148 ≡ n .points
+  point-count-back held small = field-in (headerLast h a n) 0x30 4 (n .points) (omega arith) refl (held-in held last-held) ∙ mod-eq-of-lt small
 
   pub portal-count-back : n .portals < 2 ^ 32 → leAt 4 H 0x14C ≡ n .portals
   portal-count-back s = last-field 0x34 4 (n .portals) (omega arith) refl s

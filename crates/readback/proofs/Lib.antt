@@ -8,5 +8,6 @@ pub mod Trees
 pub mod Root
 pub mod Whole
 pub mod Kept
+pub mod Points
 pub mod Theorem
 pub mod Examples

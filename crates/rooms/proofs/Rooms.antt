@@ -19,7 +19,7 @@ use Rattle.write_pages.specs.Accepted.{Accepted}
 use Rattle.write_pages.proofs.Placed.{few-corners, at-most-200, pages-placed}
 use Rattle.write_pages.proofs.Sizes.{pages-length}
 use Rattle.write_leaf_checks.proofs.Picks.{ids-few}
-use Rattle.write_sectors.proofs.Cell.{few-points, cell-leaves}
+use Rattle.write_pages.proofs.LeafCounts.{few-stored}
 use Rattle.write_blocks.specs.Laid.{sumOf}
 use Rattle.write_blocks.proofs.Layouts.{end-sum, sum-append}
 use Rattle.write_ends.proofs.Cells.{sum-some, sum-tree}
@@ -142,5 +142,5 @@ module _ (c : Cell) where
     pub strip-room : length (encode (reread c)) ≤ stripRoom (length (pages c))
     strip-room =
         let again = words-again c in
-        let points : t ≤ 32768 = omega (arith, few-points (sectors c) (acc .leaves), cell-leaves c) in
+        let points : t ≤ 32768 = omega (arith, few-stored c acc) in
         omega (arith, pages-least, few-corners c acc, acc .few-polygons, acc .few-portals, acc .few-links)

@@ -149,7 +149,7 @@ module _ (strip : List ℕ) (work : ℕ) (old : List ℕ) (words : Words strip) 
 
   -- the length that it says is that of what it wrote
   pub length-is : v .length ≡ length (pages (saved .cell))
-  length-is = ap (λ (w : Written). w .length) (saved .length-told)
+  length-is = ap (λ (w : Written). w .length) (saved .values-told)
 
   -- as many bytes as that, and no more, are the cell's pages
   pub file-is : savedFile strip work old v ≡ pages (saved .cell)

@@ -10,7 +10,7 @@ use answers::accept;
 use answers::refuse;
 use ynv_write::SerializeAnswer;
 
-// The length of the pages in bytes.
+// The length of the pages in bytes, the points stored and the points dropped.
 pub fn serialize_entry(
     strip: &[u32],
     work: &mut [u32],
@@ -23,7 +23,10 @@ pub fn serialize_entry(
     ensures work { λ _. ⌜ length (now (work .exit)) ≡ length (now (work .entry)) ⌝ }
 {
     match ynv_write::serialize_ynv(strip, work, pages) {
-        SerializeAnswer::Written(w) => accept(answer, &[w.length as u64]),
+        SerializeAnswer::Written(w) => accept(
+            answer,
+            &[w.length as u64, w.stored as u64, w.dropped as u64],
+        ),
         SerializeAnswer::Refused(r) => refuse(answer, r),
     }
 }

@@ -3,6 +3,7 @@ ghost use mathlib.Core.Path.{_≡_};
 ghost use lib.ListN.{length};
 ghost use Rattle.areas.specs.Tables.{areaIds};
 ghost use Rattle.write_pages.specs.Sectors.{byteCount};
+ghost use Rattle.write_pages.specs.PointCounts.{storedCount};
 ghost use Rattle.write_pages.specs.Pages.{sectors};
 ghost use Rattle.write_header.specs.Front.{countsIn};
 ghost use Rattle.strip.specs.Laid.{cellAt};
@@ -84,10 +85,12 @@ fn totals(d: Decision, points: u32, bytes: u32) -> Totals
     }
 }
 
-// The pages of a planned strip, whose sectors have so many bytes. The header is stored last, when all addresses are known.
-pub fn fill(strip: &[u32], d: Decision, bytes: u32, work: &mut [u32], pages: &mut [u8])
+// The pages of a planned strip, whose sectors have so many bytes. The header is stored last, when all addresses are known. The answer is how many
+// points are stored.
+pub fn fill(strip: &[u32], d: Decision, bytes: u32, work: &mut [u32], pages: &mut [u8]) -> u32
     requires { ⌜ Ready (now strip) (now work) d × (bytes ≡ byteCount (sectors (cellAt (now strip) (d .counts)))) ⌝ }
-    ensures { λ _. ⌜ Filled (now (strip .entry)) (d .counts) (now (work .entry)) (now (work .exit)) (now (pages .entry)) (now (pages .exit)) ⌝ }
+    ensures pages { λ _. ⌜ Filled (now (strip .entry)) (d .counts) (now (work .entry)) (now (work .exit)) (now (pages .entry)) (now (pages .exit)) ⌝ }
+    ensures points { λ r. ⌜ r ≡ storedCount (cellAt (now (strip .entry)) (d .counts)) ⌝ }
 {
     let lists = fill_lists(pages, strip, d, work);
     let rest = write_rest::fill_rest(pages, strip, d, work, lists.polygons);
@@ -96,4 +99,5 @@ pub fn fill(strip: &[u32], d: Decision, bytes: u32, work: &mut [u32], pages: &mu
     let cell = d.cell;
     let areas = d.areas;
     write_header::put_header(pages, cell, a, n, areas);
+    rest.points
 }

@@ -2,16 +2,16 @@
 use Prim.Native.Nat.{ℕ, zero, suc, _+_, _*_, _/_, _^_, _≤_, _<_}
 use mathlib.Core.Path.{_≡_, refl, sym, ap, _∙_}
 use mathlib.Core.List.{List, [], _∷_, _++_}
-use native.Mathlib.Nat.{pow-suc}
 use native.Mathlib.Omega.{arith}
-use lib.ListN.{length, length-append}
+use lib.ListN.{length}
 use borrow.Author.Tests.{lt-ltb, le-ltb}
 use Rattle.quarters.specs.declared.quarter.QuarterBox.{QuarterBox}
 use Rattle.quarters.specs.declared.bounds.Aabb.{Aabb}
 use Rattle.strip.specs.Cell.{NavPoint}
 use Rattle.strip.specs.declared.Refusal.{Refusal}
 use Rattle.write_pages.specs.Sectors.{sub0, sub1, sub2, sub3, quarters, leafIds, grown, leafCounts}
-use Rattle.write_pages.specs.Checks.{Verdict, fine, refused, at, firstFault, leafFault, leavesVerdict}
+use Rattle.write_pages.specs.Checks.{Verdict, at, firstFault, leafFault, leavesVerdict}
+use Rattle.write_pages.proofs.LeafCounts.{leaves-length}
 use Rattle.write_leaf_checks.specs.Work.{boxAt, boxesIn, pickedFrom, treeBy, passedThen, FirstRefused}
 use Rattle.write_leaf_checks.specs.declared.LeafCheck.{LeafCheck}
 use Rattle.write_leaf_checks.specs.declared.LeafCheck.the-variants as LeafCheck
@@ -69,21 +69,6 @@ module _ (k : ℕ) (ms ns : List (ℕ × ℕ)) where
 -- ---- the leaves below a box
 
 module _ (ids : QuarterBox → List ℕ) (stored : ℕ → List NavPoint) where
-  pub leaves-length : (d k : ℕ) (b : Aabb) → length (leafCounts (grown ids stored d k b)) ≡ 4 ^ d
-  unfolding leafCounts grown
-  leaves-length zero k b = refl
-  leaves-length (suc d) k b =
-      rw (
-        length-append (leafCounts (grown ids stored d k (sub0 b))),
-        length-append (leafCounts (grown ids stored d (k + 4 ^ d) (sub1 b))),
-        length-append (leafCounts (grown ids stored d (k + 2 * 4 ^ d) (sub2 b))),
-        leaves-length d k (sub0 b),
-        leaves-length d (k + 4 ^ d) (sub1 b),
-        leaves-length d (k + 2 * 4 ^ d) (sub2 b),
-        leaves-length d (k + 3 * 4 ^ d) (sub3 b),
-        pow-suc 4 d,
-      ) (omega arith)
-
   -- a sector, from what its subs told
   module _ (d k : ℕ) (b : Aabb) where
     abbrev pub in0 : List (ℕ × ℕ)
@@ -108,20 +93,20 @@ module _ (ids : QuarterBox → List ℕ) (stored : ℕ → List NavPoint) where
     module _ (r0 : LeafCheck) (e0 : FirstRefused r0 k in0) (z0 : r0 ≡ LeafCheck.Passed) where
       on0 : (r : LeafCheck) → FirstRefused r (k + 4 ^ d) (in1 ++ (in2 ++ in3)) → FirstRefused r k whole
       unfolding leafCounts grown
-      on0 r e = tells-on k in0 (in1 ++ (in2 ++ in3)) r0 e0 z0 (k + 4 ^ d) (ap (λ (n : ℕ). k + n) (leaves-length d k (sub0 b))) r e
+      on0 r e = tells-on k in0 (in1 ++ (in2 ++ in3)) r0 e0 z0 (k + 4 ^ d) (ap (λ (n : ℕ). k + n) (leaves-length ids stored d k (sub0 b))) r e
 
       pub stop1 : (q : LeafCheck) → FirstRefused q (k + 4 ^ d) in1 → (r : Refusal) → q ≡ LeafCheck.Refused r → FirstRefused (LeafCheck.Refused r) k whole
       stop1 q e r is = on0 (LeafCheck.Refused r) (tells-stop (k + 4 ^ d) in1 (in2 ++ in3) q e r is)
 
       module _ (r1 : LeafCheck) (e1 : FirstRefused r1 (k + 4 ^ d) in1) (z1 : r1 ≡ LeafCheck.Passed) where
         on1 : (r : LeafCheck) → FirstRefused r (k + 2 * 4 ^ d) (in2 ++ in3) → FirstRefused r k whole
-        on1 r e = on0 r (tells-on (k + 4 ^ d) in1 (in2 ++ in3) r1 e1 z1 (k + 2 * 4 ^ d) (omega (arith, leaves-length d (k + 4 ^ d) (sub1 b))) r e)
+        on1 r e = on0 r (tells-on (k + 4 ^ d) in1 (in2 ++ in3) r1 e1 z1 (k + 2 * 4 ^ d) (omega (arith, leaves-length ids stored d (k + 4 ^ d) (sub1 b))) r e)
 
         pub stop2 : (q : LeafCheck) → FirstRefused q (k + 2 * 4 ^ d) in2 → (r : Refusal) → q ≡ LeafCheck.Refused r → FirstRefused (LeafCheck.Refused r) k whole
         stop2 q e r is = on1 (LeafCheck.Refused r) (tells-stop (k + 2 * 4 ^ d) in2 in3 q e r is)
 
         pub last3 : (r2 : LeafCheck) → FirstRefused r2 (k + 2 * 4 ^ d) in2 → r2 ≡ LeafCheck.Passed → (r : LeafCheck) → FirstRefused r (k + 3 * 4 ^ d) in3 → FirstRefused r k whole
-        last3 r2 e2 z2 r e = on1 r (tells-on (k + 2 * 4 ^ d) in2 in3 r2 e2 z2 (k + 3 * 4 ^ d) (omega (arith, leaves-length d (k + 2 * 4 ^ d) (sub2 b))) r e)
+        last3 r2 e2 z2 r e = on1 r (tells-on (k + 2 * 4 ^ d) in2 in3 r2 e2 z2 (k + 3 * 4 ^ d) (omega (arith, leaves-length ids stored d (k + 2 * 4 ^ d) (sub2 b))) r e)
 
   -- where no leaf can have too many
   module _ (few : (q : QuarterBox) → length (ids q) ≤ 8192) (fit : (k : ℕ) → length (stored k) ≤ 2048) where

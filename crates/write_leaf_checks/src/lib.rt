@@ -53,7 +53,7 @@ pub fn meets_at(boxes: &[u32], at: usize, q: QuarterBox) -> bool
 }
 
 fn one_if(test: bool) -> u32
-    ensures { λ r. ⌜ r ≡ cond test 1 0 ⌝ }
+    ensures { λ r. ⌜ (r ≡ cond test 1 0) × (r ≤ 1) ⌝ }
 {
     if test {
         return 1;

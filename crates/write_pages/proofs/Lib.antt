@@ -4,4 +4,5 @@ pub mod Firsts
 pub mod Accepted
 pub mod Placed
 pub mod Stored
+pub mod LeafCounts
 pub mod Examples

@@ -1,12 +1,12 @@
 -- Each point of a cell is stored in the first leaf that contains it, or dropped where none does. Assumes nothing.
 use Prim.Native.Nat.{ℕ, zero, suc, _+_, _*_, _^_, _≤_, _<_}
-use mathlib.Core.Path.{_≡_, refl, ap, _∙_}
-use mathlib.Core.Bool.{Bool, true, false, cond}
+use mathlib.Core.Path.{_≡_, refl, sym, ap, _∙_}
+use mathlib.Core.Bool.{Bool, true, false, cond, false≢true}
 use mathlib.Core.List.{List, [], _∷_, _++_}
 use native.Mathlib.Omega.{arith}
 use native.Mathlib.Nat.{pow-suc}
 use borrow.Author.Tests.{eq-eqb, ne-eqb, eqb-true}
-use lib.Dec.{eqb}
+use lib.Dec.{eqb, eqb·zero-suc, eqb·suc-suc}
 use lib.ListN.{length, length-append}
 use Rattle.math.specs.declared.vec3.Vec3.{Vec3 as Floats}
 use Rattle.quarters.specs.declared.quarter.QuarterBox.{QuarterBox}
@@ -19,7 +19,8 @@ use Rattle.write_pages.specs.Preorder.{preorder}
 use Rattle.write_pages.specs.Sectors.Sector.{leaf, node}
 use Rattle.write_pages.specs.Pages.{sectors}
 use Rattle.write_pages.proofs.Lists.{keep-length}
-use Rattle.write_pages.specs.Stored.{leafBoxes, FirstIn, Outside, dropped, leafList, numbered}
+use Rattle.write_pages.specs.PointCounts.{leafBoxes, storedCount, inNone, outsideOf, dropped, droppedCount}
+use Rattle.write_pages.specs.Stored.{FirstIn, Outside, leafList, numbered}
 
 -- ---- sums: of f at n numbers from k on
 
@@ -167,14 +168,29 @@ first-in (b ∷ bs) p k e h = by (inside b p) refl k e h (first-in bs p)
     by false s zero f g rest = absurd (omega arith)
     by false s (suc j) f g rest = (s, rest j (omega arith) (omega arith))
 
-outside-all : (boxes : List Aabb) (p : Floats) → leafOf boxes p ≡ length boxes → Outside boxes p
-unfolding leafOf
+outside-all : (boxes : List Aabb) (p : Floats) → inNone boxes p ≡ true → Outside boxes p
+unfolding inNone
 outside-all [] p e = tt
 outside-all (b ∷ bs) p e = by (inside b p) refl e (outside-all bs p)
   where
-    by : (t : Bool) → inside b p ≡ t → cond t 0 (suc (leafOf bs p)) ≡ suc (length bs) → (leafOf bs p ≡ length bs → Outside bs p) → Outside (b ∷ bs) p
-    by true s f rest = absurd (omega arith)
-    by false s f rest = (s, rest (omega arith))
+    by : (t : Bool) → inside b p ≡ t → cond t false (inNone bs p) ≡ true → (inNone bs p ≡ true → Outside bs p) → Outside (b ∷ bs) p
+    by true s f rest = absurd (false≢true f)
+    by false s f rest = (s, rest f)
+
+-- a position lies in no box exactly when `leafOf` answers the count of the boxes
+none-last : (boxes : List Aabb) (p : Floats) → inNone boxes p ≡ eqb (leafOf boxes p) (length boxes)
+unfolding inNone leafOf
+none-last [] p = refl
+none-last (b ∷ bs) p = by (inside b p) (none-last bs p)
+  where
+    by : (t : Bool) → inNone bs p ≡ eqb (leafOf bs p) (length bs) → cond t false (inNone bs p) ≡ eqb (cond t 0 (suc (leafOf bs p))) (suc (length bs))
+    by true e = sym (eqb·zero-suc (length bs))
+    by false e = e ∙ sym (eqb·suc-suc (leafOf bs p) (length bs))
+
+outside-last : (boxes : List Aabb) (ts : List NavPoint) → outsideOf boxes ts ≡ pointsOf boxes (length boxes) ts
+unfolding outsideOf pointsOf
+outside-last boxes [] = refl
+outside-last boxes (t ∷ ts) = rw (none-last boxes (floats (t .position)), outside-last boxes ts)
 
 -- what holds where `leafOf` answers k holds of the points of number k
 points-have : (P : Floats → Type 0) (boxes : List Aabb) (k : ℕ) → ((p : Floats) → leafOf boxes p ≡ k → P p) → (ts : List NavPoint)
@@ -190,7 +206,8 @@ points-have P boxes k h (t ∷ ts) = by (eqb (leafOf boxes (floats (t .position)
 
 -- ---- a cell
 
-pub stored-and-dropped : (c : Cell) → pointCount (sectors c) + length (dropped c) ≡ length (c .points)
+-- "together they make the points of the strip"
+pub stored-and-dropped : (c : Cell) → storedCount c + droppedCount c ≡ length (c .points)
 unfolding sectors treeOf dropped
 stored-and-dropped c =
     let boxes = leafBoxes c in
@@ -203,9 +220,10 @@ stored-and-dropped c =
     let same : total f 0 (length boxes) ≡ total f 0 (4 ^ d) = ap (total f 0) many in
     let z : 0 + length boxes ≡ length boxes = omega arith in
     let last : total f (0 + length boxes) 1 ≡ f (length boxes) = rw z (omega arith) in
+    let none : length (outsideOf boxes (c .points)) ≡ f (length boxes) = ap length (outside-last boxes (c .points)) in
     omega arith
 
-pub stored-at-most : (c : Cell) → pointCount (sectors c) ≤ length (c .points)
+pub stored-at-most : (c : Cell) → storedCount c ≤ length (c .points)
 stored-at-most c = omega (arith, stored-and-dropped c)
 
 -- The leaves in writing order are the boxes that the root's splits into, each with the points of its number; those lie in it and in none before it, and the
@@ -219,4 +237,7 @@ stored-first c k h = points-have (FirstIn (leafBoxes c) k) (leafBoxes c) k (λ p
 
 pub dropped-outside : (c : Cell) → All (λ t. Outside (leafBoxes c) (floats (t .position))) (dropped c)
 unfolding dropped
-dropped-outside c = points-have (Outside (leafBoxes c)) (leafBoxes c) (length (leafBoxes c)) (outside-all (leafBoxes c)) (c .points)
+dropped-outside c =
+    let boxes = leafBoxes c in
+    let none : (p : Floats) → leafOf boxes p ≡ length boxes → Outside boxes p = λ p e. outside-all boxes p (none-last boxes p ∙ eq-eqb (leafOf boxes p) (length boxes) e) in
+    rw (outside-last boxes (c .points)) (points-have (Outside boxes) boxes (length boxes) none (c .points))

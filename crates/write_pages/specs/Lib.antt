@@ -5,4 +5,5 @@ pub mod Pages
 pub mod Checks
 pub mod Reread
 pub mod Accepted
+pub mod PointCounts
 pub mod Stored

@@ -3,16 +3,11 @@ use Prim.Native.Nat.{ℕ, zero, suc, _+_}
 use mathlib.Core.Path.{_≡_}
 use mathlib.Core.Bool.{true, false}
 use mathlib.Core.List.{List, [], _∷_, _++_}
-use lib.ListN.{length}
 use Rattle.math.specs.declared.vec3.Vec3.{Vec3 as Floats}
 use Rattle.quarters.specs.declared.bounds.Aabb.{Aabb}
-use Rattle.strip.specs.Cell.{NavPoint, Cell}
-use Rattle.write_pages.specs.Sectors.{Sector, leaves, depthOf, rootBox, inside, pointsOf}
+use Rattle.strip.specs.Cell.{NavPoint}
+use Rattle.write_pages.specs.Sectors.{Sector, inside}
 use Rattle.write_pages.specs.Sectors.Sector.{leaf, node}
-
--- the boxes of a cell's leaves, in writing order
-abbrev pub leafBoxes : Cell → List Aabb
-leafBoxes c = leaves (depthOf (c .head)) (rootBox (c .head))
 
 -- p is inside box k and inside none before it; p is inside none of the boxes
 abbrev pub FirstIn : List Aabb → ℕ → Floats → Type 0
@@ -23,10 +18,6 @@ FirstIn (b ∷ bs) (suc k) p = (inside b p ≡ false) × FirstIn bs k p
 abbrev pub Outside : List Aabb → Floats → Type 0
 Outside [] p = Unit
 Outside (b ∷ bs) p = (inside b p ≡ false) × Outside bs p
-
--- the points that lie in no leaf: `leafOf` answers the count of the boxes
-unfoldable pub dropped : Cell → List NavPoint
-dropped c = pointsOf (leafBoxes c) (length (leafBoxes c)) (c .points)
 
 -- a tree's leaves in writing order, each with its box and its points
 unfoldable pub leafList : Sector → List (Aabb × List NavPoint)

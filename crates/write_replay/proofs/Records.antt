@@ -11,13 +11,9 @@ use Rattle.ynv_write.specs.declared.Written.{Written}
 use Rattle.write_replay.specs.Agreement.{expectedLength, sumUpTo, checksum, between, SameBytes, Untouched, PagesAgree}
 use Rattle.write_replay.specs.declared.Record.{Record}
 
--- an answer's length
-pub same-length : (w : Written) (n : ℕ) → w .length ≡ n → w ≡ record { length = n }
-same-length w n e = rw (← e)
-
--- a number that is the word at a place
-pub word-by-place : (b : List ℕ) {l v p q : ℕ} → v ≡ leAt 4 b p → l ≡ v → p ≡ q → l ≡ leAt 4 b q
-word-by-place b e f g = rw (f, ← g) e
+-- an answer's values
+pub same-values : (w : Written) {n k l : ℕ} → w .length ≡ n → w .stored ≡ k → w .dropped ≡ l → w ≡ record { length = n; stored = k; dropped = l }
+same-values w e f g = rw (← e, ← f, ← g)
 
 module _ (b : List ℕ) (at : ℕ) where
   pub told-some : (n : ℕ) → leAt 4 b (at + 12) ≡ 0 → n ≡ leAt 4 b (at + 16) → n ≡ expectedLength b at
@@ -38,6 +34,6 @@ module _ (xs : List ℕ) (k s : ℕ) where
   sum-all h g e = let all : length xs ≡ k = omega arith in rw all e
 
 -- the pages' three tests
-pub pages-agreed : (b : List ℕ) (at : ℕ) (r : Record) (pages : List ℕ) (f : ℕ) → f ≡ min (expectedLength b at) (length pages) → checksum (take f pages) ≡ leAt 4 b (at + 20)
+pub pages-agreed : (b : List ℕ) (at : ℕ) (r : Record) (pages : List ℕ) (f : ℕ) → f ≡ min (expectedLength b at) (length pages) → checksum (take f pages) ≡ leAt 4 b (at + 48)
     → SameBytes (between b (r .bytes) (r .«bytes_end»)) pages → Untouched f pages → PagesAgree b at r pages
 pages-agreed b at r pages f e s t u = record { sum = rw (← e) s; bytes = t; rest = rw (← e) u }

@@ -18,7 +18,8 @@ use Rattle.write_replay.specs.declared.Record.{Record}
 
 -- the answer that the record at a place tells
 abbrev pub expected : List ℕ → ℕ → Paper Written
-expected b at = told (record { length = leAt 4 b (at + 16) }) (leAt 4 b (at + 12)) (leAt 4 b (at + 16))
+expected b at =
+    told (record { length = leAt 4 b (at + 16); stored = leAt 4 b (at + 20); dropped = leAt 4 b (at + 24) }) (leAt 4 b (at + 12)) (leAt 4 b (at + 16))
 
 -- the length of its pages
 unfoldable pub expectedLength : List ℕ → ℕ → ℕ
@@ -63,7 +64,7 @@ Untouched from pages = (k : ℕ) → from ≤ k → k < length pages → getD pa
 
 -- the pages have the record's checksum, begin with the bytes that it tells, and are behind its length as they were
 pub record PagesAgree (b : List ℕ) (at : ℕ) (r : Record) (pages : List ℕ) : Type 0 where
-  pub sum : checksum (take (min (expectedLength b at) (length pages)) pages) ≡ leAt 4 b (at + 20)
+  pub sum : checksum (take (min (expectedLength b at) (length pages)) pages) ≡ leAt 4 b (at + 48)
   pub bytes : SameBytes (between b (r .bytes) (r .«bytes_end»)) pages
   pub rest : Untouched (min (expectedLength b at) (length pages)) pages
 
@@ -76,23 +77,23 @@ pub record Agrees (b : List ℕ) (at : ℕ) (r : Record) : Type 0 where
 
 -- where the parts of the record at a place stand
 abbrev pub bytesAt : List ℕ → ℕ → ℕ
-bytesAt b at = recordEnd (length b) (at + 32) (4 * leAt 4 b (at + 28))
+bytesAt b at = recordEnd (length b) (at + 60) (4 * leAt 4 b (at + 56))
 
 abbrev pub nextAt : List ℕ → ℕ → ℕ
-nextAt b at = recordEnd (length b) (bytesAt b at) (padded (leAt 4 b (at + 24)))
+nextAt b at = recordEnd (length b) (bytesAt b at) (padded (leAt 4 b (at + 52)))
 
 abbrev pub recordOf : List ℕ → ℕ → Record
 recordOf b at =
     record {
-      runs = at + 32;
+      runs = at + 60;
       bytes = bytesAt b at;
-      «bytes_end» = recordEnd (length b) (bytesAt b at) (leAt 4 b (at + 24));
+      «bytes_end» = recordEnd (length b) (bytesAt b at) (leAt 4 b (at + 52));
       next = nextAt b at;
     }
 
 -- whether a record stands at a place, and whether its number is one of those that are asked for
 abbrev pub Begins : List ℕ → ℕ → Type 0
-Begins b at = (at + 32 ≤ length b) × (leAt 4 b at ≡ 8)
+Begins b at = (at + 60 ≤ length b) × (leAt 4 b at ≡ 8)
 
 abbrev pub Asked : List ℕ → (low high at : ℕ) → Type 0
 Asked b low high at = Within low high (leAt 4 b (at + 12))

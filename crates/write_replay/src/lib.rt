@@ -1,12 +1,15 @@
 // The records of the writer's list: where their parts stand, and whether an answer and pages are what a record tells.
 // The list is made of 32-bit little-endian words. A record is the word 8; the words of work and the bytes of pages lent; the number, 0 for
-// an accepted strip; the length of its pages, or the place; their checksum, or 0; how many of their bytes are expected; how many words the runs
-// take; the runs; and the bytes expected, padded to whole words. The first word that isn't 8 ends the list.
+// an accepted strip; eight words, of which the first are its values (the length of its pages, points stored, points dropped), or the place; the pages'
+// checksum, or 0; how many of their bytes are expected; how many words the runs take; the runs; and the bytes expected, padded to whole words. The
+// first word that isn't 8 ends the list.
 // What a run is, is said in `write_runs`.
 ghost use mathlib.Core.Path.{_≡_};
 ghost use mathlib.Core.Bool.{true};
 ghost use Prim.Native.Nat.{_+_, _≤_};
+ghost use lib.Dec.{eqb};
 ghost use lib.ListN.{length};
+ghost use Rattle.fields.specs.Bytes.{leAt};
 ghost use Rattle.strip.specs.Outcome.{values};
 ghost use Rattle.ynv_write.specs.Serialize.{paper};
 ghost use Rattle.write_replay.specs.Agreement.{expected, expectedLength, checksum, SameBytes, Untouched, PagesAgree, recordOf, Stands};
@@ -26,13 +29,13 @@ pub struct Record {
 }
 
 pub fn record_at(list: &[u8], at: usize) -> Record
-    requires { ⌜ at + 32 ≤ length (now list) ⌝ }
+    requires { ⌜ at + 60 ≤ length (now list) ⌝ }
     ensures { λ r. ⌜ (r ≡ recordOf (now (list .entry)) at) × Stands at r (length (now (list .entry))) ⌝ }
 {
     let n = list.len();
-    let runs = at + 32;
-    let expected = u32_le(list, at + 24);
-    let bytes = end_of(n, runs, 4 * (u32_le(list, at + 28) as usize));
+    let runs = at + 60;
+    let expected = u32_le(list, at + 52);
+    let bytes = end_of(n, runs, 4 * (u32_le(list, at + 56) as usize));
     Record {
         runs,
         bytes,
@@ -41,27 +44,34 @@ pub fn record_at(list: &[u8], at: usize) -> Record
     }
 }
 
-fn length_agrees(list: &[u8], at: usize, w: Written) -> bool
-    requires { ⌜ at + 32 ≤ length (now list) ⌝ }
+// Whether the word at a place is this number.
+fn word_is(list: &[u8], at: usize, n: usize) -> bool
+    requires { ⌜ at + 4 ≤ length (now list) ⌝ }
+    ensures { λ s. ⌜ s ≡ eqb n (leAt 4 (now (list .entry)) at) ⌝ }
+{
+    n == u32_le(list, at) as usize
+}
+
+fn values_agree(list: &[u8], at: usize, w: Written) -> bool
+    requires { ⌜ at + 60 ≤ length (now list) ⌝ }
     ensures { λ s. ⌜ (s ≡ true → values w ≡ expected (now (list .entry)) at) ⌝ }
 {
-    if u32_le(list, at + 12) == 0 {
-        let told = u32_le(list, at + 16) as usize;
-        if w.length == told {
-            return true;
-        }
-        return false;
+    if u32_le(list, at + 12) == 0
+        && word_is(list, at + 16, w.length)
+        && word_is(list, at + 20, w.stored)
+    {
+        return word_is(list, at + 24, w.dropped);
     }
     false
 }
 
 // Whether an answer is what the record says.
 pub fn answer_agrees(list: &[u8], at: usize, a: SerializeAnswer) -> bool
-    requires { ⌜ at + 32 ≤ length (now list) ⌝ }
+    requires { ⌜ at + 60 ≤ length (now list) ⌝ }
     ensures { λ r. ⌜ (r ≡ true → paper a ≡ expected (now (list .entry)) at) ⌝ }
 {
     match a {
-        SerializeAnswer::Written(w) => length_agrees(list, at, w),
+        SerializeAnswer::Written(w) => values_agree(list, at, w),
         SerializeAnswer::Refused(r) => {
             refusal_agrees(r, u32_le(list, at + 12), u32_le(list, at + 16))
         }
@@ -70,7 +80,7 @@ pub fn answer_agrees(list: &[u8], at: usize, a: SerializeAnswer) -> bool
 
 // The length of the pages that the record tells: 0 where it is refused.
 fn told_length(list: &[u8], at: usize) -> usize
-    requires { ⌜ at + 32 ≤ length (now list) ⌝ }
+    requires { ⌜ at + 60 ≤ length (now list) ⌝ }
     ensures { λ r. ⌜ r ≡ expectedLength (now (list .entry)) at ⌝ }
 {
     if u32_le(list, at + 12) == 0 {
@@ -126,13 +136,13 @@ fn stays_from(pages: &[u8], from: usize) -> bool
 
 // Whether the pages have the record's checksum and its bytes, and are behind them as they were.
 pub fn pages_agree<'a>(list: &'a [u8], at: usize, r: Record, pages: &'a [u8]) -> bool
-    requires { ⌜ (at + 32 ≤ length (now list)) × Stands at r (length (now list)) ⌝ }
+    requires { ⌜ (at + 60 ≤ length (now list)) × Stands at r (length (now list)) ⌝ }
     ensures { λ s. ⌜ (s ≡ true → PagesAgree (now (list .entry)) at r (now (pages .entry))) ⌝ }
 {
     let bytes = r.bytes;
     let bytes_end = r.bytes_end;
     let filled = fields::least(told_length(list, at), pages.len());
-    if checksum(&pages[..filled]) != u32_le(list, at + 20) as u64 {
+    if checksum(&pages[..filled]) != u32_le(list, at + 48) as u64 {
         return false;
     }
     if bytes_agree(&list[bytes..bytes_end], pages) {

@@ -23,7 +23,8 @@ use Rattle.write_plan.specs.Plan.{pointsIn}
 use Rattle.write_plan.proofs.Rest.{boxPart, leafPart, part-long, part-tree, point-count}
 use Rattle.write_leaves.specs.Written.{treeIn, TreeRoom, Wrote}
 use Rattle.write_leaves.specs.declared.SectorCursor.{SectorCursor}
-use Rattle.write_sectors.proofs.Cell.{few-leaves, cell-room, cell-laid}
+use Rattle.write_pages.proofs.LeafCounts.{few-leaves}
+use Rattle.write_sectors.proofs.Cell.{cell-room, cell-laid}
 use Rattle.write_rest.specs.Rest.{WorkKept, SectorsFilled}
 
 module _ (s w : List ℕ) (n : Counts) (K : WorkKept s w n) (places : WorkPlaces) (here : places ≡ workPlaces (length s) n) where

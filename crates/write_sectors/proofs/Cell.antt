@@ -1,51 +1,25 @@
 -- The sectors of a cell: an accepted cell leaves room for them, and they are laid out as its pages have them. Assumes nothing.
-use Prim.Native.Nat.{ℕ, zero, suc, _+_, _*_, _/_, _%_, _^_, _≤_}
+use Prim.Native.Nat.{ℕ, _+_, _*_, _≤_}
 use mathlib.Core.Path.{_≡_, refl}
 use mathlib.Core.List.{List, _++_}
 use native.Mathlib.Omega.{arith}
-use lib.ListN.{length, length-append}
-use Rattle.strip.specs.Cell.{Head, Cell}
-use Rattle.strip.specs.Fits.{All}
+use lib.ListN.{length}
+use Rattle.strip.specs.Cell.{Cell}
 use Rattle.write_blocks.specs.Layout.{endOf}
 use Rattle.write_blocks.specs.Laid.{Laid}
 use Rattle.write_blocks.specs.Lists.{listSizes}
 use Rattle.write_blocks.proofs.Layouts.{end-append, end-ge}
 use Rattle.write_blocks.specs.Optional.{sizeOf}
 use Rattle.write_pages.specs.Sectors as Sectors
-use Rattle.write_pages.specs.Sectors.{Sector, pointCount, leafCounts, leaves, depthBy, depthOf, rootBox, treeOf, treeBlocks}
-use Rattle.write_pages.specs.Sectors.Sector.{leaf, node}
-use Rattle.write_pages.specs.Accepted.{FewIn, Accepted}
+use Rattle.write_pages.specs.Sectors.{Sector, leaves, treeBlocks}
+use Rattle.write_pages.specs.Accepted.{Accepted}
 use Rattle.write_pages.specs.Pages.{Counts, loOf, extentOf, counts, sectors, sizes, sizesOf, pages, endHeader, endVertices, endIndices, endEdges, endPolygons, endSectors}
-use Rattle.strip.proofs.Alls.{all-apart}
 use Rattle.write_pages.proofs.Placed.{pages-short}
 use Rattle.write_pages.proofs.Sizes.{pages-length}
-use Rattle.write_leaf_checks.proofs.LeafVerdicts.{leaves-length}
+use Rattle.write_pages.proofs.LeafCounts.{few-stored}
 use Rattle.write_leaves.specs.declared.SectorCursor.{SectorCursor}
 use Rattle.write_leaves.specs.Written.{TreeRoom, Wrote}
 use Rattle.write_sectors.proofs.Steps.{laid-of}
-
--- ---- its points
-
-pub few-points : (t : Sector) → All FewIn (leafCounts t) → pointCount t ≤ 2048 * length (leafCounts t)
-unfolding leafCounts pointCount
-few-points (leaf b is ts) h = omega (arith, h .0 .points)
-few-points (node b t0 t1 t2 t3) h =
-    let a = all-apart FewIn (leafCounts t0) (leafCounts t1 ++ (leafCounts t2 ++ leafCounts t3)) h in
-    let c = all-apart FewIn (leafCounts t1) (leafCounts t2 ++ leafCounts t3) (a .1) in
-    let d = all-apart FewIn (leafCounts t2) (leafCounts t3) (c .1) in
-    rw (length-append (leafCounts t0) (leafCounts t1 ++ (leafCounts t2 ++ leafCounts t3)), length-append (leafCounts t1) (leafCounts t2 ++ leafCounts t3), length-append (leafCounts t2) (leafCounts t3))
-    (omega (arith, few-points t0 (a .0), few-points t1 (c .0), few-points t2 (d .0), few-points t3 (d .1)))
-
-pub few-leaves : (n : ℕ) → 4 ^ depthBy n ≤ 16
-few-leaves zero = omega arith
-few-leaves (suc n) = omega arith
-
-pub cell-leaves : (c : Cell) → length (leafCounts (sectors c)) ≤ 16
-unfolding sectors treeOf
-cell-leaves c =
-    let h : Head = c .head in
-    let e : length (leafCounts (sectors c)) ≡ 4 ^ depthOf h = leaves-length _ _ (depthOf h) 0 (rootBox h) in
-    omega (arith, few-leaves (h .content / 2 ^ 2 % 2))
 
 -- ---- room
 
@@ -78,7 +52,7 @@ cell-room c a =
     record {
       few = a .leaves;
       small = omega (arith, pages-short c a, sectors-end n t);
-      numbers = omega (arith, few-points t (a .leaves), cell-leaves c);
+      numbers = omega (arith, few-stored c a);
     }
 
 -- ---- the blocks

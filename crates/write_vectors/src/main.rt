@@ -45,7 +45,7 @@ fn strip_room() -> [u32; 214000]
 
 // Writes a strip into as much of the pages, and with as much work, as the record says.
 fn write_record(list: &[u8], at: usize, strip: &[u32], pages: &mut [u8]) -> SerializeAnswer
-    requires { ⌜ at + 32 ≤ length (now list) ⌝ }
+    requires { ⌜ at + 60 ≤ length (now list) ⌝ }
     ensures answer { λ a. ⌜ paper a ≡ shown (outcomeOf (now (list .entry)) at (now (strip .entry)) (length (now (pages .entry)))) ⌝ }
     ensures pages { λ _. ⌜ now (pages .exit) ≡ pagesOf (now (list .entry)) at (now (strip .entry)) (now (pages .entry)) ⌝ }
 {
@@ -57,7 +57,7 @@ fn write_record(list: &[u8], at: usize, strip: &[u32], pages: &mut [u8]) -> Seri
 
 // Whether writing a record's strip gives its answer and its pages, and leaves the rest of them.
 fn agrees(list: &[u8], at: usize, r: Record) -> bool
-    requires { ⌜ (at + 32 ≤ length (now list)) × Stands at r (length (now list)) ⌝ }
+    requires { ⌜ (at + 60 ≤ length (now list)) × Stands at r (length (now list)) ⌝ }
     ensures { λ s. ⌜ (s ≡ true → Agrees (now (list .entry)) at r) ⌝ }
 {
     let runs = r.runs;
@@ -74,7 +74,7 @@ fn agrees(list: &[u8], at: usize, r: Record) -> bool
 
 // The tally with the record at a place, where the record's number is from low to high.
 fn with_record(list: &[u8], at: usize, r: Record, t: Tally, low: u32, high: u32) -> Tally
-    requires { ⌜ (at + 32 ≤ length (now list)) × Stands at r (length (now list)) × Tallied (length (now list)) at t ⌝ }
+    requires { ⌜ (at + 60 ≤ length (now list)) × Stands at r (length (now list)) × Tallied (length (now list)) at t ⌝ }
     ensures { λ s. ⌜ Step (Asked (now (list .entry)) low high at) (Agrees (now (list .entry)) at r) t at s × Tallied (length (now (list .entry))) (at + 1) s ⌝ }
 {
     if asked(u32_le(list, at + 12), low, high) {
@@ -93,7 +93,7 @@ fn tally_of(list: &[u8], low: u32, high: u32) -> Tally
         first: list.len(),
     };
     let mut at = 0;
-    while 32 <= list.len() - at {
+    while 60 <= list.len() - at {
         if u32_le(list, at) != 8 {
             return t;
         }

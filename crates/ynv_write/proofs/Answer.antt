@@ -1,13 +1,18 @@
--- What the call answers after the plan P: its refusal, then 2 where the pages don't fit, and otherwise the length of the cell's pages. Assumes nothing.
-use Prim.Native.Nat.{ℕ, _≤_, _<_}
-use mathlib.Core.Path.{_≡_, _∙_}
+-- What the call answers after the plan P: its refusal, then 2 where the pages don't fit, and otherwise the length of the cell's pages, the points stored and the points dropped. Assumes nothing.
+use Prim.Native.Nat.{ℕ, _+_, _≤_, _<_}
+use native.Mathlib.Omega.{arith}
+use mathlib.Core.Path.{_≡_, ap, _∙_}
 use mathlib.Core.List.{List}
 use lib.ListN.{length}
 use lib.Dec.{ltb}
 use borrow.Author.Tests.{lt-ltb, le-ltb}
 use Rattle.strip.specs.Outcome.{refused, done, values, shown}
 use Rattle.write_pages.specs.Pages.{pages}
+use Rattle.write_pages.specs.PointCounts.{storedCount, droppedCount}
 use Rattle.write_pages.specs.Checks.{fine, faultIf, at, onVerdict}
+use Rattle.write_pages.proofs.Stored.{stored-and-dropped}
+use Rattle.strip.specs.declared.Counts.{Counts}
+use Rattle.strip.proofs.Laid.{counts-back}
 use Rattle.strip.specs.declared.Refusal.{Refusal}
 use Rattle.write_polygon_checks.specs.declared.Verdict.the-variants.{Fine, Refused}
 use Rattle.write_decide.specs.declared.Decision.{Decision}
@@ -15,6 +20,10 @@ use Rattle.write_plan.specs.Plan.{Planned}
 use Rattle.strip.specs.Laid.{cellAt}
 use Rattle.write_plan.proofs.Ready.{ready, verdict-of, refused-so}
 use Rattle.ynv_write.specs.Serialize.{writtenOf, serializeOutcome}
+
+-- the points that are counted are stored or dropped
+pub all-points : (s : List ℕ) (n : Counts) → storedCount (cellAt s n) + droppedCount (cellAt s n) ≡ n .points
+all-points s n = stored-and-dropped (cellAt s n) ∙ ap (λ (m : Counts). m .points) (counts-back s n)
 
 module _ (s w w' : List ℕ) (d : Decision) (P : Planned s w w' d) (out : ℕ) where
   pub refuses : (q : Refusal) → d .verdict ≡ Refused q → serializeOutcome s (length w) out ≡ refused (q .number) (q .place)
@@ -36,7 +45,9 @@ module _ (s w w' : List ℕ) (d : Decision) (P : Planned s w w' d) (out : ℕ) w
     unfolding at
     writes h = decided ∙ rw (le-ltb out (length (pages (cellAt s (d .counts)))) h)
 
-    -- and says its length
-    pub answers-length : length (pages (cellAt s (d .counts))) ≤ out → {n : ℕ} → n ≡ length (pages (cellAt s (d .counts)))
-        → values (record { length = n }) ≡ shown (serializeOutcome s (length w) out)
-    answers-length h e = rw (writes h, e)
+    -- and says its length and its points, which are stored or dropped
+    pub answers : length (pages (cellAt s (d .counts))) ≤ out → {n k l : ℕ} → n ≡ length (pages (cellAt s (d .counts))) → k ≡ storedCount (cellAt s (d .counts)) → k + l ≡ d .counts .points
+        → values (record { length = n; stored = k; dropped = l }) ≡ shown (serializeOutcome s (length w) out)
+    answers h {n} {k} {l} e f g =
+        let lost : l ≡ droppedCount (cellAt s (d .counts)) = omega (arith, all-points s (d .counts)) in
+        rw (writes h, e, f, lost)

@@ -13,10 +13,10 @@ use Rattle.strip.specs.Box.{finiteBox}
 use Rattle.distinct.specs.Distinct.{withNew, distinctFrom}
 use Rattle.areas.specs.Areas.{seeded}
 use Rattle.write_pages.specs.Items.{Corner, cornersIn, triples, named}
-use Rattle.write_pages.specs.Sectors.{treeOf, leafCounts, depthOf, rootBox}
+use Rattle.write_pages.specs.Sectors.{leafCounts, depthOf}
 use Rattle.write_pages.specs.Pages.{loOf, extentOf, links, sectors, pages}
 use Rattle.write_pages.specs.Checks.{Verdict, fine, refused, faultIf, firstFault, at, cornerFault, cornersFault, polygonFault, polygonsVerdict, leafFault, leavesVerdict, cellVerdict}
-use Rattle.write_leaf_checks.proofs.LeafVerdicts.{leaves-length}
+use Rattle.write_pages.proofs.LeafCounts.{cell-leaves}
 use Rattle.ynv_write.specs.Theorems.{Named, short-work, endless-box, many-polygons, vertex-count, late-start, many-vertices, many-areas, polygon-links, many-ids, many-points, many-portals, many-links, short-pages}
 
 pub above-zero : {c : Cell} {number place : ℕ} → Named c number place → 0 < number
@@ -117,10 +117,6 @@ module _ (c : Cell) where
   leaves-named l [] rest e k = k
   leaves-named l (n ∷ ns) rest e k = at-named l _ _ (leaf-named l n (omega arith)) (leaves-named (l + 1) ns rest (omega arith) k)
 
-  leaf-count : length (leafCounts (sectors c)) ≡ 4 ^ depthOf (c .head)
-  unfolding sectors treeOf
-  leaf-count = leaves-length _ _ (depthOf (c .head)) 0 (rootBox (c .head))
-
   -- ---- all of them
 
   pub cell-named : (words work out : ℕ) → AsNamed (cellVerdict words work out c)
@@ -130,7 +126,7 @@ module _ (c : Cell) where
       (first-named (At 0) _
       (when-named (ltb (work / 4) words) 0 short-work, (when-named (not (finiteBox (c .head))) 9 endless-box, (when-named (ltb 16383 (length (c .polys))) 10 many-polygons, tt))))
       (polygons-named (loOf c) (extentOf c) [] (seeded (c .head .area)) 0 0 (c .polys) _ (omega arith)
-      (leaves-named 0 (leafCounts (sectors c)) _ (omega (arith, leaf-count))
+      (leaves-named 0 (leafCounts (sectors c)) _ (omega (arith, cell-leaves c))
       (at-named 0 _ _
       (first-named (At 0) _
       (when-named (ltb 585 (length (c .portals))) 18 many-portals, (when-named (ltb 8192 (length (links c))) 19 many-links, (when-named (ltb out (length (pages c))) 1 short-pages, tt))))

@@ -1,7 +1,7 @@
 -- The writer's theorems, on what `serialize_ynv` decides. It accepts exactly when the strip is well formed, work has four words to each of its words,
 -- and its cell is accepted and has pages that fit, with those pages and their length (`accepted-exactly`); the blocks of what is written stand as the
--- layout promises (`written-placed`); each refusal is one that is named for writing, with its place (`refused-named`). Assumes nothing.
-use Prim.Native.Nat.{ℕ, _/_, _^_, _≤_, _<_}
+-- layout promises (`written-placed`); points stored and points dropped make the cell's (`points-told`); each refusal is one that is named for writing, with its place (`refused-named`). Assumes nothing.
+use Prim.Native.Nat.{ℕ, _+_, _/_, _^_, _≤_, _<_}
 use native.Mathlib.Omega.{arith}
 use mathlib.Core.Path.{_≡_, refl, subst}
 use mathlib.Core.List.{List}
@@ -19,6 +19,7 @@ use Rattle.write_pages.specs.Checks.{Verdict, fine, refused, onVerdict, cellVer
 use Rattle.write_pages.specs.Accepted.{Accepted}
 use Rattle.write_pages.proofs.Accepted.{accepted}
 use Rattle.write_pages.proofs.Placed.{pages-placed, pages-short}
+use Rattle.write_pages.proofs.Stored.{stored-and-dropped}
 use Rattle.ynv_write.specs.declared.Written.{Written}
 use Rattle.ynv_write.specs.Serialize.{writtenOf, serializeOutcome}
 use Rattle.ynv_write.specs.Theorems.{Named, Accepts}
@@ -60,14 +61,18 @@ module _ (strip : List ℕ) (work out : ℕ) where
       there e =
           let (c, scanned, passes, told, bytes) = scan-done (scan strip) e in
           let (enough, acc, fits) = accepted (length strip) work out c .0 passes in
-          record { cell = c; scanned = scanned; work-fits = enough; accepted = acc; pages-fit = fits; bytes = bytes; length-told = told }
+          record { cell = c; scanned = scanned; work-fits = enough; accepted = acc; pages-fit = fits; bytes = bytes; values-told = told }
 
       back : Accepts strip work out w ps → serializeOutcome strip work out ≡ Outcome.done w ps
-      back a = rw (a .scanned, accepted (length strip) work out (a .cell) .1 (a .work-fits, a .accepted, a .pages-fit), a .length-told, a .bytes)
+      back a = rw (a .scanned, accepted (length strip) work out (a .cell) .1 (a .work-fits, a .accepted, a .pages-fit), a .values-told, a .bytes)
 
   -- the blocks of what is written stand as the layout promises, and no address in them is one of the graphics section
   pub written-placed : {w : Written} {ps : List ℕ} (a : Accepts strip work out w ps) → Placed (blocks (a .cell)) × (length ps < 2 ^ 28)
   written-placed a = (pages-placed (a .cell) (a .accepted), rw (a .bytes) (pages-short (a .cell) (a .accepted)))
+
+  -- the points that it says are stored and dropped "together make the points of the strip"
+  pub points-told : {w : Written} {ps : List ℕ} (a : Accepts strip work out w ps) → w .stored + w .dropped ≡ length (a .cell .points)
+  points-told a = rw (a .values-told) (stored-and-dropped (a .cell))
 
   -- ---- refused
 

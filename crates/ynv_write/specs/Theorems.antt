@@ -12,7 +12,7 @@ use Rattle.ynv_write.specs.declared.Written.{Written}
 use Rattle.ynv_write.specs.Serialize.{writtenOf}
 
 -- of a strip, with so many words of work and bytes of pages lent: it stands for a cell that passes every listed check, the work is four times the
--- strip, the pages fit, the bytes are the cell's pages, and the answer is their length
+-- strip, the pages fit, the bytes are the cell's pages, and the answer is their length and the points
 pub record Accepts (strip : List ℕ) (work out : ℕ) (w : Written) (ps : List ℕ) : Type 0 where
   pub cell : Cell
   pub scanned : scan strip ≡ ok cell
@@ -20,7 +20,7 @@ pub record Accepts (strip : List ℕ) (work out : ℕ) (w : Written) (ps : List 
   pub accepted : Accepted cell
   pub pages-fit : length (pages cell) ≤ out
   pub bytes : ps ≡ pages cell
-  pub length-told : w ≡ writtenOf cell
+  pub values-told : w ≡ writtenOf cell
 
 -- The refusals that are named for writing a cell, each with its number and place: all but 3, which is the strip's.
 -- The place of 12 to 16 is a polygon's number, and that of 17 and 18 a leaf's, of which there are 16, or 1 where content bit 2 is set.

@@ -6,9 +6,11 @@ ghost use Rattle.ynv_write.specs.Serialize.{paper, serializeOutcome};
 use strip::Refusal;
 use write_polygon_checks::Verdict;
 
-// What an accepted strip came to: the pages' length in bytes.
+// What an accepted strip came to: the pages' length in bytes, how many of its points they store, and how many lie in no leaf and are dropped.
 pub struct Written {
     pub length: usize,
+    pub stored: usize,
+    pub dropped: usize,
 }
 
 pub enum SerializeAnswer {
@@ -34,8 +36,14 @@ pub fn serialize_ynv(strip: &[u32], work: &mut [u32], pages: &mut [u8]) -> Seria
                     place: 0,
                 });
             }
-            write_fill::fill(strip, d, extent.sectors, work, pages);
-            SerializeAnswer::Written(Written { length })
+            let counts = d.counts;
+            let stored = write_fill::fill(strip, d, extent.sectors, work, pages) as usize;
+            let dropped = counts.points - stored;
+            SerializeAnswer::Written(Written {
+                length,
+                stored,
+                dropped,
+            })
         }
         Verdict::Refused(r) => SerializeAnswer::Refused(r),
     }

@@ -5,6 +5,7 @@ pub mod damage;
 pub mod floats;
 pub mod limits;
 pub mod pages;
+pub mod points;
 mod rng;
 pub mod sizes;
 pub mod spots;

@@ -1,17 +1,17 @@
 //! Strips for the writer: cells of all shapes, odd floats and edges, cells beside each
-//! limit, several faults at once, damaged strips.
+//! limit, several faults at once, damaged strips, points about the leaves.
 
 use rage::math::Vec3;
 use rage::ynv::{NavEdge, NavPoint, NavPoly, NavPortal, Ynv};
 use strips::encode;
 
 use crate::cells::{self, edge_end, empty_grid, empty_vehicle, vec3};
-use crate::{damage, floats, Rng};
+use crate::{damage, floats, points, Rng};
 
 /// A generator and its name.
 pub type Shape = (&'static str, fn(&mut Rng) -> Vec<u32>);
 
-pub const SHAPES: [Shape; 8] = [
+pub const SHAPES: [Shape; 9] = [
     ("cells", |rng| encode(&cells::valid(rng))),
     ("wild cells", |rng| encode(&cells::wild(rng))),
     ("small cells", |rng| encode(&cells::small_vehicle(rng))),
@@ -20,11 +20,12 @@ pub const SHAPES: [Shape; 8] = [
     ("beside a limit", beside_a_limit),
     ("several faults", several_faults),
     ("damaged strips", damage::strip),
+    ("points about leaves", points::about_leaves),
 ];
 
 /// A strip of any shape but the two that make long ones.
 pub fn any(rng: &mut Rng) -> Vec<u32> {
-    let (_, shape) = SHAPES[rng.pick(&[0, 1, 2, 3, 4, 7])];
+    let (_, shape) = SHAPES[rng.pick(&[0, 1, 2, 3, 4, 7, 8])];
     shape(rng)
 }
 
@@ -118,7 +119,7 @@ fn portals(rng: &mut Rng, count: usize) -> Vec<NavPortal> {
 }
 
 /// Points in one place, one of the corners where leaves meet or the middle of a leaf.
-fn points(rng: &mut Rng, count: usize) -> Vec<NavPoint> {
+fn crowd(rng: &mut Rng, count: usize) -> Vec<NavPoint> {
     let side = |rng: &mut Rng| rng.pick(&[0.0, 20.0, 37.5, 75.0, 80.0, 112.5, 150.0]);
     let position = vec3(side(rng), side(rng), 1.0);
     vec![NavPoint { position, angle: rng.u32() as u8, kind: 7 }; count]
@@ -161,7 +162,7 @@ fn beside_a_limit(rng: &mut Rng) -> Vec<u32> {
         }
         1 => {
             let count = beside(rng, 2048);
-            cell.points = points(rng, count);
+            cell.points = crowd(rng, count);
         }
         2 => {
             let counts = [3, beside(rng, 2047), rng.below(5), 3];
@@ -216,7 +217,7 @@ fn several_faults(rng: &mut Rng) -> Vec<u32> {
             7..=8 => cell.polys[n].portal_links = vec![1; 8 + rng.below(8)],
             9 => {
                 let count = 2049 + rng.below(2);
-                cell.points = points(rng, count);
+                cell.points = crowd(rng, count);
             }
             10 => cell.portals = portals(rng, 586),
             _ => cell.polys.extend(links(rng, 8193, vec3(-900.0, -900.0, 0.0))),

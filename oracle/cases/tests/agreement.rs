@@ -4,9 +4,9 @@
 
 use std::collections::BTreeMap;
 
-use cases::{cells, damage, pages, Rng};
+use cases::{cells, damage, pages, points, Rng};
 use rage::ynv::Ynv;
-use strips::{counts, derive, encode, judge_write, laid_out, refuses_reading, refuses_writing, reread};
+use strips::{counts, derive, encode, judge_write, laid_out, point_counts, refuses_reading, refuses_writing, reread};
 use strips::{rust_read, rust_write, scan, RustRead, RustWrite};
 
 const CASES: u64 = 30_000;
@@ -20,7 +20,11 @@ fn writing() {
     let mut rng = Rng::new(1);
     let mut seen = BTreeMap::new();
     for n in 0..CASES {
-        let cell = if n % 3 == 0 { cells::valid(&mut rng) } else { cells::wild(&mut rng) };
+        let cell = match n % 4 {
+            0 => cells::valid(&mut rng),
+            1 => scan(&points::about_leaves(&mut rng)).expect("a cell"),
+            _ => cells::wild(&mut rng),
+        };
         let judged = judge_write(&cell);
         *seen.entry(judged.err().map_or(0, |r| r.number)).or_insert(0) += 1;
         match (judged, rust_write(&cell)) {
@@ -41,6 +45,8 @@ fn read_back(cell: &Ynv, bytes: &[u8]) {
     let words = encode(&read);
     assert_eq!(words, encode(&derived.cell));
     assert_eq!(words, encode(&reread(cell)));
+    let points = point_counts(cell);
+    assert_eq!((points.stored, points.stored + points.dropped), (read.points.len(), cell.points.len()));
     assert_eq!(derived.sectors, if cell.content_flags & 4 != 0 { 1 } else { 21 });
     assert_eq!(derive(&[bytes, &[0; 100]].concat(), &[0; 8]).unwrap(), derived);
 }

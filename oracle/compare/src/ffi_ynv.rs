@@ -31,8 +31,7 @@ extern "C" {
     /// The four sides as float bits.
     fn ynv_cell_bounds(cx: u32, cy: u32, answer: *mut u64) -> u32;
 
-    /// 0 with the bytes written and seven zeros in the answer; or the refusal's number with
-    /// its place in answer[0], the others left as they are.
+    /// Bytes written, points stored, points dropped.
     fn ynv_serialize(
         strip: *const u32,
         strip_len: usize,

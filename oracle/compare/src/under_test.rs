@@ -81,7 +81,7 @@ pub const WRITER: &str = if cfg!(feature = "ynv") {
     "the judge's own pages (the library with --features ynv)"
 };
 
-/// The writer's call by the judge's checks and document 01's layout, without the Rust.
+/// The writer's call by the judge's checks and counts and document 01's layout, without the Rust.
 #[cfg(not(feature = "ynv"))]
 pub fn serialize(strip: &[u32], work: &mut [u32], pages: &mut [u8], answer: &mut [u64; 8]) -> u32 {
     let made = || {
@@ -94,17 +94,18 @@ pub fn serialize(strip: &[u32], work: &mut [u32], pages: &mut [u8], answer: &mut
         if bytes.len() > pages.len() {
             return Err(strips::Refusal::new(2, 0));
         }
-        Ok(bytes)
+        let values = crate::writing::values(bytes.len(), strips::point_counts(&cell));
+        Ok((bytes, values))
     };
     match made() {
         Err(refusal) => {
             answer[0] = refusal.place as u64;
             refusal.number
         }
-        Ok(bytes) => {
+        Ok((bytes, values)) => {
             work[..2 * strip.len()].fill(0x0BAD_0BAD);
             pages[..bytes.len()].copy_from_slice(&bytes);
-            *answer = crate::writing::values(bytes.len());
+            *answer = values;
             0
         }
     }

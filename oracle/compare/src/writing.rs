@@ -1,7 +1,10 @@
-//! Calls of the writer held to what they must answer: number, place or length, bytes, and
+//! Calls of the writer held to what they must answer: number, place or values, bytes, and
 //! that nothing else changed; and what reading the written pages gives.
 
-use strips::{counts, encode, expected_write, laid_out, reread, scan, Refusal, WriteAnswer};
+use rage::resource::u32_le;
+use rage::ynv::Ynv;
+use strips::{counts, encode, expected_write, laid_out, point_counts, reread, scan};
+use strips::{PointCounts, Refusal, WriteAnswer};
 
 use crate::reading;
 use crate::under_test;
@@ -9,11 +12,15 @@ use crate::under_test;
 /// Words and bytes that lie around what is lent and are not lent.
 const MARGIN: usize = 8;
 const DIRT: u64 = 0xD1D1_D1D1_D1D1_D1D1;
+/// Where the header counts the points stored.
+const POINTS_STORED: usize = 0x148;
 
 /// The answer words of an accepted call.
-pub fn values(length: usize) -> [u64; 8] {
+pub fn values(length: usize, points: PointCounts) -> [u64; 8] {
     let mut out = [0; 8];
-    out[0] = length as u64;
+    for (to, value) in out.iter_mut().zip([length, points.stored, points.dropped]) {
+        *to = value as u64;
+    }
     out
 }
 
@@ -21,7 +28,16 @@ pub fn values(length: usize) -> [u64; 8] {
 /// ones the Rust's bytes, which must be those that document 01 alone gives.
 pub enum Write {
     Refused(Refusal),
-    Bytes(Vec<u8>),
+    Pages { bytes: Vec<u8>, values: [u64; 8] },
+}
+
+/// The points of an accepted cell by the judge, which must be the strip's, and the Rust's
+/// where its header counts them.
+fn judged_points(cell: &Ynv, bytes: &[u8]) -> PointCounts {
+    let points = point_counts(cell);
+    assert_eq!(points.stored + points.dropped, cell.points.len(), "stored and dropped are not the cell's points");
+    assert_eq!(points.stored, u32_le(bytes, POINTS_STORED) as usize, "document 02's points are not the Rust's");
+    points
 }
 
 impl Write {
@@ -31,19 +47,20 @@ impl Write {
             WriteAnswer::Bytes(bytes) => {
                 let cell = scan(strip).expect("an accepted strip is well formed");
                 assert!(bytes == laid_out(&cell), "document 01's pages are not the Rust's");
-                Write::Bytes(bytes)
+                let values = values(bytes.len(), judged_points(&cell, &bytes));
+                Write::Pages { bytes, values }
             }
         }
     }
 
-    /// The bytes of an accepted call, or its refusal, with work and room this long.
-    pub fn lent(&self, strip: usize, work: usize, room: usize) -> Result<&[u8], Refusal> {
+    /// The bytes and values of an accepted call, or its refusal, with work and room this long.
+    pub fn lent(&self, strip: usize, work: usize, room: usize) -> Result<(&[u8], [u64; 8]), Refusal> {
         match self {
             Write::Refused(refusal) if refusal.number == 3 => Err(*refusal),
             _ if work / 4 < strip => Err(Refusal::new(1, 0)),
             Write::Refused(refusal) => Err(*refusal),
-            Write::Bytes(bytes) if room < bytes.len() => Err(Refusal::new(2, 0)),
-            Write::Bytes(bytes) => Ok(bytes),
+            Write::Pages { bytes, .. } if room < bytes.len() => Err(Refusal::new(2, 0)),
+            Write::Pages { bytes, values } => Ok((bytes, *values)),
         }
     }
 }
@@ -59,16 +76,25 @@ fn differs<T: PartialEq>(found: &[T], wanted: &[T], from: usize) -> Option<isize
     Some(at as isize - MARGIN as isize)
 }
 
-/// One call with so many dirty words of work and dirty bytes of room. The number that it
-/// must answer and the lent pages behind it; or what it did instead.
-pub fn call(strip: &[u32], write: &Write, work: usize, room: usize) -> Result<(u32, Vec<u8>), String> {
+/// A call that answered what it must.
+pub struct Called {
+    pub number: u32,
+    /// The points stored, by its answer; 0 for a refusal.
+    pub stored: u64,
+    /// The lent pages behind it.
+    pub pages: Vec<u8>,
+}
+
+/// One call with so many dirty words of work and dirty bytes of room; or what it did instead
+/// of what it must.
+pub fn call(strip: &[u32], write: &Write, work: usize, room: usize) -> Result<Called, String> {
     let work_before: Vec<u32> = (0..work + 2 * MARGIN).map(dirty).collect();
     let mut wanted: Vec<u8> = (0..room + 2 * MARGIN).map(|n| (dirty(n) >> 24) as u8).collect();
     let (mut pages, mut wanted_answer) = (wanted.clone(), [DIRT; 8]);
     let wanted_number = match write.lent(strip.len(), work, room) {
-        Ok(bytes) => {
+        Ok((bytes, values)) => {
             wanted[MARGIN..MARGIN + bytes.len()].copy_from_slice(bytes);
-            wanted_answer = values(bytes.len());
+            wanted_answer = values;
             0
         }
         Err(refusal) => {
@@ -100,7 +126,12 @@ pub fn call(strip: &[u32], write: &Write, work: usize, room: usize) -> Result<(u
         return Err("the strip changed".into());
     }
     pages.truncate(MARGIN + room);
-    Ok((number, pages.split_off(MARGIN)))
+    let pages = pages.split_off(MARGIN);
+    let stored = if number == 0 { answer[1] } else { 0 };
+    if number == 0 && stored != u64::from(u32_le(&pages, POINTS_STORED)) {
+        return Err(format!("answers {stored} points stored, its header {}", u32_le(&pages, POINTS_STORED)));
+    }
+    Ok(Called { number, stored, pages })
 }
 
 /// What reading an accepted strip's pages must give: words and answer.
@@ -119,12 +150,16 @@ impl Reread {
         Reread { words, values }
     }
 
-    /// Reads the pages with a graphics section beside them into a strip exactly long enough.
-    pub fn call(&self, system: &[u8], graphics: &[u8]) -> Result<(), String> {
+    /// Reads what a call wrote, with a graphics section beside it, into a strip exactly long
+    /// enough.
+    pub fn call(&self, written: &Called, graphics: &[u8]) -> Result<(), String> {
         let (mut strip, mut answer) = (vec![0xDEAD_BEEF; self.words.len()], [DIRT; 8]);
-        let number = under_test::parse(system, graphics, &mut strip, &mut answer);
+        let number = under_test::parse(&written.pages, graphics, &mut strip, &mut answer);
         if (number, answer) != (0, self.values) {
             return Err(format!("read back, answers {number} {answer:x?}, not 0 {:x?}", self.values));
+        }
+        if answer[3] != written.stored {
+            return Err(format!("read back, {} points, of {} stored", answer[3], written.stored));
         }
         match (0..strip.len()).find(|&at| strip[at] != self.words[at]) {
             Some(at) => Err(format!("read back, word {at} is {:#x}, not {:#x}", strip[at], self.words[at])),

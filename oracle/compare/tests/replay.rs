@@ -97,23 +97,25 @@ fn replay_writing() {
     assert_eq!(bytes, writing::all().bytes(), "the list is the same each time");
     assert!((0..=3).chain(10..=20).all(|number| list.counts[&number] >= 4));
     assert!(list.counts.values().sum::<usize>() >= 300);
+    assert!(list.dropping >= 8);
 
     let words = words(&bytes);
     let mut at = 0;
     while words[at] != 0 {
-        let record: [u32; 8] = words[at..at + 8].try_into().unwrap();
-        let [8, work, room, number, value, sum, told, runs] = record else { panic!("no record at {at}") };
-        let (runs, rest) = words[at + 8..].split_at(runs as usize);
+        let record: [u32; 15] = words[at..at + 15].try_into().unwrap();
+        let [8, work, room, number, .., sum, told, runs] = record else { panic!("no record at {at}") };
+        let values = &record[4..12];
+        let (runs, rest) = words[at + 15..].split_at(runs as usize);
         let strip = writing::unrolled(runs);
         let (mut lent, mut pages, mut answer) = (vec![!0; work as usize], vec![0xD1; room as usize], [0; 8]);
         assert_eq!(under_test::serialize(&strip, &mut lent, &mut pages, &mut answer), number, "at word {at}");
-        assert_eq!(answer[0], value as u64, "at word {at}");
-        let filled = if number == 0 { value as usize } else { 0 };
+        assert_eq!(answer.map(|word| word as u32), values, "at word {at}");
+        let filled = if number == 0 { values[0] as usize } else { 0 };
         assert_eq!(if number == 0 { writing::checksum(&pages[..filled]) } else { 0 }, sum, "at word {at}");
         assert!(pages[filled..].iter().all(|&byte| byte == 0xD1), "at word {at}");
         let padded = (told as usize).div_ceil(4);
         assert_eq!(section(&rest[..padded], told as usize), pages[..told as usize], "at word {at}");
-        at += 8 + runs.len() + padded;
+        at += 15 + runs.len() + padded;
     }
     assert_eq!(words[at..], [0]);
 }

@@ -1,4 +1,4 @@
--- `write_fill::fill` meets its contract: the lists, the rest behind them and the header, stored last, are the cell's pages (`filled`). Assumes nothing.
+-- `write_fill::fill` meets its contract: the lists, the rest behind them and the header, stored last, are the cell's pages (`filled`), and the points are counted by the sectors. Assumes nothing.
 use mathlib.Core.Path.{ap, _∙_}
 use lib.ListN.{length}
 use Rattle.fields.proofs.Puts.{length-put}
@@ -51,13 +51,14 @@ returns c =
     let known = after-fill-lists .before .before .before .before .before in
     let entry = known .before in
     let listed = after-fill-lists .fill-lists .ensures in
-    filled (entry .args .strip .now) (entry .args .work .now) (entry .args .d) (entry .pre .0) (listed .0) (after-fill-rest .fill-rest .ensures) (λ k. known .shared-slice-known .given k .fits) (listed .1) _ (after-addresses .addresses .ensures) _ (entry .pre .1) _ (after-totals .totals .ensures) (after-put-header .put-header .ensures)
+    let rest = after-fill-rest .fill-rest .ensures in
+    (filled (entry .args .strip .now) (entry .args .work .now) (entry .args .d) (entry .pre .0) (listed .0) rest (λ k. known .shared-slice-known .given k .fits) (listed .1) _ (after-addresses .addresses .ensures) _ (entry .pre .1) _ (after-totals .totals .ensures) (after-put-header .put-header .ensures), rest .points)
 
 same-length : tie.Need-same-length
 same-length c = search needs
 
 same-length-2 : tie.Need-same-length-2
-same-length-2 c = ap length (returns c .bytes) ∙ length-put 0 _ _
+same-length-2 c = ap length (returns c .0 .bytes) ∙ length-put 0 _ _
 
 pub fill-spec : {M : Type 1} → statement M
 fill-spec =

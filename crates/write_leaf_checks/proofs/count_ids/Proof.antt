@@ -37,10 +37,10 @@ one-if-requires : tie.Need-one-if-requires Inv-loop μ-loop
 one-if-requires c κs = tt
 
 cast-n : tie.Need-cast-n Inv-loop μ-loop
-cast-n c = omega (arith, c .one-if .ensures, keep-one (c .before .meets-at .result))
+cast-n c = omega (arith, c .one-if .ensures .1)
 
 add-n : tie.Need-add-n Inv-loop μ-loop
-add-n c = omega (arith, c .one-if .ensures, keep-one (c .before .meets-at .result))
+add-n c = omega (arith, c .one-if .ensures .1)
 
 add-i : tie.Need-add-i Inv-loop μ-loop
 add-i c = omega arith
@@ -54,7 +54,7 @@ loop-again c =
     let a = t .before .before .args in
     let q = a .q in
     let b = meets q (boxAt (now (a .boxes)) (3 * t .loop .i)) in
-    let o : c .one-if .result ≡ cond b 1 0 = rw (c .before .meets-at .ensures) at (c .one-if .ensures) in
+    let o : c .one-if .result ≡ cond b 1 0 = rw (c .before .meets-at .ensures) at (c .one-if .ensures .0) in
     let e = count-ids-turn (now (a .boxes)) q (t .loop .i) (length (now (a .boxes)) / 3) (omega arith) in
     let k = keep-one b in
     (t .loop .inv .0, omega arith, omega arith, rw (t .loop .inv .0) (omega arith))

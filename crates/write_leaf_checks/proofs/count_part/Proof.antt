@@ -2,11 +2,10 @@
 use mathlib.Core.Path.{_≡_}
 use Prim.Native.Nat.{_+_, _-_, _≤_}
 use native.Mathlib.Omega.{arith}
-use lib.Dec.{eqb}
 use lib.ListN.{getD}
 use denote.Ref.{now}
 use Rattle.write_leaf_checks.specs.Work.{countIn}
-use Rattle.write_leaf_checks.proofs.Picks.{keep-one, one-swapped, count-turn, count-end}
+use Rattle.write_leaf_checks.proofs.Picks.{one-swapped, count-turn, count-end}
 use Rattle.write_leaf_checks.proofs.count_part.Statement.{statement}
 use Rattle.write_leaf_checks.proofs.count_part.Tie as tie
 
@@ -29,11 +28,7 @@ one-if-requires : tie.Need-one-if-requires Inv-loop μ-loop
 one-if-requires c κs = tt
 
 add-n : tie.Need-add-n Inv-loop μ-loop
-add-n c =
-    let t = c .before .before .before in
-    let a = t .before .before .args in
-    let x = getD (now (a .leaf-numbers)) (t .loop .i) 0 in
-    omega (arith, c .one-if .ensures, keep-one (eqb x (a .k)), one-swapped x (a .k))
+add-n c = omega (arith, c .one-if .ensures .1)
 
 add-i : tie.Need-add-i Inv-loop μ-loop
 add-i c = omega arith
@@ -48,10 +43,8 @@ loop-again c =
     let w = now (a .leaf-numbers) in
     let e = count-turn w (a .k) (t .loop .i) (a .to) (omega arith) in
     let one = c .one-if .ensures in
-    let x = getD w (t .loop .i) 0 in
-    let few = keep-one (eqb x (a .k)) in
-    let swapped = one-swapped x (a .k) in
-    (omega arith, omega (arith, one, few, swapped), omega (arith, e, one, swapped))
+    let swapped = one-swapped (getD w (t .loop .i) 0) (a .k) in
+    (omega arith, omega (arith, one .1), omega (arith, e, one .0, swapped))
 
 returns : tie.Need-returns Inv-loop μ-loop
 returns c =

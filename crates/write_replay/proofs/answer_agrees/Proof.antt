@@ -7,7 +7,7 @@ use Rattle.write_replay.proofs.answer_agrees.Statement.{statement}
 use Rattle.write_replay.proofs.answer_agrees.Tie as tie
 
 returns : tie.Need-returns
-returns c = λ h. ap paper (c .before .before .a .given .1) ∙ c .length-agrees .ensures h
+returns c = λ h. ap paper (c .before .before .a .given .1) ∙ c .values-agree .ensures h
 
 returns-2 : tie.Need-returns-2
 returns-2 c = λ h.

@@ -8,7 +8,7 @@ use Rattle.write_pages.specs.Pages.{pages}
 use Rattle.strip.specs.Laid.{cellAt}
 use Rattle.write_plan.proofs.Ready.{ready}
 use Rattle.write_ends.proofs.Planned.{pages-reached}
-use Rattle.ynv_write.proofs.Answer.{refuses, too-short, writes, answers-length}
+use Rattle.ynv_write.proofs.Answer.{refuses, too-short, all-points, writes, answers}
 use borrow.Author.Needs.{needs}
 use Rattle.ynv_write.proofs.serialize_ynv.Statement.{statement}
 use Rattle.ynv_write.proofs.serialize_ynv.Tie as tie
@@ -36,9 +36,21 @@ returns c =
 
 fill-requires : tie.Need-fill-requires
 fill-requires c κs =
-    let after-enum-told = c .before .before .before .before .before in
+    let after-pages-end = c .before .before .before .before in
+    let after-enum-told = after-pages-end .before .before in
     let after-plan = after-enum-told .before .before .before .before in
-    (ready _ _ _ _ (after-plan .plan .ensures) (after-enum-told .enum-told .given .1), c .before .before .before .pages-end .ensures .1)
+    (ready _ _ _ _ (after-plan .plan .ensures) (after-enum-told .enum-told .given .1), after-pages-end .pages-end .ensures .1)
+
+cast-stored : tie.Need-cast-stored
+cast-stored c = search needs
+
+-- no more are stored than there are
+sub-dropped : tie.Need-sub-dropped
+sub-dropped c =
+    let after-fill = c .before .before .before .before .before in
+    let planned = after-fill .before .before .before .before .before .before .before .before .before .before .before in
+    let entry = planned .before .before .before .before .before in
+    omega (arith, after-fill .fill .ensures .1, all-points (entry .args .strip .now) (planned .plan .result .counts))
 
 enum-known-verdict : tie.Need-enum-known-verdict
 enum-known-verdict c = search needs
@@ -51,8 +63,8 @@ same-length-3 c = search needs
 
 returns-2 : tie.Need-returns-2
 returns-2 c =
-    let after-fill = c .before .before .before .before in
-    let at-if1 = after-fill .before .before .before in
+    let after-fill = c .before .before .before .before .before in
+    let at-if1 = after-fill .before .before .before .before in
     let after-pages-end = at-if1 .before in
     let fine = after-pages-end .before .before in
     let planned = fine .before .before .before .before in
@@ -64,8 +76,9 @@ returns-2 c =
     let none = fine .enum-told .given .1 in
     let long = pages-reached (cellAt (a .strip .now) (planned .plan .result .counts)) (ended .ensures .0) in
     let room : length (pages (cellAt (a .strip .now) (planned .plan .result .counts))) ≤ out = omega (arith, at-if1 .if1 .left, long) in
-    let F = after-fill .fill .ensures in
-    (answers-length (a .strip .now) (a .work .now) _ _ P out none room long, (rw (writes (a .strip .now) (a .work .now) _ _ P out none room) (F .bytes ∙ put-whole _ _ room), F .long ∙ P .long))
+    let F = after-fill .fill .ensures .0 in
+    let stored = after-fill .fill .ensures .1 in
+    (answers (a .strip .now) (a .work .now) _ _ P out none room long (omega (arith, stored)) (omega (arith, stored, all-points (a .strip .now) (planned .plan .result .counts))), (rw (writes (a .strip .now) (a .work .now) _ _ P out none room) (F .bytes ∙ put-whole _ _ room), F .long ∙ P .long))
 
 same-length-4 : tie.Need-same-length-4
 same-length-4 c = search needs
@@ -88,6 +101,8 @@ serialize-ynv-spec =
     same-length
     returns
     fill-requires
+    cast-stored
+    sub-dropped
     enum-known-verdict
     same-length-2
     same-length-3

@@ -94,8 +94,8 @@ struct Memory {
     answer: Lender<u64>,
 }
 
-/// The number answered and the first answer word; or what was changed that must stay.
-type Answer = Result<(u32, u64), &'static str>;
+/// The number answered and the answer words that it wrote; or what was changed that must stay.
+type Answer = Result<(u32, [u64; 8]), &'static str>;
 
 fn held(ok: bool, what: &'static str) -> Result<(), &'static str> {
     ok.then_some(()).ok_or(what)
@@ -104,8 +104,11 @@ fn held(ok: bool, what: &'static str) -> Result<(), &'static str> {
 impl Memory {
     /// The eight words of the answer: all of them by an accepted call, else the first.
     fn answered(&mut self, number: u32) -> Answer {
-        held(self.answer.stays_from(if number == 0 { 8 } else { 1 }), "the answer's other words")?;
-        Ok((number, self.answer.items()[0]))
+        let words = if number == 0 { 8 } else { 1 };
+        held(self.answer.stays_from(words), "the answer's other words")?;
+        let mut said = [0; 8];
+        said[..words].copy_from_slice(&self.answer.items()[..words]);
+        Ok((number, said))
     }
 
     fn read(&mut self, place: Place, pages: &Pages, strip: usize) -> Answer {

@@ -82,7 +82,7 @@ fn writing(name: &str, cell: Ynv) -> Case {
         NO_COPY.store(false, Ordering::Relaxed);
     });
     let (write, lent) = (Write::of(&strip), 16 * strip.len() + room);
-    let held = Box::new(move || writing::call(&strip, &write, 4 * strip.len(), room).map(|(number, _)| number));
+    let held = Box::new(move || writing::call(&strip, &write, 4 * strip.len(), room).map(|called| called.number));
     Case { name: format!("writing, {name}"), lent, bare, rust, held }
 }
 

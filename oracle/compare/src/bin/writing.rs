@@ -3,7 +3,8 @@
 //! work exactly enough, room one byte short, more of both, work one word short, and any
 //! less; what is accepted is read back, with nothing and with dirty bytes behind the
 //! pages and a random graphics section beside them. Prints how often each number was
-//! answered, by shape, and what differs; exits 1 if anything does.
+//! answered, by shape, what points the accepted strips had, and what differs; exits 1 if
+//! anything does.
 
 use std::process::exit;
 
@@ -12,16 +13,54 @@ use cases::{limits, Rng};
 use compare::arguments::count_and_first;
 use compare::tally::ByNumber;
 use compare::under_test::WRITER;
-use compare::writing::{call, Reread, Write};
-use strips::encode;
+use compare::writing::{call, Called, Reread, Write};
+use strips::{encode, leaves_of_points, scan};
 
 const CASES: u64 = 200_000;
+
+/// The points of accepted strips.
+#[derive(Default)]
+struct Points {
+    all: u64,
+    /// Those in no leaf, and the strips that have one.
+    dropped: u64,
+    dropping: u64,
+    /// Those in several leaves.
+    shared: u64,
+    /// Those whose x or y is a NaN or infinite.
+    not_finite: u64,
+    /// Strips with points whose box is inverted in x or y.
+    inverted: u64,
+}
+
+impl Points {
+    fn of(&mut self, strip: &[u32]) {
+        let cell = scan(strip).expect("an accepted strip is well formed");
+        let leaves = leaves_of_points(&cell);
+        let dropped = leaves.iter().filter(|&&leaves| leaves == 0).count() as u64;
+        let finite = cell.points.iter().filter(|p| p.position.x.is_finite() && p.position.y.is_finite()).count();
+        let (min, max) = (cell.bb_min, cell.bb_max);
+        self.all += leaves.len() as u64;
+        self.dropped += dropped;
+        self.dropping += (dropped > 0) as u64;
+        self.shared += leaves.iter().filter(|&&leaves| leaves > 1).count() as u64;
+        self.not_finite += (leaves.len() - finite) as u64;
+        self.inverted += (!leaves.is_empty() && (min.x > max.x || min.y > max.y)) as u64;
+    }
+
+    fn print(&self) {
+        let Points { all, dropped, dropping, shared, not_finite, inverted } = self;
+        println!("points of accepted strips: {all}, of them {dropped} dropped, from {dropping} strips;");
+        println!("{shared} in several leaves, {not_finite} not finite; {inverted} strips in an inverted box");
+    }
+}
 
 /// Cases by number answered when work and room suffice, by shape; the calls with too little
 /// stand under 1 and 2.
 #[derive(Default)]
 struct Tally {
     numbers: ByNumber,
+    points: Points,
     cases: u64,
     calls: u64,
     read_back: u64,
@@ -30,7 +69,7 @@ struct Tally {
 impl Tally {
     fn case(&mut self, shape: &'static str, name: &str, strip: &[u32], rng: &mut Rng) {
         let write = Write::of(strip);
-        let enough = if let Write::Bytes(bytes) = &write { bytes.len() } else { rng.below(800) };
+        let enough = if let Write::Pages { bytes, .. } = &write { bytes.len() } else { rng.below(800) };
         let (work, more) = (4 * strip.len(), 1 + rng.below(200));
         let some = if rng.once_in(2) { work } else { rng.below(work + 1) };
         self.cases += 1;
@@ -45,29 +84,30 @@ impl Tally {
         for (n, (work, room)) in lent.into_iter().enumerate() {
             self.calls += 1;
             match call(strip, &write, work, room) {
-                Ok((number, pages)) => {
-                    if n == 0 || number == 1 || number == 2 {
-                        self.numbers.seen(shape, number);
+                Ok(called) => {
+                    if n == 0 || called.number == 1 || called.number == 2 {
+                        self.numbers.seen(shape, called.number);
                     }
-                    if number == 0 {
-                        written.push(pages);
+                    if called.number == 0 {
+                        written.push(called);
                     }
                 }
                 Err(text) => self.numbers.differs(shape, name, format!("{work} words of work, {room} bytes: {text}")),
             }
         }
         if !written.is_empty() {
+            self.points.of(strip);
             self.read_back(shape, name, strip, &written, rng);
         }
     }
 
     /// Reads each of the lent pages, whole: the longer ones have dirty bytes behind.
-    fn read_back(&mut self, shape: &str, name: &str, strip: &[u32], written: &[Vec<u8>], rng: &mut Rng) {
+    fn read_back(&mut self, shape: &str, name: &str, strip: &[u32], written: &[Called], rng: &mut Rng) {
         let reread = Reread::of(strip);
         let graphics: Vec<u8> = (0..rng.below(600)).map(|_| rng.u32() as u8).collect();
-        for pages in written {
+        for called in written {
             self.read_back += 1;
-            if let Err(text) = reread.call(pages, &graphics) {
+            if let Err(text) = reread.call(called, &graphics) {
                 self.numbers.differs(shape, name, text);
             }
         }
@@ -75,6 +115,7 @@ impl Tally {
 
     fn print(&self) {
         self.numbers.print("1, 2: calls with too little");
+        self.points.print();
         println!(
             "{} cases, {} calls, {} pages read back, {} differences",
             self.cases, self.calls, self.read_back, self.numbers.differences

@@ -1,9 +1,9 @@
-//! The writer's list: records `[8, words of work lent, bytes of pages lent, number, place or
-//! length, checksum, bytes told, words of runs]`, behind them the strip's runs, and the
-//! written bytes where they are told, padded with zeros to whole words. The last record is
-//! `[0]`. A run `[words made, words given, which grows, words..]` makes so many words of the
-//! strip: those given again and again, of which one is greater by 256 each time; so the
-//! largest cells take few words.
+//! The writer's list: records `[8, words of work lent, bytes of pages lent, number, eight words
+//! of the answer, checksum, bytes told, words of runs]`, behind them the strip's runs, and the
+//! written bytes where they are told, padded with zeros to whole words. The answer of a
+//! refused call is its place and seven zeros. The last record is `[0]`. A run `[words made,
+//! words given, which grows, words..]` makes so many words of the strip: those given again and
+//! again, of which one is greater by 256 each time; so the largest cells take few words.
 
 use std::collections::BTreeMap;
 
@@ -30,12 +30,16 @@ const TRIED: usize = 3000;
 const ACCEPTED: usize = 12;
 const REFUSED: usize = 3;
 const BADLY_FORMED: usize = 40;
+/// Shapes that cases are taken from: all before the points about leaves, which `placed` has.
+const SHAPES_TAKEN: usize = 8;
 
 #[derive(Default)]
 pub struct Writings {
     words: Vec<u32>,
     /// Records of each number.
     pub counts: BTreeMap<u32, usize>,
+    /// Records that have points dropped.
+    pub dropping: usize,
 }
 
 /// How often the `length` words at the start repeat, the one at `place` growing by 256.
@@ -110,25 +114,19 @@ impl Writings {
     fn add(&mut self, strip: &[u32], write: &Write, work: usize, room: usize) {
         let runs = runs(strip);
         assert!(unrolled(&runs) == strip && strip.len() <= MOST_STRIP && work <= 4 * MOST_STRIP && room <= MOST_PAGES);
-        let (number, value, bytes) = match write.lent(strip.len(), work, room) {
-            Ok(bytes) => (0, bytes.len(), bytes),
-            Err(Refusal { number, place }) => (number, place, &[][..]),
+        let (number, answer, bytes) = match write.lent(strip.len(), work, room) {
+            Ok((bytes, values)) => (0, values, bytes),
+            Err(Refusal { number, place }) => (number, [place as u64, 0, 0, 0, 0, 0, 0, 0], &[][..]),
         };
         let told = if bytes.len() <= MOST_TOLD { bytes } else { &[] };
         let sum = if number == 0 { checksum(bytes) } else { 0 };
-        self.words.extend([
-            8,
-            work as u32,
-            room as u32,
-            number,
-            value as u32,
-            sum,
-            told.len() as u32,
-            runs.len() as u32,
-        ]);
+        self.words.extend([8, work as u32, room as u32, number]);
+        self.words.extend(answer.map(|word| word as u32));
+        self.words.extend([sum, told.len() as u32, runs.len() as u32]);
         self.words.extend(runs);
         self.words.extend(padded(told));
         *self.counts.entry(number).or_insert(0) += 1;
+        self.dropping += (number == 0 && answer[2] > 0) as usize;
     }
 
     /// A case with work and room exactly enough.
@@ -149,7 +147,7 @@ impl Writings {
 
 /// The bytes that a strip's pages take, or some.
 fn room(write: &Write) -> usize {
-    if let Write::Bytes(bytes) = write {
+    if let Write::Pages { bytes, .. } = write {
         bytes.len()
     } else {
         100
@@ -256,6 +254,36 @@ fn some_more(out: &mut Writings) {
     }
 }
 
+fn points(places: &[(f32, f32)]) -> Vec<NavPoint> {
+    places.iter().map(|&(x, y)| NavPoint { position: vec3(x, y, 1.0), angle: 1, kind: 2 }).collect()
+}
+
+/// Points on borders of leaves and of the box, outside, and without a place; and the same in
+/// an inverted box and in one whose min + max overflows.
+fn placed(out: &mut Writings) {
+    let below = |x: f32| f32::from_bits(x.to_bits() - 1);
+    let above = |x: f32| f32::from_bits(x.to_bits() + 1);
+    let borders = [(75.0, 75.0), (37.5, 112.5), (75.0, 1.0), (0.0, 150.0), (150.0, 150.0), (-0.0, 0.0)];
+    let outside = [(above(150.0), 75.0), (75.0, -1e-9), (f32::NAN, 1.0), (1.0, f32::NAN), (f32::INFINITY, 1.0)];
+    let beside = [(below(75.0), above(75.0)), (below(37.5), above(150.0)), (below(150.0), -0.0)];
+    let benches = [vec![(20.0, 20.0); 38], vec![(151.0, 20.0), (20.0, 152.0)]].concat();
+    let full = [vec![(-1.0, 10.0); 3000], vec![(140.0, 10.0); 2048]].concat();
+    let far = [(3.1e38, 3.1e38), (3.3e38, 3.1e38), (f32::INFINITY, 3.1e38), (2.9e38, 3.1e38)];
+    let grid = |places: &[(f32, f32)]| Ynv { points: points(places), ..empty_grid() };
+    out.cell(&grid(&benches));
+    out.cell(&grid(&[borders.as_slice(), &outside].concat()));
+    out.cell(&grid(&beside));
+    out.cell(&grid(&full));
+    out.cell(&Ynv { points: points(&[borders.as_slice(), &outside].concat()), ..empty_vehicle() });
+    let mut inverted = grid(&borders);
+    std::mem::swap(&mut inverted.bb_min.x, &mut inverted.bb_max.x);
+    out.cell(&inverted);
+    let (bb_min, bb_max) = (vec3(3e38, 3e38, 0.0), vec3(3.2e38, 3.2e38, 1.0));
+    for content_flags in [1, 4] {
+        out.cell(&Ynv { points: points(&far), ..empty(content_flags, 7, bb_min, bb_max) });
+    }
+}
+
 /// Seeded strips of one shape: accepted ones with room enough and more, then a byte or a
 /// word short.
 fn shaped(out: &mut Writings, make: fn(&mut Rng) -> Vec<u32>, seed: u64) {
@@ -280,9 +308,9 @@ fn shaped(out: &mut Writings, make: fn(&mut Rng) -> Vec<u32>, seed: u64) {
         let room = room(&write);
         match &write {
             Write::Refused(refusal) if take(refusal.number) => out.add(&strip, &write, work + more, room),
-            Write::Bytes(_) if take(0) => out.add(&strip, &write, work, room + more),
-            Write::Bytes(_) if take(2) => out.add(&strip, &write, work, room - 1),
-            Write::Bytes(_) | Write::Refused(Refusal { number: 10.., .. }) if take(1) => {
+            Write::Pages { .. } if take(0) => out.add(&strip, &write, work, room + more),
+            Write::Pages { .. } if take(2) => out.add(&strip, &write, work, room - 1),
+            Write::Pages { .. } | Write::Refused(Refusal { number: 10.., .. }) if take(1) => {
                 out.add(&strip, &write, work - 1, room)
             }
             _ => {}
@@ -290,13 +318,14 @@ fn shaped(out: &mut Writings, make: fn(&mut Rng) -> Vec<u32>, seed: u64) {
     }
 }
 
-/// The limits, then the shapes.
+/// The limits and placed points, then the shapes.
 pub fn all() -> Writings {
     let mut out = Writings::default();
     limited(&mut out);
     greatest(&mut out);
     some_more(&mut out);
-    for (n, (_, make)) in SHAPES.into_iter().enumerate() {
+    placed(&mut out);
+    for (n, (_, make)) in SHAPES.into_iter().take(SHAPES_TAKEN).enumerate() {
         shaped(&mut out, make, 120 + n as u64);
     }
     out

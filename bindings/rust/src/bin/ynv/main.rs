@@ -115,6 +115,10 @@ fn write(options: &Options, from: &Path, to: &Path) -> Result<u8, Trouble> {
     let loaded = files::load(from, options.kind, Some(Kind::Strip))?;
     let saved = ynv::serialize_ynv(&loaded.cell()?)?;
     put(options, from, to, &saved.pages)?;
+    // What was lost is said in any case: on the error output where the pages take standard output.
+    if let Some(lost) = report::losses(&saved).filter(|_| files::is_standard(to)) {
+        eprintln!("ynv: {}: {lost}", from.display());
+    }
     done(to, format!("{}\n", report::saved(&saved)))
 }
 

@@ -21,18 +21,32 @@ pub fn counts(loaded: &Loaded) -> String {
     format!("words {words} polys {polys} portals {portals} points {points} sectors {sectors}\n")
 }
 
-/// The length of a saved cell, and what saving lost where it lost anything.
+/// The length of a saved cell, and what saving lost.
 pub fn saved(saved: &Saved) -> String {
-    let mut said = format!("bytes {}", saved.pages.len());
-    let losses = [
-        ("points dropped", saved.points_dropped),
-        ("surplus edges dropped", saved.edges_dropped),
-        ("numbers cut to their field", saved.numbers_cut),
-    ];
-    for (lost, count) in losses.into_iter().filter(|(_, count)| *count > 0) {
-        let _ = write!(said, ", {lost} {count}");
+    let length = format!("bytes {}", saved.pages.len());
+    match losses(saved) {
+        Some(lost) => format!("{length}; {lost}"),
+        None => length,
     }
-    said
+}
+
+/// What saving lost, where it lost anything.
+pub fn losses(saved: &Saved) -> Option<String> {
+    let counted = |what: &str, count: usize| (count > 0).then(|| format!("{what} {count}"));
+    let losses = [
+        (saved.points_dropped > 0).then(|| points(saved.points_stored, saved.points_dropped)),
+        counted("surplus edges dropped", saved.edges_dropped),
+        counted("numbers cut to their field", saved.numbers_cut),
+    ];
+    let said: Vec<String> = losses.into_iter().flatten().collect();
+    (!said.is_empty()).then(|| said.join("; "))
+}
+
+/// What became of points of which some were dropped.
+fn points(stored: usize, dropped: usize) -> String {
+    let plural = if stored == 1 { "" } else { "s" };
+    let (lie, were) = if dropped == 1 { ("lies", "was") } else { ("lie", "were") };
+    format!("{stored} point{plural} stored, {dropped} {lie} outside the box and {were} dropped")
 }
 
 /// Whether a file's cell would save. A refusal is an answer here, whether the cell can't be opened or can't be saved.
