@@ -1,13 +1,13 @@
 -- The laws of `put`, the one store: it keeps the length, two side by side are one, one inside the other goes in, what it is by `take` and `drop`,
 -- and what it leaves and stores at each index. Then those of a number that is stored, over every width.
 use mathlib.Core.Path.{_≡_, refl, sym, ap, subst, _∙_}
-use mathlib.Core.List.{List, [], _∷_, _++_}
+use mathlib.Core.List.{List, [], _∷_, _++_, append-assoc}
 use Prim.Native.Nat.{ℕ, zero, suc, _+_, _-_, _/_, _%_, _^_, _≤_, _<_}
 use native.Mathlib.Nat.{zero-add, add-zero, add-suc, suc-add, not-suc-le-zero, le-of-suc-le-suc}
 use native.Mathlib.Numerals.{add-one}
 use native.Mathlib.Omega.{arith}
 use lib.ListN.{length, length-set, length-drop, take, drop, set, getD}
-use lib.Seq.{sets, set-out, getD-set-same, getD-set-other, ext-getD, getD-drop, take-all}
+use lib.Seq.{sets, set-out, getD-set-same, getD-set-other, ext-getD, getD-drop, take-all, length-take-le, drop-at}
 use Rattle.fields.specs.Bytes.{over, leAt, leBytes, les}
 use Rattle.fields.specs.Put.{put}
 use Rattle.fields.proofs.Over.{length-over, over-over, over-eq}
@@ -114,6 +114,11 @@ getD-put-after at [] xs i h = rw put-nil
 getD-put-after at (b ∷ bs) xs i h = rw (put-cons at b bs xs) (getD-put-after (suc at) bs (set xs at b) i (omega arith) ∙ getD-set-other xs at i b 0 (λ e. omega arith))
 
 -- what stands behind is as it was
+-- what is stored at a place stands there, and behind it what stood there before
+pub drop-put : (at : ℕ) (bs xs : List ℕ) → at + length bs ≤ length xs → drop at (put at bs xs) ≡ bs ++ drop (at + length bs) xs
+drop-put at bs xs h =
+    ap (drop at) (put-eq at bs xs h) ∙ (rw append-assoc (drop-at (take at xs) (bs ++ drop (at + length bs) xs) at (length-take-le at xs (omega arith))))
+
 pub drop-behind : (at : ℕ) (bs xs : List ℕ) (e : ℕ) → at + length bs ≤ e → drop e (put at bs xs) ≡ drop e xs
 drop-behind at bs xs e h =
     ext-getD 0 (drop e (put at bs xs)) (drop e xs)

@@ -17,9 +17,9 @@ data Minus (p q : ℕ) : ℤ → Type 0 where
   over : (u : ℕ) → p ≡ q + u → Minus p q (pos u)
   under : (u : ℕ) → q ≡ p + suc u → Minus p q (negsuc u)
 
-minus : (a b : ℕ) → Minus a b (pos a -ℤ pos b)
-minus a zero = over (a + 0) (omega arith)
-minus a (suc b) = by (ltb a (suc b)) refl
+difference : (a b : ℕ) → Minus a b (pos a -ℤ pos b)
+difference a zero = over (a + 0) (omega arith)
+difference a (suc b) = by (ltb a (suc b)) refl
   where
     by : (t : Bool) → ltb a (suc b) ≡ t → Minus a (suc b) (cond t (negsuc (suc b - suc a)) (pos (a - suc b)))
     by true e = let h = ltb-true a (suc b) e in under (suc b - suc a) (omega arith)
@@ -51,10 +51,10 @@ module _ (s a b : Spot) where
   along = (pos (s .y) -ℤ pos (a .y)) *ℤ (pos (b .x) -ℤ pos (a .x))
 
   is-across : Minus (s .x * b .y + a .x * a .y) (s .x * a .y + a .x * b .y) across
-  is-across = minus-mul (minus (s .x) (a .x)) (minus (b .y) (a .y))
+  is-across = minus-mul (difference (s .x) (a .x)) (difference (b .y) (a .y))
 
   is-along : Minus (s .y * b .x + a .y * a .x) (s .y * a .x + a .y * b .x) along
-  is-along = minus-mul (minus (s .y) (a .y)) (minus (b .x) (a .x))
+  is-along = minus-mul (difference (s .y) (a .y)) (difference (b .x) (a .x))
 
 -- `leftOf` as a comparison of two differences
 left-minus : (s low high : Spot) → low .y ≤ s .y → s .y < high .y → {p q r t : ℕ} {z w : ℤ} → Minus p q z → Minus r t w

@@ -100,8 +100,8 @@ made ceil (fin false m e) t =
 -- ---- the sign put back
 
 -- 0 - n at a signed width is -n
-pub minus : (w : Width) (n : ℕ) → n < 2 ^ hbits w → pos 0 -ℤ toZ w n ≡ negℤ (pos n)
-minus w n h = ap (λ (z : ℤ). pos 0 -ℤ z) (toZ-pos w n h) ∙ +ℤ-idl (negℤ (pos n))
+pub zero-minus : (w : Width) (n : ℕ) → n < 2 ^ hbits w → pos 0 -ℤ toZ w n ≡ negℤ (pos n)
+zero-minus w n h = ap (λ (z : ℤ). pos 0 -ℤ z) (toZ-pos w n h) ∙ +ℤ-idl (negℤ (pos n))
 
 pub saturated-fits : (z : ℤ) → mag (saturated z) < 2 ^ 15
 saturated-fits (pos n) = omega arith

@@ -27,7 +27,7 @@ use read_sectors::read_sector_tree;
 use resource::SYSTEM_BASE;
 use resource::resolve;
 use strip::Refusal;
-use strip_parts::is_finite;
+use strip_parts::finite_vec;
 
 // How much an accepted cell has: words of the strip, polygons, portals, points, and the sectors visited.
 pub struct Parsed {
@@ -119,29 +119,23 @@ pub fn links_of<'a>(system: &'a [u8], graphics: &'a [u8], header: &'a [u8]) -> &
 // Deciding.
 
 // Whether the three floats of b from off on are finite.
-fn finite_vec(b: &[u8], off: usize) -> bool
+fn finite_at(b: &[u8], off: usize) -> bool
     requires { ⌜ off ≤ 65536 ⌝ }
     ensures { λ r. ⌜ r ≡ finiteVec (vecOf (now (b .entry)) off) ⌝ }
 {
-    if !is_finite(u32_le(b, off)) {
-        return false;
-    }
-    if !is_finite(u32_le(b, off + 4)) {
-        return false;
-    }
-    is_finite(u32_le(b, off + 8))
+    finite_vec(u32_le(b, off), u32_le(b, off + 4), u32_le(b, off + 8))
 }
 
 fn finite_box<'a>(header: &'a [u8], root: &'a [u8]) -> bool
     ensures { λ r. ⌜ r ≡ finiteBox (headOf (now (header .entry)) (now (root .entry))) ⌝ }
 {
-    if !finite_vec(root, 0) {
+    if !finite_at(root, 0) {
         return false;
     }
-    if !finite_vec(root, 16) {
+    if !finite_at(root, 16) {
         return false;
     }
-    finite_vec(header, 0x60)
+    finite_at(header, 0x60)
 }
 
 fn refuse(number: u32) -> Check

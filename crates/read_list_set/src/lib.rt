@@ -1,8 +1,8 @@
 // The four lists of a cell at their addresses: the first refusal in order, or how many items each has.
 ghost use mathlib.Core.Path.{_≡_};
 ghost use Rattle.read_list_set.specs.Listed.{listsOf, ListsRead, paper};
+use read_list_check::read_list;
 use read_lists::ListAnswer;
-use read_lists::read_list;
 use strip::Refusal;
 
 // How many items the lists and the link table have.

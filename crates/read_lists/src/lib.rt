@@ -1,9 +1,9 @@
-// The lists of a navmesh: a header, a part table and parts. `read_list` decides and counts; a cursor then finds items, part by part.
+// The lists of a navmesh: a header, a part table and parts. `read_list_check` decides and counts; a cursor then finds items, part by part.
 ghost use mathlib.Core.Path.{_≡_};
 ghost use Prim.Native.Nat.{_+_, _-_, _*_, _^_, _≤_, _<_};
 ghost use lib.ListN.{take, drop};
-ghost use Rattle.read_lists.specs.Lists.{parts, before, total, tableOf, listBytes, listed};
-ghost use Rattle.read_lists.specs.Listed.{paper, Few, Readable};
+ghost use Rattle.read_lists.specs.Lists.{parts, before, total, tableOf, listBytes};
+ghost use Rattle.read_lists.specs.Listed.{Readable};
 ghost use Rattle.read_lists.specs.Cursors.{AtPart, Holds, runAt};
 use fields::sizes::LIST_PART_SIZE;
 use fields::sizes::LIST_SIZE;
@@ -34,47 +34,6 @@ pub fn list_table<'a>(system: &'a [u8], graphics: &'a [u8], va: u64) -> &'a [u8]
     let address = u64_le(h, 0x10);
     let count = u32_le(h, 0x20) as usize;
     resolve(system, graphics, address, LIST_PART_SIZE * count)
-}
-
-// How many items the list at va has. Counts are compared only when every part was looked at.
-pub fn read_list<'a>(
-    system: &'a [u8],
-    graphics: &'a [u8],
-    va: u64,
-    item_size: u16,
-    place: usize,
-) -> ListAnswer
-    ensures { λ r. ⌜ (paper r ≡ listed (now (system .entry)) (now (graphics .entry)) «item_size» va place) × Few r ⌝ }
-{
-    if va == 0 {
-        return ListAnswer::Items(0);
-    }
-    let h = resolve(system, graphics, va, LIST_SIZE);
-    if h.len() < LIST_SIZE {
-        return ListAnswer::Refused(Refusal { number: 35, place });
-    }
-    let items = u32_le(h, 8) as usize;
-    let count = u32_le(h, 0x20) as usize;
-    let table = list_table(system, graphics, va);
-    if table.len() < LIST_PART_SIZE * count {
-        return ListAnswer::Refused(Refusal { number: 35, place });
-    }
-    let mut total: usize = 0;
-    let mut k: usize = 0;
-    while k < count {
-        let part = u32_le(table, LIST_PART_SIZE * k + 8) as usize;
-        let bytes = (item_size as usize) * part;
-        if resolve(system, graphics, u64_le(table, LIST_PART_SIZE * k), bytes).len() < bytes {
-            return ListAnswer::Refused(Refusal { number: 35, place });
-        }
-        total += part;
-        k += 1;
-    }
-    if total == items {
-        ListAnswer::Items(items)
-    } else {
-        ListAnswer::Refused(Refusal { number: 36, place })
-    }
 }
 
 // The cursor at part k.

@@ -147,11 +147,11 @@ module _ (system graphics : List ℕ) where
     pub spent : l ≤ left
     pub long : length out ≡ length old
     pub fits : HasRoom (walk system graphics l (subsTo s i)) e (length out)
-    pub then : (r : TreeCursor) (new : List ℕ) → Written (walk system graphics l (subsTo s i)) e out r new → Written (walk system graphics left (subsTo s 4)) at old r new
+    pub goes-on : (r : TreeCursor) (new : List ℕ) → Written (walk system graphics l (subsTo s i)) e out r new → Written (walk system graphics left (subsTo s 4)) at old r new
 
   pub rest-end : {s old out : List ℕ} {left at l e i : ℕ} → Rest s left at old l e out i → i ≤ 0
       → Written (walk system graphics left (subsTo s 4)) at old (record { left = l; at = e }) out
-  rest-end {s} {out = out} {l = l} {e = e} {i = i} k h = k .then _ _ (none-written l i s e out (omega arith))
+  rest-end {s} {out = out} {l = l} {e = e} {i = i} k h = k .goes-on _ _ (none-written l i s e out (omega arith))
 
   module _ {s old out : List ℕ} {left at l e i : ℕ} (k : Rest s left at old l e out i) (some : 0 < i) {va : ℕ} (ev : va ≡ leAt 8 s (0x34 + 8 * (i - 1))) where
     none : i ≡ 0 → ⊥
@@ -165,7 +165,7 @@ module _ (system graphics : List ℕ) where
           spent = k .spent;
           long = k .long;
           fits = skip-fits l i s none ev z (k .fits);
-          then = λ r new w. k .then r new (skip-written l i s none ev z w);
+          goes-on = λ r new w. k .goes-on r new (skip-written l i s none ev z w);
         }
 
     pub rest-tree : (va ≡ 0 → ⊥) → HasRoom (walk system graphics l (va ∷ [])) e (length out)
@@ -182,5 +182,5 @@ module _ (system graphics : List ℕ) where
           spent = omega arith;
           long = same ∙ k .long;
           fits = fits;
-          then = λ r new w. k .then r new (subs-written l i s none ev there v w);
+          goes-on = λ r new w. k .goes-on r new (subs-written l i s none ev there v w);
         }

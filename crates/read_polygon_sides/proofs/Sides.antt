@@ -10,7 +10,8 @@ use Rattle.fields.proofs.Puts.{put-next}
 use Rattle.strip.specs.Cell.{Vec3, vecWords, edgeWords, each}
 use Rattle.read_grammar.specs.Polygons.{edgeOf}
 use Rattle.strip.proofs.Plain.{length-each}
-use Rattle.read_polygon_words.proofs.Words.{vec-three, edge-six}
+use Rattle.read_polygon_words.proofs.Words.{vec-three}
+use Rattle.read_edge_words.proofs.Edges.{edge-six}
 use Rattle.read_list_set.proofs.Runs.{length-map}
 use Rattle.read_polygon_sides.specs.Sides.{sides}
 use Rattle.read_polygon_sides.specs.Corner.{corner}

@@ -19,11 +19,11 @@ ghost use Rattle.read_polygon_sides.specs.Sides.{sides, ListsOpen, Insid
 ghost use Rattle.read_polygon_sides.specs.Corner.{corner};
 use fields::least;
 use math::vec3::Vec3;
+use read_edge_words::put_edge_run;
 use read_lists::Cursor;
 use read_lists::list_run;
 use read_lists::seek;
 use read_polygon_words::index_at;
-use read_polygon_words::put_edge_run;
 use read_polygon_words::put_vertex;
 
 // Where the cursors over the three lists stand.

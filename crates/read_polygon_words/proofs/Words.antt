@@ -1,4 +1,4 @@
--- Laws of the words of a polygon's parts.
+-- Laws of the words of a polygon's front, vertices and indices.
 use Prim.Native.Nat.{ℕ, suc, _+_, _-_, _*_, _/_, _%_, _≤_, _<_}
 use native.Mathlib.Nat.{add-zero, sub-zero}
 use native.Mathlib.Numerals.{add-one}
@@ -16,11 +16,8 @@ use Rattle.fields.specs.Rows.{pack}
 use Rattle.fields.proofs.Bytes.{past}
 use Rattle.fields.proofs.Puts.{put-next, put-one, put-append, put-cons, put-nil}
 use Rattle.resource.specs.Section.{resolved}
-use Rattle.areas.specs.declared.edge.RawEnd.{RawEnd}
-use Rattle.areas.specs.Decoded.{decodedEnd}
-use Rattle.strip.specs.Cell.{Vec3, NavEdgeEnd, NavEdge, vecWords, halfWords, edgeWords}
-use Rattle.read_grammar.specs.Polygons.{halfOf, edgeOf, linkRun, linksAt, countOf}
-use Rattle.read_grammar.specs.Derives.{areaOf}
+use Rattle.strip.specs.Cell.{Vec3, vecWords}
+use Rattle.read_grammar.specs.Polygons.{linkRun, linksAt, countOf}
 use Rattle.read_lists.specs.Lists.{item}
 use Rattle.read_lists.proofs.Lists.{item-field}
 use Rattle.fields.proofs.Cuts.{cut-length, cut-left}
@@ -39,40 +36,10 @@ pub vec-three : (v : Vec3) → length (vecWords v) ≡ 3
 unfolding vecWords
 vec-three v = refl
 
-half-three : (h : NavEdgeEnd) → length (halfWords h) ≡ 3
-unfolding halfWords
-half-three h = refl
-
-pub edge-six : (e : NavEdge) → length (edgeWords e) ≡ 6
-unfolding edgeWords halfWords
-edge-six e = refl
-
 -- ---- words stored
 
 pub put-four : (at a b c d : ℕ) (xs : List ℕ) → set (put at (a ∷ b ∷ c ∷ []) xs) (at + 3) d ≡ put at (a ∷ b ∷ c ∷ d ∷ []) xs
 put-four at a b c d xs = sym (put-one (at + 3) d (put at (a ∷ b ∷ c ∷ []) xs)) ∙ put-append (a ∷ b ∷ c ∷ []) (d ∷ []) at xs
-
--- ---- edges
-
-pub area-in : (header : List ℕ) {i n r : ℕ} → n ≡ leAt 4 header 0x94 → i < n → r ≡ leAt 4 header (0x98 + 4 * i) → r ≡ areaOf header i
-unfolding areaOf
-area-in header {i} {n} en l er = er ∙ rw (← en, lt-ltb i n l)
-
-pub area-none : (header : List ℕ) {i n : ℕ} → n ≡ leAt 4 header 0x94 → n ≤ i → 16383 ≡ areaOf header i
-unfolding areaOf
-area-none header {i} {n} en l = rw (← en, le-ltb i n l)
-
-pub half-words : (area : ℕ → ℕ) (raw : ℕ) {e : RawEnd} {a : ℕ} → e ≡ decodedEnd raw → a ≡ area (e .index)
-    → (a ∷ e .poly ∷ (e .unk3 % 2048 + 65536 * (e .unk2 % 4)) ∷ []) ≡ halfWords (halfOf area raw)
-unfolding halfWords halfOf
-half-words area raw ee ea =
-    let m : raw / 2097152 % 2048 % 2048 ≡ raw / 2097152 % 2048 = omega arith in
-    let n : raw / 524288 % 4 % 4 ≡ raw / 524288 % 4 = omega arith in
-    rw (ea, ee, m, n)
-
-pub edge-put : (area : ℕ → ℕ) (b : List ℕ) (at : ℕ) (out : List ℕ) → put (at + 3) (halfWords (halfOf area (leAt 4 b 4))) (put at (halfWords (halfOf area (leAt 4 b 0))) out) ≡ put at (edgeWords (edgeOf area b)) out
-unfolding edgeWords edgeOf
-edge-put area b at out = put-next 3 at (halfWords (halfOf area (leAt 4 b 0))) (halfWords (halfOf area (leAt 4 b 4))) out (half-three (halfOf area (leAt 4 b 0)))
 
 -- ---- indices
 

@@ -1,18 +1,15 @@
-// The words of a polygon's parts, from bytes that are at hand. Nothing here can fail: pass two calls it for what pass one accepted.
+// The words of a polygon's front and vertices, from bytes that are at hand. Nothing here can fail: pass two calls it for what pass one accepted. Edges are `read_edge_words`.
 ghost use mathlib.Core.Path.{_≡_};
-ghost use mathlib.Core.List.{[], _∷_, map};
-ghost use Prim.Native.Nat.{_+_, _*_, _/_, _≤_};
+ghost use mathlib.Core.List.{[], _∷_};
+ghost use Prim.Native.Nat.{_+_, _*_, _≤_};
 ghost use lib.ListN.{length};
 ghost use Rattle.fields.specs.Bytes.{cut, leAt};
 ghost use Rattle.fields.specs.Put.{put};
-ghost use Rattle.strip.specs.Cell.{vecWords, halfWords, edgeWords, each};
-ghost use Rattle.read_grammar.specs.Polygons.{vertexOf, halfOf, edgeOf, linkRun, countOf};
-ghost use Rattle.read_grammar.specs.Derives.{areaOf};
+ghost use Rattle.strip.specs.Cell.{vecWords};
+ghost use Rattle.read_grammar.specs.Polygons.{vertexOf, linkRun, countOf};
 ghost use Rattle.read_records.specs.Back.{backBy};
 ghost use Rattle.read_polygon_words.specs.Words.{linkStart, linksNamed, linkCount, allBelow};
 ghost use Rattle.read_polygon_words.specs.Front.{linksOf, frontOf};
-use areas::ADJACENT_NONE;
-use areas::edge::decode_end;
 use fields::u16_le;
 use fields::u32_le;
 use math::vec3::Vec3;
@@ -34,49 +31,6 @@ pub fn put_vertex(v: &[u8], bb_min: Vec3, bb_size: Vec3, out: &mut [u32], at: us
     ensures { λ _. ⌜ now (out .exit) ≡ put at (vecWords (vertexOf (backBy «bb_min» «bb_size») (now (v .entry)))) (now (out .entry)) ⌝ }
 {
     put_position(shorts_at(v, 0), bb_min, bb_size, out, at);
-}
-
-// The area of an index, by the header's table.
-fn area_of(header: &[u8], i: u32) -> u32
-    ensures { λ r. ⌜ r ≡ areaOf (now (header .entry)) i ⌝ }
-{
-    if i < u32_le(header, 0x94) {
-        u32_le(header, 0x98 + 4 * (i as usize))
-    } else {
-        ADJACENT_NONE
-    }
-}
-
-fn put_half(header: &[u8], raw: u32, out: &mut [u32], at: usize)
-    requires { ⌜ at + 3 ≤ length (now out) ⌝ }
-    ensures { λ _. ⌜ now (out .exit) ≡ put at (halfWords (halfOf (areaOf (now (header .entry))) raw)) (now (out .entry)) ⌝ }
-{
-    let e = decode_end(raw);
-    let area = area_of(header, e.index);
-    put3(out, at, area, e.poly, e.unk3 % 2048 + 65536 * (e.unk2 % 4));
-}
-
-// An edge, 8 bytes.
-fn put_edge<'a>(header: &'a [u8], e: &'a [u8], out: &mut [u32], at: usize)
-    requires { ⌜ at + 6 ≤ length (now out) ⌝ }
-    ensures { λ _. ⌜ now (out .exit) ≡ put at (edgeWords (edgeOf (areaOf (now (header .entry))) (now (e .entry)))) (now (out .entry)) ⌝ }
-{
-    put_half(header, u32_le(e, 0), out, at);
-    put_half(header, u32_le(e, 4), out, at + 3);
-}
-
-// The first n edges of `run`.
-pub fn put_edge_run<'a>(header: &'a [u8], run: &'a [u8], n: usize, out: &mut [u32], at: usize)
-    requires { ⌜ (8 * n ≤ length (now run)) × (at + 6 * n ≤ length (now out)) ⌝ }
-    ensures { λ _. ⌜ now (out .exit) ≡ put at (each edgeWords (map (edgeOf (areaOf (now (header .entry)))) (cut 8 n (now (run .entry))))) (now (out .entry)) ⌝ }
-{
-    let mut k = 0;
-    while k < n {
-        let from = 8 * k;
-        let to = from + 8;
-        put_edge(header, &run[from..to], out, at + 6 * k);
-        k += 1;
-    }
 }
 
 // Index k of `run`. Two bytes are lent to the reader of numbers, which then needs no look at the end.

@@ -138,10 +138,10 @@ module _ (system graphics : List ℕ) where
     pub few : i ≤ 4
     pub spent : l ≤ left
     pub within : p + 65535 * l ≤ points + 65535 * left
-    pub then : (r : Walk) → Counted (walk system graphics l (subsTo s i)) l p r → Counted (walk system graphics left (subsTo s 4)) left points r
+    pub goes-on : (r : Walk) → Counted (walk system graphics l (subsTo s i)) l p r → Counted (walk system graphics left (subsTo s 4)) left points r
 
   pub turn-end : {s : List ℕ} {left points l p i : ℕ} → Turn s left points l p i → i ≤ 0 → Counted (walk system graphics left (subsTo s 4)) left points (Done l p)
-  turn-end {s} {l = l} {p = p} {i = i} k h = k .then _ (no-subs s i l p (omega arith))
+  turn-end {s} {l = l} {p = p} {i = i} k h = k .goes-on _ (no-subs s i l p (omega arith))
 
   module _ {s : List ℕ} {left points l p i : ℕ} (k : Turn s left points l p i) (some : 0 < i) {va : ℕ} (ev : va ≡ leAt 8 s (0x34 + 8 * (i - 1))) where
     none : i ≡ 0 → ⊥
@@ -150,11 +150,11 @@ module _ (system graphics : List ℕ) where
     pub turn-skip : va ≡ 0 → Turn s left points l p (i - 1)
     turn-skip z =
         let f = k .few in
-        record { few = omega arith; spent = k .spent; within = k .within; then = λ r w. k .then r (skip s i l p none ev z w) }
+        record { few = omega arith; spent = k .spent; within = k .within; goes-on = λ r w. k .goes-on r (skip s i l p none ev z w) }
 
     module _ (there : va ≡ 0 → ⊥) {v : Walk} (c : Counted (walk system graphics l (va ∷ [])) l p v) where
       pub turn-stop : {e : ℕ} → v ≡ Refused e → Counted (walk system graphics left (subsTo s 4)) left points (Refused e)
-      turn-stop h = k .then _ (stop s i l p none ev there c h)
+      turn-stop h = k .goes-on _ (stop s i l p none ev there c h)
 
       pub turn-next : {a b : ℕ} → v ≡ Done a b → Turn s left points a b (i - 1)
       turn-next h =
@@ -162,4 +162,4 @@ module _ (system graphics : List ℕ) where
           let f = k .few in
           let g = k .spent in
           let j = k .within in
-          record { few = omega arith; spent = omega arith; within = omega arith; then = λ r u. k .then r (next s i l p none ev there c h u) }
+          record { few = omega arith; spent = omega arith; within = omega arith; goes-on = λ r u. k .goes-on r (next s i l p none ev there c h u) }

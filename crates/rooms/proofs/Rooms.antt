@@ -18,7 +18,7 @@ use Rattle.write_pages.specs.Reread.{reread}
 use Rattle.write_pages.specs.Accepted.{Accepted}
 use Rattle.write_pages.proofs.Placed.{few-corners, at-most-200, pages-placed}
 use Rattle.write_pages.proofs.Sizes.{pages-length}
-use Rattle.write_leaf_checks.proofs.Picks.{ids-few}
+use Rattle.write_leaf_counts.proofs.Picks.{ids-few}
 use Rattle.write_pages.proofs.LeafCounts.{few-stored}
 use Rattle.write_blocks.specs.Laid.{sumOf}
 use Rattle.write_blocks.proofs.Layouts.{end-sum, sum-append}

@@ -7,7 +7,8 @@ use lib.ListN.{length, length-append, length-map}
 use Rattle.math.specs.declared.vec3.Vec3.{Vec3 as Floats}
 use Rattle.strip.specs.Cell.{NavPoly, Cell, vecWords, edgeWords, each, polygonHeadAs, polygonWordsAs, polygonWords, plain, encode}
 use Rattle.strip.proofs.Plain.{length-each, length-encode}
-use Rattle.read_polygon_words.proofs.Words.{vec-three, edge-six}
+use Rattle.read_polygon_words.proofs.Words.{vec-three}
+use Rattle.read_edge_words.proofs.Edges.{edge-six}
 use Rattle.write_pages.specs.Items.{gather, cornersIn, corners, linksOf}
 use Rattle.write_pages.specs.Sectors.{pointCount}
 use Rattle.write_pages.specs.Preorder.{preorder}

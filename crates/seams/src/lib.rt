@@ -76,7 +76,7 @@ fn poly_seams(strip: &[u32], n: usize, own: u32) -> u64
 pub fn count_seams(strip: &[u32]) -> SeamAnswer
     ensures { λ r. ⌜ paper r ≡ shown (seamOutcome (now (strip .entry))) ⌝ }
 {
-    match strip::check_strip(strip) {
+    match strip_check::check_strip(strip) {
         StripAnswer::WellFormed(n) => {
             let polys = n.polys;
             SeamAnswer::Count(poly_seams(strip, polys, strip[2]))

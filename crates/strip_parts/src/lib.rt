@@ -22,24 +22,31 @@ pub struct Half {
 }
 
 // Whether w is the bits of neither an infinity nor a NaN.
-pub fn is_finite(w: u32) -> bool
+fn is_finite(w: u32) -> bool
     ensures { λ r. ⌜ r ≡ finiteBits w ⌝ }
 {
     w % 0x8000_0000 < 0x7F80_0000
 }
 
+// Whether three words are: the bits of a vector.
+pub fn finite_vec(x: u32, y: u32, z: u32) -> bool
+    ensures { λ r. ⌜ r ≡ finiteVec (record { x = x; y = y; z = z }) ⌝ }
+{
+    if !is_finite(x) {
+        return false;
+    }
+    if !is_finite(y) {
+        return false;
+    }
+    is_finite(z)
+}
+
 // Whether the three words from `at` on are.
-fn finite_vec(strip: &[u32], at: usize) -> bool
+fn finite_at(strip: &[u32], at: usize) -> bool
     requires { ⌜ at + 3 ≤ length (now strip) ⌝ }
     ensures { λ r. ⌜ r ≡ finiteVec (vecAt (now (strip .entry)) at) ⌝ }
 {
-    if !is_finite(strip[at]) {
-        return false;
-    }
-    if !is_finite(strip[at + 1]) {
-        return false;
-    }
-    is_finite(strip[at + 2])
+    finite_vec(strip[at], strip[at + 1], strip[at + 2])
 }
 
 // Whether min, max and size of the cell's box are finite. A caller has the cell's record from `check_strip`.
@@ -47,20 +54,20 @@ pub fn finite_box(strip: &[u32]) -> bool
     requires { ⌜ 14 ≤ length (now strip) ⌝ }
     ensures { λ r. ⌜ r ≡ finiteBox (headAt (now (strip .entry)) 0) ⌝ }
 {
-    if !finite_vec(strip, 5) {
+    if !finite_at(strip, 5) {
         return false;
     }
-    if !finite_vec(strip, 8) {
+    if !finite_at(strip, 8) {
         return false;
     }
-    finite_vec(strip, 11)
+    finite_at(strip, 11)
 }
 
 // Refusals 3, then 10, or the counts.
 pub fn check_cell(strip: &[u32]) -> StripAnswer
     ensures { λ r. ⌜ paper r ≡ shown (cellOutcome (now (strip .entry))) ⌝ }
 {
-    match strip::check_strip(strip) {
+    match strip_check::check_strip(strip) {
         StripAnswer::WellFormed(n) => {
             if finite_box(strip) {
                 return StripAnswer::WellFormed(n);

@@ -147,7 +147,7 @@ pub extern "C" fn leaf_check_strip(strip: &[u32], answer: &mut [u64; 8]) -> u32
     ensures number { λ r. ⌜ r ≡ numberOf (shown (stripOutcome (now (strip .entry)))) ⌝ }
     ensures words { λ _. ⌜ now (answer .exit) ≡ over (answerOf (shown (stripOutcome (now (strip .entry))))) (now (answer .entry)) ⌝ }
 {
-    match strip::check_strip(strip) {
+    match strip_check::check_strip(strip) {
         StripAnswer::WellFormed(n) => {
             answer[0] = n.polys as u64;
             answer[1] = n.portals as u64;

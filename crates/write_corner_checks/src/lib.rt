@@ -108,7 +108,7 @@ fn decide_corner(
 {
     let areas = old.areas;
     let vertices = old.vertices;
-    let known = write_vertices::vertex_index(work, buckets, vertices, triple);
+    let known = write_vertex_index::vertex_index(work, buckets, vertices, triple);
     match known {
         Numbered::Vertex(number, count) => {
             let e = ensure_edge(ids, areas, a, b);

@@ -113,7 +113,7 @@ fn decide_well(strip: &[u32], counts: Counts, work: &mut [u32]) -> Decision
         vertices: 0,
     };
     let n = counts.polys;
-    write_vertices::clear(work, buckets);
+    write_vertex_index::clear(work, buckets);
     let d = decide_polygons(
         strip,
         n,
@@ -175,7 +175,7 @@ fn refuse(refusal: Refusal) -> Decision
 pub fn decide(strip: &[u32], work: &mut [u32]) -> Decision
     ensures { λ r. ⌜ DecideDone (now (strip .entry)) (now (work .entry)) (now (work .exit)) r ⌝ }
 {
-    match strip::check_strip(strip) {
+    match strip_check::check_strip(strip) {
         StripAnswer::WellFormed(counts) => {
             let front = front_verdict(strip, work.len(), counts.polys);
             match front {

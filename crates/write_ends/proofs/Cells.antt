@@ -16,8 +16,8 @@ use Rattle.write_pages.specs.Sectors.{Sector, quarters, leafIds, grown, byteCou
 use Rattle.write_pages.specs.Sectors.Sector.{leaf, node}
 use Rattle.write_pages.specs.Pages.{allCorners, vertices, links, sectors, counts, sizesOf, sizes, pages}
 use Rattle.write_pages.proofs.Sizes.{pages-length}
-use Rattle.write_leaf_checks.specs.Work.{boxesIn, pickedFrom, countIn, treeBy}
-use Rattle.write_leaf_checks.proofs.Picks.{count-picked}
+use Rattle.write_leaf_counts.specs.Work.{boxesIn, pickedFrom, countIn, treeBy}
+use Rattle.write_leaf_counts.proofs.Picks.{count-picked}
 use Rattle.write_ends.specs.Ends.{leafSizes, sizesBy, listsEnd, pagesEnd, pagesSizes}
 use Rattle.write_ends.proofs.Behind.{behindVertices, behindIndices, behindEdges}
 

@@ -7,7 +7,7 @@ use Rattle.write_blocks.specs.Layout.{behind, endOf}
 use Rattle.write_blocks.specs.Lists.{listSizes}
 use Rattle.write_blocks.specs.Optional.{sizeOf}
 use Rattle.write_pages.specs.Sectors.{quarters, leafIds, sub0, sub1, sub2, sub3}
-use Rattle.write_leaf_checks.specs.Work.{boxesIn, countIn}
+use Rattle.write_leaf_counts.specs.Work.{boxesIn, countIn}
 use Rattle.fields.specs.Sizes.{EDGE-SIZE, INDEX-SIZE, NAVMESH-SIZE, POINT-SIZE, POLY-SIZE, PORTAL-SIZE, SECTOR-DATA-SIZE, SECTOR-SIZE, VERTEX-SIZE}
 
 -- a leaf's: sector, m ids, n points, data

@@ -40,10 +40,10 @@ fn lists_end(vertices: usize, corners: usize, polys: usize) -> Layout
     ensures { λ r. ⌜ r ≡ reached empty (listsSizes vertices corners polys) ⌝ }
 {
     let header = Layout::new().alloc(NAVMESH_SIZE);
-    let behind_vertices = write_blocks::list_end(header, 6, vertices);
-    let behind_indices = write_blocks::list_end(behind_vertices, 2, corners);
-    let behind_edges = write_blocks::list_end(behind_indices, 8, corners);
-    write_blocks::list_end(behind_edges, POLY_SIZE, polys)
+    let behind_vertices = write_list_blocks::list_end(header, 6, vertices);
+    let behind_indices = write_list_blocks::list_end(behind_vertices, 2, corners);
+    let behind_edges = write_list_blocks::list_end(behind_indices, 8, corners);
+    write_list_blocks::list_end(behind_edges, POLY_SIZE, polys)
 }
 
 // Behind the blocks of the leaf with this box and this number, by the words of quarter boxes and of points' leaves.
@@ -51,8 +51,8 @@ fn leaf_by<'a>(l: Layout, b: Aabb, leaf: u32, boxes: &'a [u32], numbers: &'a [u3
     requires { ⌜ Within l (sizesBy (now boxes) (now numbers) 0 leaf b) ⌝ }
     ensures { λ r. ⌜ r ≡ reached l (sizesBy (now (boxes .entry)) (now (numbers .entry)) 0 leaf b) ⌝ }
 {
-    let ids = write_leaf_checks::leaf_ids(boxes, b);
-    let points = write_leaf_checks::count_points(numbers, leaf);
+    let ids = write_leaf_counts::leaf_ids(boxes, b);
+    let points = write_leaf_counts::count_points(numbers, leaf);
     leaf_end(l, ids, points)
 }
 

@@ -84,7 +84,7 @@ fn put_first(out: &mut [u8], cell: CellRecord, a: Addresses, n: Totals)
         n.indices,
         n.areas,
     ];
-    fields::put_all(out, 0, 4, &words);
+    stores::put_all(out, 0, 4, &words);
 }
 
 // The 32 areas at 0x98: zeros behind those that there are.
@@ -93,11 +93,11 @@ fn put_areas(out: &mut [u8], ids: &[u32], len: usize)
     ensures { λ _. ⌜ now (out .exit) ≡ put 152 (les 4 (padded 32 (take len (now (ids .entry))))) (now (out .entry)) ⌝ }
 {
     if 32 < len {
-        fields::put_all(out, 152, 4, ids);
+        stores::put_all(out, 152, 4, ids);
         return;
     }
-    fields::put_all(out, 152, 4, &ids[..len]);
-    fields::put_le(out, 152 + 4 * len, 128 - 4 * len, 0);
+    stores::put_all(out, 152, 4, &ids[..len]);
+    stores::put_le(out, 152 + 4 * len, 128 - 4 * len, 0);
 }
 
 // The header behind the areas, from 0x118 on.
@@ -128,7 +128,7 @@ fn put_last(out: &mut [u8], cell: CellRecord, a: Addresses, n: Totals)
         0,
         0,
     ];
-    fields::put_all(out, 280, 4, &words);
+    stores::put_all(out, 280, 4, &words);
 }
 
 // The header, 368 bytes at 0, of a cell with this record. It is stored last, when all addresses are known.

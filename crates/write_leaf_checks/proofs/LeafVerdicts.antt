@@ -12,10 +12,11 @@ use Rattle.strip.specs.declared.Refusal.{Refusal}
 use Rattle.write_pages.specs.Sectors.{sub0, sub1, sub2, sub3, quarters, leafIds, grown, leafCounts}
 use Rattle.write_pages.specs.Checks.{Verdict, at, firstFault, leafFault, leavesVerdict}
 use Rattle.write_pages.proofs.LeafCounts.{leaves-length}
-use Rattle.write_leaf_checks.specs.Work.{boxAt, boxesIn, pickedFrom, treeBy, passedThen, FirstRefused}
+use Rattle.write_leaf_counts.specs.Work.{boxAt, boxesIn, pickedFrom, treeBy}
+use Rattle.write_leaf_checks.specs.FirstRefused.{passedThen, FirstRefused}
 use Rattle.write_leaf_checks.specs.declared.LeafCheck.{LeafCheck}
 use Rattle.write_leaf_checks.specs.declared.LeafCheck.the-variants as LeafCheck
-use Rattle.write_leaf_checks.proofs.Picks.{ids-few, picked-few}
+use Rattle.write_leaf_counts.proofs.Picks.{ids-few, picked-few}
 use Rattle.strip.proofs.Steps.{items-length}
 
 -- ---- one leaf

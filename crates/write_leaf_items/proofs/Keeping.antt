@@ -18,7 +18,7 @@ use Rattle.strip.specs.Cell.{NavPoint}
 use Rattle.strip.specs.Reading.{itemsAt, pointAt}
 use Rattle.strip.specs.Rows.{pointsAt}
 use Rattle.write_pages.specs.Sectors.{pointRow, pointItems}
-use Rattle.write_leaf_checks.specs.Work.{pickedFrom}
+use Rattle.write_leaf_counts.specs.Work.{pickedFrom}
 
 -- f stores items of w bytes in a row, g one
 module _ {A : Type 0} (w : ℕ) (f : List A → List ℕ) (g : A → List ℕ) (none : f [] ≡ []) (more : (x : A) (xs : List A) → f (x ∷ xs) ≡ g x ++ f xs)

@@ -13,7 +13,7 @@ ghost use Rattle.write_blocks.specs.Layout.{behind, endOf};
 ghost use Rattle.write_blocks.specs.Laid.{Laid};
 ghost use Rattle.write_blocks.specs.Optional.{blockOf, sizeOf};
 ghost use Rattle.write_pages.specs.Sectors.{leafIds, quarters, dataRow, pointRow, pointItems};
-ghost use Rattle.write_leaf_checks.specs.Work.{boxesIn, pickedFrom};
+ghost use Rattle.write_leaf_counts.specs.Work.{boxesIn, pickedFrom};
 use fields::sizes::POINT_SIZE;
 use fields::sizes::SECTOR_DATA_SIZE;
 use math::vec3::Vec3;
@@ -22,7 +22,7 @@ use quarters::bounds::Aabb;
 use quarters::quarter::QuarterBox;
 use quarters::quarter::quarter_box;
 use write_blocks::Layout;
-use write_leaf_checks::meets_at;
+use write_leaf_counts::meets_at;
 
 // The points of a cell: where their records begin in the strip, and the box in which their shorts are measured, bb_min and bb_size.
 pub struct Points {
@@ -55,7 +55,7 @@ pub fn lay_data(
         fields::pair(id_count, point_count),
         0,
     ];
-    fields::put_all(out, at, 4, &words);
+    stores::put_all(out, at, 4, &words);
     l.alloc(SECTOR_DATA_SIZE)
 }
 
@@ -66,7 +66,7 @@ fn put_id_if(out: &mut [u8], p: usize, test: bool, id: usize) -> usize
     ensures content { λ _. ⌜ now (out .exit) ≡ put p (les 2 (cond test (id ∷ []) [])) (now (out .entry)) ⌝ }
 {
     if test {
-        fields::put_le(out, p, 2, id as u64);
+        stores::put_le(out, p, 2, id as u64);
         return p + 2;
     }
     p
@@ -109,7 +109,7 @@ fn put_point(out: &mut [u8], p: usize, strip: &[u32], at: usize, bb_min: Vec3, b
     let q = quantise::short::quantise(position, bb_min, bb_size);
     let bytes = (strip[at] % 65536) as u16;
     let words = [fields::pair(q.x, q.y), fields::pair(q.z, bytes)];
-    fields::put_all(out, p, 4, &words);
+    stores::put_all(out, p, 4, &words);
 }
 
 // The same, where the test passed. The answer is the place behind it.

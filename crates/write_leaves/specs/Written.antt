@@ -11,7 +11,7 @@ use Rattle.write_blocks.specs.Layout.{endOf}
 use Rattle.write_blocks.specs.Laid.{Laid}
 use Rattle.write_pages.specs.Sectors.{Sector, pointCount, leafCounts, sizes, treeBlocks}
 use Rattle.write_pages.specs.Accepted.{FewIn}
-use Rattle.write_leaf_checks.specs.Work.{treeBy}
+use Rattle.write_leaf_counts.specs.Work.{treeBy}
 use Rattle.write_leaves.specs.declared.SectorCursor.{SectorCursor}
 
 -- the tree by the words of quarter boxes and leaves, of as many points, whose records stand in the strip from a place on

@@ -15,9 +15,9 @@ use quarters::bounds::Aabb;
 use quarters::quarter::quarter_box;
 use write_blocks::Layout;
 use write_blocks::address_of;
-use write_leaf_checks::count_points;
-use write_leaf_checks::leaf_ids;
-use write_leaf_checks::quarter_pair;
+use write_leaf_counts::count_points;
+use write_leaf_counts::leaf_ids;
+use write_leaf_counts::quarter_pair;
 use write_leaf_items::Points;
 use write_leaf_items::lay_data;
 use write_leaf_items::lay_ids;
@@ -65,7 +65,7 @@ pub fn put_sector(out: &mut [u8], at: usize, b: Aabb, data: u32, s0: u32, s1: u3
         0,
         0,
     ];
-    fields::put_all(out, at, 4, &words);
+    stores::put_all(out, at, 4, &words);
 }
 
 // A leaf: its sector, ids, points, data.

@@ -1,16 +1,16 @@
 -- The vertices, the indices and the edges in work, as the items of their lists: what `write_list` lays out of the words from a place on is laid out of
 -- equal items (`relaid`), and for each of the three the items in these words are the list's (`vertex-words`, `index-words`, `edge-words`).
 use mathlib.Core.Path.{_≡_, refl, ap, _∙_, subst}
-use mathlib.Core.List.{List, [], _∷_, _++_, map, append-assoc, append-nil}
+use mathlib.Core.List.{List, [], _∷_, _++_, map, append-nil}
 use Prim.Native.Nat.{ℕ, zero, suc, _+_, _-_, _*_, _/_, _%_, _^_, _≤_, _<_}
 use native.Mathlib.Omega.{arith}
 use lib.ListN.{length, take, drop, getD}
-use lib.Seq.{length-take-le, drop-at, drop-drop, getD-drop, drop-cons}
+use lib.Seq.{drop-drop, getD-drop, drop-cons}
 use Rattle.fields.specs.Bytes.{leBytes, les}
 use Rattle.fields.specs.Put.{put}
 use Rattle.fields.specs.Rows.{rowBytes}
 use Rattle.fields.proofs.Bytes.{bytes-join, bytes-mod, le-append}
-use Rattle.fields.proofs.Puts.{put-eq}
+use Rattle.fields.proofs.Puts.{drop-put}
 use Rattle.write_blocks.specs.Laid.{Laid}
 use Rattle.write_blocks.specs.Lists.{listBlocks}
 use Rattle.write_blocks.specs.declared.Layout.{Layout}
@@ -85,13 +85,8 @@ unfolding itemsIn itemOf edgeWords edgeItems les rowBytes
 made-items ids [] rest = refl
 made-items ids (k ∷ ks) rest = rw (made-items ids ks rest) (simp append-nil)
 
--- words that are stored at a place stand there
-made : (at : ℕ) (bs ws : List ℕ) → at + length bs ≤ length ws → drop at (put at bs ws) ≡ bs ++ drop (at + length bs) ws
-made at bs ws h =
-    ap (drop at) (put-eq at bs ws h) ∙ (rw append-assoc (drop-at (take at ws) (bs ++ drop (at + length bs) ws) at (length-take-le at ws (omega arith))))
-
 pub edge-words : (ids : List ℕ) (ks : List Corner) (w w' : List ℕ) (n b : ℕ) → n ≡ length ks → b + 2 * n ≤ length w → w' ≡ put b (edgeWords ids ks) w
     → itemsIn 1 8 n (drop b w') ≡ edgeItems ids ks
 edge-words ids ks w w' n b many room e =
     let fits : b + length (edgeWords ids ks) ≤ length w = omega (arith, length-words ids ks) in
-    rw (e, many, made b (edgeWords ids ks) w fits) (made-items ids ks _)
+    rw (e, many, drop-put b (edgeWords ids ks) w fits) (made-items ids ks _)

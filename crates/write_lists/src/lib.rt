@@ -39,8 +39,8 @@ fn put_item(words: &[u32], from: usize, whole: usize, w: usize, out: &mut [u8], 
     ensures { λ _. ⌜ now (out .exit) ≡ put at (itemOf whole w (drop from (now (words .entry)))) (now (out .entry)) ⌝ }
 {
     let mid = from + whole;
-    fields::put_all(out, at, 4, &words[from..mid]);
-    fields::put_le(out, at + 4 * whole, w - 4 * whole, words[mid] as u64);
+    stores::put_all(out, at, 4, &words[from..mid]);
+    stores::put_le(out, at + 4 * whole, w - 4 * whole, words[mid] as u64);
 }
 
 // The items of a part, m of them.
@@ -99,7 +99,7 @@ fn lay_items(
     ensures { λ r. ⌜ Laid l (partsOf w n (itemsIn whole w n (drop base (now (words .entry))))) r (now (out .entry)) (now (out .exit)) ⌝ }
 {
     let per = PART_SIZE / w;
-    let k = write_blocks::part_count(w, n);
+    let k = write_list_blocks::part_count(w, n);
     let mut next = l;
     let mut from = base;
     let mut left = n;
@@ -128,9 +128,9 @@ pub fn write_list(
     requires { ⌜ (base + (whole + 1) * n ≤ length (now words)) × (4 * whole ≤ w) × ListRoom (l .at) w n (listSizes w n) ⌝ }
     ensures { λ r. ⌜ Laid l (listBlocks (l .at) vft w (itemsIn whole w n (drop base (now (words .entry))))) r (now (out .entry)) (now (out .exit)) ⌝ }
 {
-    let parts = write_blocks::lay_list_front(out, l, vft, w, n);
+    let parts = write_list_blocks::lay_list_front(out, l, vft, w, n);
     let offsets = lay_items(out, parts, words, base, n, whole, w);
-    write_blocks::lay_offsets(out, offsets, w, n)
+    write_list_blocks::lay_offsets(out, offsets, w, n)
 }
 
 // The list of the n vertices of the table in work, behind its `buckets` roots of trees.
@@ -183,7 +183,7 @@ pub fn lay_polygons(
         × ListRoom (l .at) 48 n (listSizes 48 n) ⌝ }
     ensures { λ r. ⌜ Laid l (listBlocks (l .at) LIST-VFT-POLYS 48 (polygonItems «area_id» 0 0 0 (polygonsAt (now (strip .entry)) 14 n))) r (now (out .entry)) (now (out .exit)) ⌝ }
 {
-    let parts = write_blocks::lay_list_front(out, l, LIST_VFT_POLYS, POLY_SIZE, n);
+    let parts = write_list_blocks::lay_list_front(out, l, LIST_VFT_POLYS, POLY_SIZE, n);
     let offsets = write_polygons::lay_records(out, parts, strip, area_id, n, sides);
-    write_blocks::lay_offsets(out, offsets, POLY_SIZE, n)
+    write_list_blocks::lay_offsets(out, offsets, POLY_SIZE, n)
 }

@@ -16,20 +16,27 @@ use Rattle.write_pages.specs.Pages.{sectors}
 use Rattle.write_pages.specs.Accepted.{FewIn, Accepted}
 use Rattle.write_pages.specs.PointCounts.{storedCount}
 
-pub leaves-length : (ids : QuarterBox → List ℕ) (stored : ℕ → List NavPoint) (d k : ℕ) (b : Aabb) → length (leafCounts (grown ids stored d k b)) ≡ 4 ^ d
-unfolding leafCounts grown
-leaves-length ids stored zero k b = refl
-leaves-length ids stored (suc d) k b =
+-- what has one element at a leaf, and where a sector is divided its four subs' elements one after the other, has 4^d in all
+pub length-grown : {A : Type 0} (f : ℕ → ℕ → Aabb → List A) → ((k : ℕ) (b : Aabb) → length (f 0 k b) ≡ 1)
+    → ((d k : ℕ) (b : Aabb) → f (suc d) k b ≡ f d k (sub0 b) ++ (f d (k + 4 ^ d) (sub1 b) ++ (f d (k + 2 * 4 ^ d) (sub2 b) ++ f d (k + 3 * 4 ^ d) (sub3 b))))
+    → (d k : ℕ) (b : Aabb) → length (f d k b) ≡ 4 ^ d
+length-grown f one four zero k b = omega (arith, one k b)
+length-grown f one four (suc d) k b =
     rw (
-      length-append (leafCounts (grown ids stored d k (sub0 b))),
-      length-append (leafCounts (grown ids stored d (k + 4 ^ d) (sub1 b))),
-      length-append (leafCounts (grown ids stored d (k + 2 * 4 ^ d) (sub2 b))),
-      leaves-length ids stored d k (sub0 b),
-      leaves-length ids stored d (k + 4 ^ d) (sub1 b),
-      leaves-length ids stored d (k + 2 * 4 ^ d) (sub2 b),
-      leaves-length ids stored d (k + 3 * 4 ^ d) (sub3 b),
+      four d k b,
+      length-append (f d k (sub0 b)),
+      length-append (f d (k + 4 ^ d) (sub1 b)),
+      length-append (f d (k + 2 * 4 ^ d) (sub2 b)),
+      length-grown f one four d k (sub0 b),
+      length-grown f one four d (k + 4 ^ d) (sub1 b),
+      length-grown f one four d (k + 2 * 4 ^ d) (sub2 b),
+      length-grown f one four d (k + 3 * 4 ^ d) (sub3 b),
       pow-suc 4 d,
     ) (omega arith)
+
+pub leaves-length : (ids : QuarterBox → List ℕ) (stored : ℕ → List NavPoint) (d k : ℕ) (b : Aabb) → length (leafCounts (grown ids stored d k b)) ≡ 4 ^ d
+unfolding leafCounts grown
+leaves-length ids stored = length-grown (λ d k b. leafCounts (grown ids stored d k b)) (λ k b. refl) (λ d k b. refl)
 
 pub few-leaves : (n : ℕ) → 4 ^ depthBy n ≤ 16
 few-leaves zero = omega arith
@@ -50,6 +57,6 @@ module _ (c : Cell) where
   unfolding sectors treeOf
   cell-leaves = leaves-length _ _ (depthOf (c .head)) 0 (rootBox (c .head))
 
-  -- 18 leaves at most 2,048 points in each of 16 leaves
+  -- check 18 lets no leaf store more than 2,048 points, and there are at most 16
   pub few-stored : Accepted c → storedCount c ≤ 32768
   few-stored a = omega (arith, few-in (sectors c) (a .leaves), cell-leaves, few-leaves (c .head .content / 2 ^ 2 % 2))

@@ -19,6 +19,7 @@ use Rattle.write_pages.specs.Preorder.{preorder}
 use Rattle.write_pages.specs.Sectors.Sector.{leaf, node}
 use Rattle.write_pages.specs.Pages.{sectors}
 use Rattle.write_pages.proofs.Lists.{keep-length}
+use Rattle.write_pages.proofs.LeafCounts.{length-grown}
 use Rattle.write_pages.specs.PointCounts.{leafBoxes, storedCount, inNone, outsideOf, dropped, droppedCount}
 use Rattle.write_pages.specs.Stored.{FirstIn, Outside, leafList, numbered}
 
@@ -82,18 +83,7 @@ points-total boxes (t ∷ ts) =
 
 boxes-length : (d : ℕ) (b : Aabb) → length (leaves d b) ≡ 4 ^ d
 unfolding leaves
-boxes-length zero b = refl
-boxes-length (suc d) b =
-    rw (
-      length-append (leaves d (sub0 b)),
-      length-append (leaves d (sub1 b)),
-      length-append (leaves d (sub2 b)),
-      boxes-length d (sub0 b),
-      boxes-length d (sub1 b),
-      boxes-length d (sub2 b),
-      boxes-length d (sub3 b),
-      pow-suc 4 d,
-    ) (omega arith)
+boxes-length d = length-grown (λ d k b. leaves d b) (λ k b. refl) (λ d k b. refl) d 0
 
 tree-total : (ids : QuarterBox → List ℕ) (stored : ℕ → List NavPoint) (d k : ℕ) (b : Aabb)
     → pointCount (grown ids stored d k b) ≡ total (λ j. length (stored j)) k (4 ^ d)

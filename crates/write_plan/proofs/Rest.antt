@@ -20,9 +20,10 @@ use Rattle.strip.proofs.Judged.{poly-next}
 use Rattle.write_pages.specs.Items.{floats, boxOf, gather}
 use Rattle.write_pages.specs.Sectors.{Sector, leafOf, leaves, depthBy, depthOf, rootBox, leafCounts, treeOf}
 use Rattle.write_pages.specs.Checks.{leavesVerdict}
-use Rattle.write_leaf_checks.specs.Work.{treeBy, FirstRefused, BoxesHeld, LeavesHeld}
+use Rattle.write_leaf_counts.specs.Work.{treeBy, BoxesHeld, LeavesHeld}
+use Rattle.write_leaf_checks.specs.FirstRefused.{FirstRefused}
 use Rattle.write_leaf_checks.specs.declared.LeafCheck.{LeafCheck}
-use Rattle.write_leaf_checks.proofs.Held.{tree-held}
+use Rattle.write_leaf_counts.proofs.Held.{tree-held}
 use Rattle.write_decide.specs.Decide.{workPlaces}
 use Rattle.write_decide.specs.declared.WorkPlaces.{WorkPlaces}
 use Rattle.write_decide.proofs.Fronts.{trees-in}

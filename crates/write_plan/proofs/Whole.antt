@@ -26,7 +26,7 @@ use Rattle.write_pages.specs.Sectors.{leaves, depthOf, rootBox, leafCounts, tre
 use Rattle.write_pages.specs.Pages.{links, sectors}
 use Rattle.write_pages.specs.Checks.{Verdict, fine, faultIf, firstFault, at}
 use Rattle.write_pages.proofs.Firsts.{passed}
-use Rattle.write_leaf_checks.specs.Work.{FirstRefused, passedThen}
+use Rattle.write_leaf_checks.specs.FirstRefused.{FirstRefused, passedThen}
 use Rattle.write_leaf_checks.specs.declared.LeafCheck.{LeafCheck}
 use Rattle.write_decide.specs.Decide.{beforeLeaves, onScan, decisionThen, trees, indicesAt, tablesEnd, Tabled, DecideDone}
 use Rattle.write_polygon_checks.specs.Steps.{says, VerdictHas}

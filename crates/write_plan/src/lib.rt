@@ -2,7 +2,7 @@
 ghost use mathlib.Core.Path.{_≡_};
 ghost use mathlib.Core.List.{[], _∷_};
 ghost use lib.Dec.{ltb};
-ghost use Rattle.write_pages.specs.Checks.{Verdict as Saying, faultIf, firstFault, at, leavesVerdict};
+ghost use Rattle.write_pages.specs.Checks.{faultIf, firstFault, at};
 ghost use Rattle.write_decide.specs.Decide.{workPlaces};
 ghost use Rattle.write_polygon_checks.specs.Steps.{VerdictHas};
 ghost use Prim.Native.Nat.{_+_, _*_, _/_, _%_, _^_, _≤_};
@@ -14,7 +14,7 @@ ghost use Rattle.strip.specs.Laid.{Whole};
 ghost use Rattle.cell_record.specs.Record.{recordOf};
 ghost use Rattle.write_pages.specs.Items.{boxOf};
 ghost use Rattle.write_pages.specs.Sectors.{leaves, depthBy, leafCounts, treeOf};
-ghost use Rattle.write_leaf_checks.specs.Work.{FirstRefused};
+ghost use Rattle.write_leaf_checks.specs.FirstRefused.{FirstRefused};
 ghost use Rattle.write_plan.specs.Plan.{boxWords, boxes, leafWords, pointsIn, restWords, WorkHeld, judged, Planned};
 use cell_record::CellRecord;
 use math::vec3::floats_at;
@@ -24,7 +24,7 @@ use strip::Poly;
 use strip::Refusal;
 use write_decide::Decision;
 use write_leaf_checks::LeafCheck;
-use write_leaf_checks::quarter_pair;
+use write_leaf_counts::quarter_pair;
 use write_polygon_checks::Verdict;
 
 // A polygon's quarter box, in three words from `at` on.

@@ -16,7 +16,7 @@ use Rattle.quarters.specs.Quarter.{bits16}
 use Rattle.quarters.specs.Bounds.{fold, greatest, leastSide}
 use Rattle.quarters.proofs.Quarters.{side-fits}
 use Rattle.math.specs.MinMax.{lesser}
-use Rattle.write_leaf_checks.proofs.Picks.{bits-below}
+use Rattle.write_leaf_counts.proofs.Picks.{bits-below}
 use Rattle.strip.specs.Cell.{NavPoly}
 use Rattle.strip.specs.Reading.{word, itemsAt, vecAt, polyAt, polygonOf, polygonAt}
 use Rattle.strip.specs.Rows.{after, polygonsAt, afterPolygons}

@@ -101,7 +101,7 @@ fn put_polygon(
         strip[flags_at + 2],
         last,
     ];
-    fields::put_all(out, place, 4, &words);
+    stores::put_all(out, place, 4, &words);
 }
 
 // The records of m polygons from c on, at `place`. The answer stands behind them.
@@ -173,7 +173,7 @@ pub fn lay_records(
     requires { ⌜ Standing (now strip) (now sides) start n × ListRoom (l .at) 48 n (partSizes 48 n) ⌝ }
     ensures { λ r. ⌜ Laid l (partsOf 48 n (recordsAt own (now (strip .entry)) start n)) r (now (out .entry)) (now (out .exit)) ⌝ }
 {
-    let k = write_blocks::part_count(POLY_SIZE, n);
+    let k = write_list_blocks::part_count(POLY_SIZE, n);
     let mut layout = l;
     let mut next = PolyCursor {
         at: 14,

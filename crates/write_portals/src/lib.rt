@@ -50,7 +50,7 @@ fn put_portal(out: &mut [u8], to: usize, strip: &[u32], at: usize, bb_min: Vec3,
         areas,
         areas / 0x1_0000,
     ];
-    fields::put_all(out, to, 2, &words);
+    stores::put_all(out, to, 2, &words);
 }
 
 // n portals, from the record at `first` on.
@@ -110,7 +110,7 @@ fn put_links(out: &mut [u8], start: usize, strip: &[u32], n: usize)
         let p = strip::poly_at(strip, at);
         let first = p.link_at;
         let end = p.vertex_at;
-        fields::put_all(out, to, 2, &strip[first..end]);
+        stores::put_all(out, to, 2, &strip[first..end]);
         to += 2 * p.links;
         at = p.next;
         i += 1;

@@ -15,9 +15,9 @@ use Rattle.write_runs.specs.Runs.{which, before, runWord, runWords, runE
 use Rattle.write_runs.specs.declared.Run.{Run}
 
 module _ (ws : List ℕ) (grows k : ℕ) where
-  pub word-grown : (w : ℕ) → which ws k ≡ grows → w ≡ leAt 4 ws (4 * which ws k) → (w + 256 * before ws k) % 4294967296 ≡ runWord ws grows k
+  pub word-grown : (w : ℕ) → which ws k ≡ grows → w ≡ leAt 4 ws (4 * which ws k) → {n : ℕ} → n ≡ (w + 256 * before ws k) % 4294967296 → n ≡ runWord ws grows k
   unfolding runWord
-  word-grown w h e = rw (eq-eqb (which ws k) grows h) (ap (λ (x : ℕ). (x + 256 * before ws k) % 4294967296) e)
+  word-grown w h e is = rw (eq-eqb (which ws k) grows h) (is ∙ ap (λ (x : ℕ). (x + 256 * before ws k) % 4294967296) e)
 
   pub word-given : (w : ℕ) → (which ws k ≡ grows → ⊥) → w ≡ leAt 4 ws (4 * which ws k) → w ≡ runWord ws grows k
   unfolding runWord

@@ -3,10 +3,10 @@ ghost use Prim.Native.Nat.{_+_, _*_, _≤_, _<_, _^_, min};
 ghost use lib.ListN.{length};
 ghost use Rattle.write_vertices.specs.Table.{met};
 ghost use Rattle.write_vertex_numbers.specs.Numbers.{InWork, triplesOf, NumberedAll};
+use write_vertex_index::clear;
+use write_vertex_index::vertex_index;
 use write_vertices::Numbered;
-use write_vertices::clear;
 use write_vertices::tree_count;
-use write_vertices::vertex_index;
 use write_vertices::whole_triple_at;
 
 pub enum All {

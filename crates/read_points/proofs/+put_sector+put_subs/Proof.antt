@@ -66,7 +66,7 @@ abbrev put-subs-μ-loop : put-subs-lts.MeasureT-loop
 put-subs-μ-loop system graphics sector left strip₀ at l₀ e₀ i₀ strip l e i = i
 
 put-subs-loop-holds : (t : ℕ) → put-subs-lts.Need-loop-holds (put-subs-calls t) (put-subs-at t) put-subs.Post put-subs-Inv-loop put-subs-μ-loop
-put-subs-loop-holds t c = record { few = search needs; spent = search needs; long = refl; fits = c .before .before .before .before .pre .1; then = λ r new w. w }
+put-subs-loop-holds t c = record { few = search needs; spent = search needs; long = refl; fits = c .before .before .before .before .pre .1; goes-on = λ r new w. w }
 
 put-subs-put-sector-requires : (t : ℕ) → put-subs-lts.Need-put-sector-requires (put-subs-calls t) (put-subs-at t) put-subs.Post put-subs-Inv-loop put-subs-μ-loop
 put-subs-put-sector-requires t c κs = (omega arith, rest-tree _ _ (c .before .before .before .before .loop .inv) (c .before .before .before .loop-test .taken) (c .before .before .sub-at .ensures) (c .before .if1 .taken))

@@ -13,7 +13,7 @@ use Rattle.read_grammar.specs.Polygons.{edgeOf}
 use Rattle.read_grammar.specs.Derives.{areaOf}
 use Rattle.read_lists.specs.Cursors.{AtPart}
 use Rattle.fields.proofs.Cuts.{cut-length}
-use Rattle.read_polygon_words.proofs.Words.{edge-six}
+use Rattle.read_edge_words.proofs.Edges.{edge-six}
 use Rattle.read_list_set.specs.Items.{itemsIn}
 use Rattle.read_list_set.proofs.Runs.{left, left-begin, left-end, taken, put-part, put-first, put-none}
 use Rattle.read_polygon_sides.proofs.put_edges.Statement.{statement}

@@ -50,7 +50,7 @@ abbrev subs-μ-loop : visit-subs-lts.MeasureT-loop
 subs-μ-loop system graphics sector left points l₀ p₀ i₀ l p i = i
 
 subs-loop-holds : (t : ℕ) → visit-subs-lts.Need-loop-holds (subs-calls t) (visit-subs-at t) visit-subs.Post subs-Inv-loop subs-μ-loop
-subs-loop-holds t c = record { few = search needs; spent = search needs; within = search needs; then = λ r w. w }
+subs-loop-holds t c = record { few = search needs; spent = search needs; within = search needs; goes-on = λ r w. w }
 
 subs-returns : (t : ℕ) → visit-subs-lts.Need-returns (subs-calls t) (visit-subs-at t) visit-subs.Post subs-Inv-loop subs-μ-loop
 subs-returns t c =

@@ -11,7 +11,8 @@ use Rattle.strip.specs.Cell.{NavPoint}
 use Rattle.write_leaf_checks.specs.declared.LeafCheck.{LeafCheck}
 use Rattle.write_leaf_checks.specs.declared.LeafCheck.the-variants as LeafCheck
 use Rattle.write_pages.specs.Sectors.{leafIds, sub0, sub1, sub2, leafCounts}
-use Rattle.write_leaf_checks.specs.Work.{boxesIn, pickedFrom, treeBy, FirstRefused}
+use Rattle.write_leaf_counts.specs.Work.{boxesIn, pickedFrom, treeBy}
+use Rattle.write_leaf_checks.specs.FirstRefused.{FirstRefused}
 use Rattle.write_quadtree.proofs.Widths.{down, quarter-width, one-down}
 use Rattle.write_leaf_checks.proofs.LeafVerdicts.{stop0, stop1, stop2, last3}
 use borrow.Author.Needs.{needs}

@@ -6,15 +6,15 @@ use lib.ListN.{length}
 use denote.Ref.{now}
 use Rattle.strip.specs.Cell.{NavPoint}
 use Rattle.write_pages.specs.Sectors.{grown, leafCounts}
-use Rattle.write_leaf_checks.specs.Work.{countIn, pickedFrom}
-use Rattle.write_leaf_checks.proofs.Picks.{count-picked}
+use Rattle.write_leaf_counts.specs.Work.{countIn, pickedFrom}
+use Rattle.write_leaf_counts.proofs.Picks.{count-picked}
 use Rattle.write_leaf_checks.proofs.LeafVerdicts.{tells-17, tells-18, tells-none}
 use Rattle.write_leaf_checks.proofs.check_leaf.Statement.{statement}
 use Rattle.write_leaf_checks.proofs.check_leaf.Tie as tie
 use Rattle.write_leaf_checks.proofs.check_leaf.Reads as reads
 use Rattle.write_leaf_checks.proofs.check_leaf.Lts as lts
-use Rattle.write_leaf_checks.proofs.count_points.Reads as count-points-reads
-use Rattle.write_leaf_checks.proofs.leaf_ids.Reads as leaf-ids-reads
+use Rattle.write_leaf_counts.proofs.count_points.Reads as count-points-reads
+use Rattle.write_leaf_counts.proofs.leaf_ids.Reads as leaf-ids-reads
 
 abbrev claims : lts.Claims
 claims = (leaf-ids-reads.Asked, leaf-ids-reads.Learnt, count-points-reads.Asked, count-points-reads.Learnt)

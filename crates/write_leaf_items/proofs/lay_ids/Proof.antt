@@ -12,7 +12,7 @@ use Rattle.fields.proofs.Bytes.{length-les}
 use Rattle.write_blocks.specs.Layout.{behind, endOf}
 use Rattle.write_blocks.specs.Optional.{sizeOf}
 use Rattle.write_pages.specs.Sectors.{leafIds, quarters}
-use Rattle.write_leaf_checks.specs.Work.{boxesIn}
+use Rattle.write_leaf_counts.specs.Work.{boxesIn}
 use Rattle.quarters.specs.declared.quarter.QuarterBox.{QuarterBox}
 use borrow.Author.Needs.{needs}
 use Rattle.write_leaf_items.proofs.lay_ids.Statement.{statement}

@@ -9,7 +9,7 @@ use Rattle.fields.specs.Bytes.{cat}
 use Rattle.strip.specs.Rows.{pointsAt}
 use Rattle.write_pages.specs.Sectors.{pointItems}
 use Rattle.write_pages.proofs.Sizes.{length-points}
-use Rattle.write_leaf_checks.specs.Work.{pickedFrom}
+use Rattle.write_leaf_counts.specs.Work.{pickedFrom}
 use borrow.Author.Needs.{needs}
 use Rattle.write_leaf_items.proofs.lay_points.Statement.{statement}
 use Rattle.write_leaf_items.proofs.lay_points.Tie as tie

@@ -10,8 +10,8 @@ use Rattle.fields.specs.Bytes.{les}
 use Rattle.fields.specs.Put.{put}
 use Rattle.fields.proofs.Puts.{put-nil, length-put}
 use Rattle.write_pages.specs.Sectors.{meets, leafIds}
-use Rattle.write_leaf_checks.specs.Work.{boxAt, boxesAt, boxesIn}
-use Rattle.write_leaf_checks.proofs.Picks.{ids-turn, count-ids-turn, ids-end}
+use Rattle.write_leaf_counts.specs.Work.{boxAt, boxesAt, boxesIn}
+use Rattle.write_leaf_counts.proofs.Picks.{ids-turn, count-ids-turn, ids-end}
 use Rattle.write_leaf_items.proofs.Keeping.{put-id}
 use Rattle.write_leaf_items.proofs.put_ids.Statement.{statement}
 use Rattle.write_leaf_items.proofs.put_ids.Tie as tie

@@ -14,7 +14,7 @@ use Rattle.strip.specs.Cell.{NavPoint}
 use Rattle.strip.specs.Reading.{pointAt}
 use Rattle.strip.specs.Rows.{pointsAt}
 use Rattle.write_pages.specs.Sectors.{pointItems}
-use Rattle.write_leaf_checks.specs.Work.{pickedFrom}
+use Rattle.write_leaf_counts.specs.Work.{pickedFrom}
 use Rattle.write_pages.proofs.Lists.{keep-length}
 use Rattle.write_leaf_items.proofs.Keeping.{put-point, points-turn, points-end}
 use Rattle.write_leaf_items.proofs.put_points.Statement.{statement}

@@ -15,8 +15,8 @@ use Rattle.write_blocks.specs.Laid.{Laid}
 use Rattle.write_blocks.specs.Optional.{blockOf, sizeOf}
 use Rattle.write_pages.specs.Sectors.{quarters, leafIds, grown, pointsFrom, dataFrom}
 use Rattle.write_pages.specs.Sectors.Sector.{leaf}
-use Rattle.write_leaf_checks.specs.Work.{boxesIn, pickedFrom, countIn}
-use Rattle.write_leaf_checks.proofs.Picks.{count-picked}
+use Rattle.write_leaf_counts.specs.Work.{boxesIn, pickedFrom, countIn}
+use Rattle.write_leaf_counts.proofs.Picks.{count-picked}
 use Rattle.write_leaves.specs.Written.{TreeRoom}
 use Rattle.write_leaves.proofs.Leaves.{Bounds, bounds, ids-ends, points-ends, leaf-wrote}
 use Rattle.write_leaves.proofs.write_leaf.Statement.{statement}
@@ -26,8 +26,8 @@ use Rattle.write_leaves.proofs.write_leaf.Lts as lts
 use Rattle.write_blocks.proofs.Layouts.{at-of}
 use Rattle.write_blocks.proofs.Layout.alloc.Reads as alloc-reads
 use Rattle.write_blocks.proofs.pad.Reads as pad-reads
-use Rattle.write_leaf_checks.proofs.count_points.Reads as count-points-reads
-use Rattle.write_leaf_checks.proofs.leaf_ids.Reads as leaf-ids-reads
+use Rattle.write_leaf_counts.proofs.count_points.Reads as count-points-reads
+use Rattle.write_leaf_counts.proofs.leaf_ids.Reads as leaf-ids-reads
 use Rattle.write_blocks.proofs.address_of.Reads as address-of-reads
 use Rattle.write_leaf_items.proofs.lay_data.Reads as lay-data-reads
 use Rattle.write_leaf_items.proofs.lay_ids.Reads as lay-ids-reads

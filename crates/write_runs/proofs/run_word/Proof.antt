@@ -1,4 +1,4 @@
--- `write_runs::run_word` meets its contract: its callee's equation.
+-- `write_runs::run_word` meets its contract: its callee's equation, and the sum however it is written.
 use Prim.Native.Nat.{_/_}
 use native.Mathlib.Nat.{mod-lt, div-le-self}
 use native.Mathlib.Omega.{arith}
@@ -18,7 +18,7 @@ add-result : tie.Need-add-result
 add-result c = let a = c .before .before .before .args in omega (arith, div-le-self (a .k) (length (a .words .now) / 4))
 
 returns : tie.Need-returns
-returns c = word-grown _ _ _ _ (c .if1 .taken) (c .before .u32-le .ensures)
+returns c = word-grown _ _ _ _ (c .if1 .taken) (c .before .u32-le .ensures) (omega arith)
 
 returns-2 : tie.Need-returns-2
 returns-2 c = word-given _ _ _ _ (c .if1 .left) (c .before .u32-le .ensures)

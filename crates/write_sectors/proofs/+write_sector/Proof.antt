@@ -12,7 +12,7 @@ use Rattle.strip.specs.Cell.{NavPoint}
 use Rattle.strip.specs.Rows.{pointsAt}
 use Rattle.write_blocks.specs.Layout.{behind}
 use Rattle.write_pages.specs.Sectors.{leafIds, grown, from0}
-use Rattle.write_leaf_checks.specs.Work.{boxesIn, pickedFrom}
+use Rattle.write_leaf_counts.specs.Work.{boxesIn, pickedFrom}
 use Rattle.write_quadtree.proofs.Widths.{down}
 use Rattle.write_leaves.specs.declared.SectorCursor.{SectorCursor}
 use Rattle.write_leaves.specs.Written.{TreeRoom}

@@ -8,17 +8,17 @@ use mir.Val.{SFits, toZ, ofZ}
 use mir.ValLaws.{toZ-pos, toZ-ofZ}
 use borrow.Author.Needs.{needs}
 use borrow.Author.Tests.{lt-ltb}
-use Rattle.quarters.proofs.Quarters.{minus, wide, below-fits, below-bits}
+use Rattle.quarters.proofs.Quarters.{zero-minus, wide, below-fits, below-bits}
 use Rattle.quarters.proofs.quarter.i16_of.Statement.{statement}
 use Rattle.quarters.proofs.quarter.i16_of.Tie as tie
 
 -- 0 - n in 32 bits, which 16 hold too
 module _ (n : ℕ) (h : n ≤ 32768) where
   made : SFits w32 (pos 0 -ℤ toZ w32 n)
-  made = subst (SFits w32) (sym (minus w32 n (omega arith))) (wide (negℤ (pos n)) (below-fits n h))
+  made = subst (SFits w32) (sym (zero-minus w32 n (omega arith))) (wide (negℤ (pos n)) (below-fits n h))
 
   is : toZ w32 (ofZ w32 (pos 0 -ℤ toZ w32 n)) ≡ negℤ (pos n)
-  is = toZ-ofZ w32 (pos 0 -ℤ toZ w32 n) made ∙ minus w32 n (omega arith)
+  is = toZ-ofZ w32 (pos 0 -ℤ toZ w32 n) made ∙ zero-minus w32 n (omega arith)
 
   narrow : SFits w16 (toZ w32 (ofZ w32 (pos 0 -ℤ toZ w32 n)))
   narrow = subst (SFits w16) (sym is) (below-fits n h)

@@ -8,7 +8,7 @@ use mir.Val.{SFits, toZ}
 use mir.ValLaws.{toZ-ofZ}
 use borrow.Author.Needs.{needs}
 use Rattle.quarters.specs.Quarter.{saturated}
-use Rattle.quarters.proofs.Quarters.{minus}
+use Rattle.quarters.proofs.Quarters.{zero-minus}
 use Rattle.quarters.proofs.quarter.negative.Statement.{statement}
 use Rattle.quarters.proofs.quarter.negative.Tie as tie
 
@@ -24,12 +24,12 @@ cast-result : tie.Need-cast-result
 cast-result c = search needs
 
 sub-result : tie.Need-sub-result
-sub-result c = subst (SFits w16) (sym (minus w16 (c .before .args .n) (c .if1 .taken))) (in-range (c .before .args .n) (c .if1 .taken) .0)
+sub-result c = subst (SFits w16) (sym (zero-minus w16 (c .before .args .n) (c .if1 .taken))) (in-range (c .before .args .n) (c .if1 .taken) .0)
 
 returns : tie.Need-returns
 returns c =
     let n = c .before .args .n in
-    toZ-ofZ w16 (pos 0 -ℤ toZ w16 n) (sub-result c) ∙ minus w16 n (c .if1 .taken) ∙ in-range n (c .if1 .taken) .1
+    toZ-ofZ w16 (pos 0 -ℤ toZ w16 n) (sub-result c) ∙ zero-minus w16 n (c .if1 .taken) ∙ in-range n (c .if1 .taken) .1
 
 returns-2 : tie.Need-returns-2
 returns-2 c = out-of-range (c .before .args .n) (c .if1 .left)
