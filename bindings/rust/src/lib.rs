@@ -84,7 +84,7 @@ pub struct Counts {
 }
 
 /// What saving wrote, and what became of the points: a point is stored once, in the first leaf that contains it in x and
-/// y, borders included, and dropped where none does. Stored and dropped make the points of the strip, which is proved.
+/// y, borders included, and dropped where none does. The two counts add up to how many points the strip has, which is proved.
 #[derive(Debug, Clone, Copy, PartialEq, Eq)]
 #[non_exhaustive]
 pub struct Written {

@@ -8,7 +8,8 @@ use lib.ListN.{length, getD}
 use borrow.Author.Tests.{lt-ltb}
 use Rattle.fields.proofs.Rows.{pack-lt, bits-back}
 use Rattle.distinct.specs.Distinct.{indexOf}
-use Rattle.distinct.proofs.Final.{In, found}
+use Rattle.distinct.specs.Members.{In}
+use Rattle.distinct.proofs.Final.{found}
 use Rattle.areas.specs.EdgeHalf.{halfRow, halfWord, areaOf}
 use Rattle.areas.specs.Decoded.{decodedEnd}
 use Rattle.areas.specs.declared.edge.RawEnd.{RawEnd}

@@ -18,49 +18,49 @@ use Rattle.areas.specs.declared.AreaAnswer.{AreaAnswer}
 use Rattle.areas.specs.declared.AreaAnswer.the-variants.{At, Full}
 
 module _ (ids : List ℕ) (long : length ids ≡ 32) (len x count at : ℕ) (held : count ≡ min len 32) (here : at ≡ indexOf (take len ids) x) where
-  size : length (take len ids) ≡ count
-  size = rw (length-take len ids, long, held)
+  taken-length : length (take len ids) ≡ count
+  taken-length = rw (length-take len ids, long, held)
 
   -- x is in the table
   module _ (h : at < count) where
     old : isIn (take len ids) x ≡ true
-    old = lt-ltb (indexOf (take len ids) x) (length (take len ids)) (omega (arith, size))
+    old = lt-ltb (indexOf (take len ids) x) (length (take len ids)) (omega (arith, taken-length))
 
     few : length (take len ids) ≤ 32
-    few = omega (arith, size)
+    few = omega (arith, taken-length)
 
     pub answer-old : (k n : ℕ) → k ≡ at → n ≡ count → Entered (take len ids) x (record { at = At k; len = n }) × (ids ≡ over (upTo 32 (take len ids) x) ids)
     answer-old k n ek en =
         let up = up-old 32 (take len ids) x old few in
-        (record { answer = λ place. rw (up .0, ek, here); size = rw (up .1, size, en) }, rw (up .1, over-own len ids))
+        (record { answer = λ place. rw (up .0, ek, here); len-is = rw (up .1, taken-length, en) }, rw (up .1, over-own len ids))
 
   module _ (h : count ≤ at) where
     out : isIn (take len ids) x ≡ false
-    out = le-ltb (indexOf (take len ids) x) (length (take len ids)) (omega (arith, size))
+    out = le-ltb (indexOf (take len ids) x) (length (take len ids)) (omega (arith, taken-length))
 
     place : indexOf (take len ids) x ≡ count
-    place = omega (arith, size, index-most (take len ids) x)
+    place = omega (arith, taken-length, index-most (take len ids) x)
 
     -- x is new, and there is room
     module _ (room : count < 32) where
       less : length (take len ids) < 32
-      less = omega (arith, size)
+      less = omega (arith, taken-length)
 
       pub answer-new : (k n : ℕ) → k ≡ count → n ≡ count + 1 → Entered (take len ids) x (record { at = At k; len = n }) × (set ids k x ≡ over (upTo 32 (take len ids) x) ids)
       answer-new k n ek en =
           let up = up-new 32 (take len ids) x out less in
-          (record { answer = λ spot. rw (up .0, place, ek); size = rw (up .1, length-append (take len ids) (x ∷ []), size, en) }, rw (up .1, over-one len ids x, size, ek))
+          (record { answer = λ spot. rw (up .0, place, ek); len-is = rw (up .1, length-append (take len ids) (x ∷ []), taken-length, en) }, rw (up .1, over-one len ids x, taken-length, ek))
 
     -- x would be a 33rd
     module _ (full : 32 ≤ count) where
       many : 32 ≤ length (take len ids)
-      many = omega (arith, size)
+      many = omega (arith, taken-length)
 
       pub answer-full : (n : ℕ) → n ≡ 32 → Entered (take len ids) x (record { at = Full; len = n }) × (ids ≡ over (upTo 32 (take len ids) x) ids)
       answer-full n en =
           let up = up-full 32 (take len ids) x out many in
           let all : count ≡ 32 = omega (arith, min-le-right len 32) in
-          (record { answer = λ place. rw (up .0); size = rw (up .1, size, all, en) }, rw (up .1, over-own len ids))
+          (record { answer = λ place. rw (up .0); len-is = rw (up .1, taken-length, all, en) }, rw (up .1, over-own len ids))
 
 -- the table after it
 pub ids-after : (ids : List ℕ) → length ids ≡ 32 → (len x : ℕ) → let l = upTo 32 (take len ids) x in take (length l) (over l ids) ≡ l

@@ -13,6 +13,7 @@ use Rattle.distinct.specs.Numbers.{upTo}
 use Rattle.distinct.proofs.Laws.{length-with, up-room}
 use Rattle.distinct.proofs.Final.{with-grows, length-distinct}
 use Rattle.areas.specs.Areas.{wrap, seeds, seeded}
+use Rattle.areas.specs.EdgeHalf.{ADJACENT-NONE}
 use Rattle.areas.specs.Tables.{withArea, stored}
 use Rattle.areas.specs.declared.Areas.{Areas}
 
@@ -38,11 +39,11 @@ unfolding over
 seeding-start xs = record { few = omega arith; long = refl; words = refl; left = refl }
 
 module _ (xs ids : List ℕ) (len i x : ℕ) (g : Seeding xs ids len i) (lt : i < length xs) (small : i < 32) (ex : x ≡ getD xs i 0) where
-  size : length (take len ids) ≡ len
-  size = length-take-le len ids (omega (arith, g .few, g .long))
+  taken-length : length (take len ids) ≡ len
+  taken-length = length-take-le len ids (omega (arith, g .few, g .long))
 
   grown : upTo 32 (take len ids) x ≡ withNew (take len ids) x
-  grown = up-room 32 (take len ids) x (omega (arith, size, g .few))
+  grown = up-room 32 (take len ids) x (omega (arith, taken-length, g .few))
 
   more : drop i xs ≡ x ∷ drop (i + 1) xs
   more = rw (add-one, ex) (drop-cons xs i 0 lt)
@@ -56,9 +57,9 @@ module _ (xs ids : List ℕ) (len i x : ℕ) (g : Seeding xs ids len i) (lt : i 
       let l = withNew (take len ids) x in
       let el : t .len ≡ length l = ap (λ (r : Areas). r .len) et ∙ ap length grown in
       let ei : t .ids ≡ over (upTo 32 (take len ids) x) ids = ap (λ (r : Areas). r .ids) et in
-      let front : take (t .len) (t .ids) ≡ l = rw (el, ei, grown) (take-over l ids (omega (arith, length-with (take len ids) x, size, g .few, g .long))) in
+      let front : take (t .len) (t .ids) ≡ l = rw (el, ei, grown) (take-over l ids (omega (arith, length-with (take len ids) x, taken-length, g .few, g .long))) in
       record {
-        few = omega (arith, el, length-with (take len ids) x, size, g .few);
+        few = omega (arith, el, length-with (take len ids) x, taken-length, g .few);
         long = rw (ei, length-over) (g .long);
         words = rw front (ei ∙ ap (λ (z : List ℕ). over z ids) grown ∙ ap (over l) (g .words) ∙ over-longer (take len ids) l (zeros 32) longer);
         left = rw front (sym (rw more) ∙ g .left);
@@ -69,7 +70,7 @@ unfolding distinctFrom
 seeding-done xs ids len i g e few =
     let none : drop i xs ≡ [] = rw e (drop-length xs) in
     let all : take len ids ≡ distinctFrom [] xs = sym (rw none) ∙ g .left in
-    let size : len ≡ length (distinctFrom [] xs) = sym (length-take-le len ids (omega (arith, g .few, g .long))) ∙ ap length all in
+    let taken-length : len ≡ length (distinctFrom [] xs) = sym (length-take-le len ids (omega (arith, g .few, g .long))) ∙ ap length all in
     let words : ids ≡ over (distinctFrom [] xs) (zeros 32) = g .words ∙ ap (λ (l : List ℕ). over l (zeros 32)) all in
     cc
 
@@ -79,5 +80,5 @@ wrap-sub k a r h z l e = omega arith
 
 -- the table of six numbers that are the seeds
 pub seeds-by-number : (a : ℕ) {w x y z : ℕ} → w ≡ wrap (a + (2 ^ 32 - 100)) → x ≡ wrap (a + (2 ^ 32 - 1)) → y ≡ wrap (a + 1) → z ≡ wrap (a + 100)
-    → stored (distinctFrom [] (a ∷ 16383 ∷ w ∷ x ∷ y ∷ z ∷ [])) (zeros 32) ≡ stored (seeded a) (zeros 32)
+    → stored (distinctFrom [] (a ∷ ADJACENT-NONE ∷ w ∷ x ∷ y ∷ z ∷ [])) (zeros 32) ≡ stored (seeded a) (zeros 32)
 seeds-by-number a e f g h = rw (e, f, g, h)

@@ -2,14 +2,15 @@
 use Prim.Native.Nat.{ℕ, _+_, _-_, _%_, _^_}
 use mathlib.Core.List.{List, [], _∷_}
 use Rattle.distinct.specs.Distinct.{distinctFrom}
+use Rattle.areas.specs.EdgeHalf.{ADJACENT-NONE}
 
 -- n in 32 bits
 abbrev pub wrap : ℕ → ℕ
 wrap n = n % 2 ^ 32
 
--- own id a, 16383, a - 100, a - 1, a + 1, a + 100, all wrapping
+-- own id a, ADJACENT-NONE, a - 100, a - 1, a + 1, a + 100, all wrapping
 abbrev pub seeds : ℕ → List ℕ
-seeds a = a ∷ 16383 ∷ wrap (a + (2 ^ 32 - 100)) ∷ wrap (a + (2 ^ 32 - 1)) ∷ wrap (a + 1) ∷ wrap (a + 100) ∷ []
+seeds a = a ∷ ADJACENT-NONE ∷ wrap (a + (2 ^ 32 - 100)) ∷ wrap (a + (2 ^ 32 - 1)) ∷ wrap (a + 1) ∷ wrap (a + 100) ∷ []
 
 -- equal ones once
 abbrev pub seeded : ℕ → List ℕ

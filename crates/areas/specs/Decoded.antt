@@ -2,11 +2,11 @@
 use Prim.Native.Nat.{ℕ}
 use Rattle.fields.specs.Rows.{field}
 use Rattle.areas.specs.declared.edge.RawEnd.{RawEnd}
-use Rattle.areas.specs.EdgeHalf.{halfWord, none}
+use Rattle.areas.specs.EdgeHalf.{halfWord, ADJACENT-NONE}
 
--- NONE, where the area `none` has this index: unk2 and unk3 are zero
+-- NONE, where the area ADJACENT-NONE has this index: unk2 and unk3 are zero
 abbrev pub noneWord : ℕ → ℕ
-noneWord index = halfWord index none 0 0
+noneWord index = halfWord index ADJACENT-NONE 0 0
 
 -- the fields of a word
 abbrev pub decodedEnd : ℕ → RawEnd

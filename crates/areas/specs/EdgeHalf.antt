@@ -13,9 +13,9 @@ unfoldable pub halfWord : ℕ → ℕ → ℕ → ℕ → ℕ
 halfWord index poly unk2 unk3 = pack (halfRow index poly unk2 unk3)
 
 -- the area of NONE, and its poly
-abbrev pub none : ℕ
-none = 16383
+abbrev pub ADJACENT-NONE : ℕ
+ADJACENT-NONE = 16383
 
--- the area of a read index, when the area at i is `area i`: one not below the area count gives `none`
+-- the area of a read index, when the area at i is `area i`: one not below the area count gives ADJACENT-NONE
 abbrev pub areaOf : (ℕ → ℕ) → ℕ → ℕ → ℕ
-areaOf area count index = cond (ltb index count) (area index) none
+areaOf area count index = cond (ltb index count) (area index) ADJACENT-NONE

@@ -27,7 +27,7 @@ areaAt ids id place = cond (leb (length (withNew ids id)) 32) (values (indexOf i
 -- r answers for an id, with the length of the table after it
 pub record Entered (ids : List ℕ) (id : ℕ) (r : Entry) : Type 0 where
   pub answer : (place : ℕ) → paper (r .at) place ≡ areaAt ids id place
-  pub size : r .len ≡ length (upTo 32 ids id)
+  pub len-is : r .len ≡ length (upTo 32 ids id)
 
 -- the ids of a table: 32 at most, since the array has no more
 abbrev pub areaIds : Areas → List ℕ

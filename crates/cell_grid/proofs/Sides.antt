@@ -11,13 +11,7 @@ use lib.Ieee.{Float, nan, inf, fin, up, down, add, sub, mul, div, ofInt}
 use borrow.Author.Tests.{eqb-true}
 use Rattle.strip.proofs.Judged.{both}
 use Rattle.cell_grid.specs.Grid.{inGrid, coordinate, lowSide, highSide}
-
--- x is 150 * c - 6000
-abbrev pub IsSide : Float → ℕ → Type 0
-IsSide nan c = ⊥
-IsSide (inf s) c = ⊥
-IsSide (fin true m e) c = m * up e + 150 * c * down e ≡ 6000 * down e
-IsSide (fin false m e) c = m * up e + 6000 * down e ≡ 150 * c * down e
+use Rattle.cell_grid.specs.Sides.{IsSide, Sides}
 
 isSide : Float → ℕ → Bool
 isSide nan c = false
@@ -31,11 +25,6 @@ is-side nan c h = let z : _≡_ {A = ℕ} 0 1 = cc in absurd (omega arith)
 is-side (inf s) c h = let z : _≡_ {A = ℕ} 0 1 = cc in absurd (omega arith)
 is-side (fin true m e) c h = eqb-true _ _ h
 is-side (fin false m e) c h = eqb-true _ _ h
-
-pub record Sides (c : ℕ) : Type 0 where
-  pub low : IsSide (lowSide c) c
-  pub high : IsSide (highSide c) (suc c)
-  pub own : coordinate (lowSide c) ≡ c
 
 test : ℕ → Bool
 unfolding isSide

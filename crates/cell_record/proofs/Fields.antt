@@ -12,7 +12,8 @@ use Rattle.strip.proofs.Box.{box-finite}
 use Rattle.cell_record.specs.Record.{recordOf, headBy, rootIn}
 use Rattle.cell_record.specs.Floats.{floats}
 use Rattle.cell_record.specs.declared.CellRecord.{CellRecord}
-use Rattle.cell_record.proofs.Back.{WordBox, head-back}
+use Rattle.cell_record.specs.Words.{WordBox}
+use Rattle.cell_record.proofs.Back.{head-back}
 
 module _ (h : Head) (r : CellRecord) (e : r ≡ recordOf h) where
   pub flags-are : r .«content_flags» ≡ h .content
@@ -42,7 +43,7 @@ module _ (h : Head) (r : CellRecord) (e : r ≡ recordOf h) where
 pub word-box : (s : List ℕ) → ((k : ℕ) → word s k < 2 ^ 32) → WordBox (headAt s 0)
 unfolding headAt
 word-box s w = record {
-  min = record { x = w 5; y = w 6; z = w 7 };
-  max = record { x = w 8; y = w 9; z = w 10 };
-  size = record { x = w 11; y = w 12; z = w 13 };
+  bb-min = record { x = w 5; y = w 6; z = w 7 };
+  bb-max = record { x = w 8; y = w 9; z = w 10 };
+  bb-size = record { x = w 11; y = w 12; z = w 13 };
 }

@@ -4,12 +4,9 @@ ghost use mathlib.Core.Path.{_≡_};
 ghost use Prim.Native.Nat.{_≤_};
 ghost use lib.ListN.{length};
 ghost use Rattle.strip.specs.Reading.{headAt};
-ghost use Rattle.quantise.specs.Short.{shorts};
-ghost use Rattle.quantise.specs.Coordinates.{coordinates};
 ghost use Rattle.cell_record.specs.Record.{recordOf, rootIn};
 use math::vec3::Vec3;
 use math::vec3::floats_at;
-use quantise::short::Shorts;
 use quarters::bounds::Aabb;
 
 pub struct CellRecord {
@@ -23,24 +20,6 @@ pub struct CellRecord {
 }
 
 impl CellRecord {
-    // The three shorts of a position in the cell's box.
-    pub fn quantise(self, v: Vec3) -> Shorts
-        ensures { λ r. ⌜ r ≡ shorts v (self .«bb_min») (self .«bb_size») ⌝ }
-    {
-        let bb_min = self.bb_min;
-        let bb_size = self.bb_size;
-        quantise::short::quantise(v, bb_min, bb_size)
-    }
-
-    // The position that three shorts stand for in the cell's box.
-    pub fn unquantise(self, q: Shorts) -> Vec3
-        ensures { λ r. ⌜ r ≡ coordinates q (self .«bb_min») (self .«bb_size») ⌝ }
-    {
-        let bb_min = self.bb_min;
-        let bb_size = self.bb_size;
-        quantise::short::unquantise(q, bb_min, bb_size)
-    }
-
     // The box that splits into leaves.
     pub fn root_box(self) -> Aabb
         ensures { λ r. ⌜ r ≡ rootIn self ⌝ }

@@ -16,6 +16,9 @@ pub const MOST_INPUT: usize = 65536;
 // No line is longer.
 pub const LONGEST: usize = 139;
 
+// The word of a strip that is the cell's area id.
+const AREA_ID: usize = 2;
+
 // Stores a short text with a number behind it from `at` on, and answers the place behind them.
 fn put_named(line: &mut [u8], at: usize, name: &[u8], n: u64) -> usize
     requires { ⌜ (at ≤ 200) × (length (now name) ≤ 20) ⌝ }
@@ -76,7 +79,7 @@ pub fn cellsum_line(input: &[u8], strip: &mut [u32], line: &mut [u8]) -> usize
         );
     }
     match ynv_read::parse_ynv(input, &input[..0], strip) {
-        ParseAnswer::Parsed(p) => put_cell(line, strip[2], p),
+        ParseAnswer::Parsed(p) => put_cell(line, strip[AREA_ID], p),
         ParseAnswer::Refused(r) => put_refusal(line, r),
     }
 }

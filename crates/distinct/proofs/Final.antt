@@ -12,11 +12,8 @@ use lib.Dec.{eqb}
 use borrow.Author.Tests.{eqb-true, ltb-true, eq-eqb}
 use Rattle.distinct.specs.Distinct.{indexOf, isIn, withNew, distinctFrom}
 use Rattle.distinct.specs.Numbers.{numbersFrom}
+use Rattle.distinct.specs.Members.{In, Once}
 use Rattle.distinct.proofs.Laws.{with-old, with-fresh, fresh-index, length-with}
-
--- x is in l
-abbrev pub In : List ℕ → ℕ → Type 0
-In l x = indexOf l x < length l
 
 -- what stands at its index
 pub found : (l : List ℕ) (x : ℕ) → In l x → getD l (indexOf l x) 0 ≡ x
@@ -101,10 +98,6 @@ pub distinct-append : (l xs ys : List ℕ) → distinctFrom l (xs ++ ys) ≡ dis
 unfolding distinctFrom
 distinct-append l [] ys = refl
 distinct-append l (x ∷ xs) ys = distinct-append (withNew l x) xs ys
-
--- each stands once: its index is where it stands
-abbrev pub Once : List ℕ → Type 0
-Once l = (i : ℕ) → i < length l → indexOf l (getD l i 0) ≡ i
 
 pub once-with : (l : List ℕ) (x : ℕ) → Once l → Once (withNew l x)
 once-with l x o = by (isIn l x) refl

@@ -14,24 +14,24 @@ use Rattle.fields.proofs.Puts.{put-eq}
 -- s has b at `at`
 pub record Holds {A : Type 0} (s : List A) (at : ℕ) (b : List A) : Type 0 where
   pub before : List A
-  pub behind : List A
-  pub whole : s ≡ before ++ (b ++ behind)
+  pub following : List A
+  pub joined : s ≡ before ++ (b ++ following)
   pub place : length before ≡ at
 
 pub all-held : {A : Type 0} (b : List A) → Holds b 0 b
-all-held b = record { before = []; behind = []; whole = sym (append-nil b); place = refl }
+all-held b = record { before = []; following = []; joined = sym (append-nil b); place = refl }
 
 pub held-end : {A : Type 0} {s : List A} {at : ℕ} {b : List A} → Holds s at b → at + length b ≤ length s
 held-end {A} {s} {at} {b} h =
-    let e = ap length (h .whole) ∙ length-append (h .before) (b ++ h .behind) in
-    omega (arith, e, length-append b (h .behind), h .place)
+    let e = ap length (h .joined) ∙ length-append (h .before) (b ++ h .following) in
+    omega (arith, e, length-append b (h .following), h .place)
 
 -- what follows a list doesn't matter
 pub held-more : {A : Type 0} {s : List A} {at : ℕ} {b : List A} (t : List A) → Holds s at b → Holds (s ++ t) at b
 held-more {A} {s} {at} {b} t h = record {
   before = h .before;
-  behind = h .behind ++ t;
-  whole = rw (h .whole) (simp append-assoc);
+  following = h .following ++ t;
+  joined = rw (h .joined) (simp append-assoc);
   place = h .place;
 }
 
@@ -39,33 +39,33 @@ held-more {A} {s} {at} {b} t h = record {
 pub held-in : {A : Type 0} {s : List A} {at : ℕ} {b : List A} {off : ℕ} {c : List A} → Holds s at b → Holds b off c → Holds s (at + off) c
 held-in {A} {s} {at} {b} {off} {c} h k = record {
   before = h .before ++ k .before;
-  behind = k .behind ++ h .behind;
-  whole = h .whole ∙ ap (λ (l : List A). h .before ++ (l ++ h .behind)) (k .whole) ∙ simp append-assoc;
+  following = k .following ++ h .following;
+  joined = h .joined ∙ ap (λ (l : List A). h .before ++ (l ++ h .following)) (k .joined) ∙ simp append-assoc;
   place = rw (length-append, h .place, k .place);
 }
 
 -- the first, and the second of two
 pub held-first : {A : Type 0} {s : List A} {at : ℕ} (b c : List A) → Holds s at (b ++ c) → Holds s at b
-held-first {A} {s} {at} b c h = record { before = h .before; behind = c ++ h .behind; whole = h .whole ∙ simp append-assoc; place = h .place }
+held-first {A} {s} {at} b c h = record { before = h .before; following = c ++ h .following; joined = h .joined ∙ simp append-assoc; place = h .place }
 
 pub held-second : {A : Type 0} {s : List A} {at : ℕ} (b c : List A) → Holds s at (b ++ c) → Holds s (at + length b) c
 held-second {A} {s} {at} b c h = record {
   before = h .before ++ b;
-  behind = h .behind;
-  whole = h .whole ∙ simp append-assoc;
+  following = h .following;
+  joined = h .joined ∙ simp append-assoc;
   place = rw (length-append, h .place);
 }
 
 -- it is what is taken there
 pub held-taken : {A : Type 0} {s : List A} {at : ℕ} {b : List A} → Holds s at b → take (length b) (drop at s) ≡ b
-held-taken {A} {s} {at} {b} h = rw (h .whole, drop-at (h .before) (b ++ h .behind) at (h .place), take-at b (h .behind) (length b) refl)
+held-taken {A} {s} {at} {b} h = rw (h .joined, drop-at (h .before) (b ++ h .following) at (h .place), take-at b (h .following) (length b) refl)
 
 -- what is stored inside a list stands there
 pub put-held : (at : ℕ) (bs xs : List ℕ) → at + length bs ≤ length xs → Holds (put at bs xs) at bs
 put-held at bs xs h = record {
   before = take at xs;
-  behind = drop (at + length bs) xs;
-  whole = put-eq at bs xs h ∙ append-assoc (take at xs) bs (drop (at + length bs) xs);
+  following = drop (at + length bs) xs;
+  joined = put-eq at bs xs h ∙ append-assoc (take at xs) bs (drop (at + length bs) xs);
   place = length-take-le at xs (omega arith);
 }
 
@@ -74,7 +74,7 @@ pub held-field : {s : List ℕ} {at : ℕ} {b : List ℕ} (n : ℕ) → Holds s 
 held-field {s} {at} {b} n h e = same n s at b 0 (λ k l. byte k (omega arith))
   where
     byte : (k : ℕ) → k < length b → getD s (at + k) 0 ≡ getD b (0 + k) 0
-    byte k l = rw (h .whole, ← (h .place), getD-append-add (h .before) (b ++ h .behind) k 0, zero-add k) (List·getD-append b (h .behind) 0 k l)
+    byte k l = rw (h .joined, ← (h .place), getD-append-add (h .before) (b ++ h .following) k 0, zero-add k) (List·getD-append b (h .following) 0 k l)
 
 pub held-value : {s : List ℕ} {at : ℕ} (n v : ℕ) → Holds s at (leBytes n v) → leAt n s at ≡ v % 256 ^ n
 held-value n v h = held-field n h (length-bytes n v) ∙ le-bytes n v

@@ -51,6 +51,12 @@ put-three at a b c xs =
     let e : at + 2 ≡ suc (suc at) = omega arith in
     rw (add-one at, e) (put-sets (a ∷ b ∷ c ∷ []) at xs)
 
+pub put-four : (at a b c d : ℕ) (xs : List ℕ) → set (set (set (set xs at a) (at + 1) b) (at + 2) c) (at + 3) d ≡ put at (a ∷ b ∷ c ∷ d ∷ []) xs
+put-four at a b c d xs =
+    let e : at + 2 ≡ suc (suc at) = omega arith in
+    let f : at + 3 ≡ suc (suc (suc at)) = omega arith in
+    rw (add-one at, e, f) (put-sets (a ∷ b ∷ c ∷ d ∷ []) at xs)
+
 -- past the end it changes nothing
 pub past-end : (at : ℕ) (bs xs : List ℕ) → length xs ≤ at → put at bs xs ≡ xs
 past-end at [] xs h = put-nil at xs

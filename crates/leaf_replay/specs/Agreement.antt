@@ -121,8 +121,8 @@ abbrev pub TallyOf : List ℕ → (low high : ℕ) → Tally → Type 0
 TallyOf ws low high = Counted (λ (at : ℕ). at + 3 ≤ length ws) (λ (at : ℕ). Asked ws low high at) (λ (at : ℕ). AgreesAt ws at (recordOf ws at)) (λ (at : ℕ). nextAt ws at) (length ws)
 
 -- a record at a place of n words, which it goes beyond and does not leave
-pub record Stands (at : ℕ) (r : Record) (n : ℕ) : Type 0 where
+pub record LeafRecordInside (at : ℕ) (r : Record) (n : ℕ) : Type 0 where
   pub starts : at < r .input
   pub ends : r .input ≤ r .output
-  pub behind : r .output ≤ r .next
+  pub to-next : r .output ≤ r .next
   pub within : r .next ≤ n

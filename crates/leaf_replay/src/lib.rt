@@ -8,7 +8,7 @@ ghost use lib.ListN.{length, getD, drop};
 ghost use Rattle.fields.specs.Bytes.{zeros};
 ghost use Rattle.areas.specs.Areas.{seeded};
 ghost use Rattle.areas.specs.Tables.{stored};
-ghost use Rattle.leaf_replay.specs.Agreement.{shortOf, backOf, floorOf, ceilOf, placeIn, stripNumber, stripWords, pickNumber, pickWords, taking, AreasAgree, FirstThree, Agrees, recordOf, Stands};
+ghost use Rattle.leaf_replay.specs.Agreement.{shortOf, backOf, floorOf, ceilOf, placeIn, stripNumber, stripWords, pickNumber, pickWords, taking, AreasAgree, FirstThree, Agrees, recordOf, LeafRecordInside};
 use areas::AreaAnswer;
 use areas::Areas;
 use replay::end_of;
@@ -196,7 +196,8 @@ pub struct Record {
 
 pub fn record_at(words: &[u32], at: usize) -> Record
     requires { ⌜ at + 3 ≤ length (now words) ⌝ }
-    ensures { λ r. ⌜ (r ≡ recordOf (now (words .entry)) at) × Stands at r (length (now (words .entry))) ⌝ }
+    ensures places { λ r. ⌜ r ≡ recordOf (now (words .entry)) at ⌝ }
+    ensures bound { λ r. ⌜ LeafRecordInside at r (length (now (words .entry))) ⌝ }
 {
     let input = at + 3;
     let output = end_of(words.len(), input, words[at + 1] as usize);

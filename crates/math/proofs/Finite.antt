@@ -1,14 +1,15 @@
--- Which words are the bits of a finite float: those whose exponent field is not all ones, by one comparison. Assumes nothing.
+-- Which words are the bits of a finite float: those whose exponent field is not all ones, by one comparison; and that such a float's bits are the word again. Assumes nothing.
 use mathlib.Core.Path.{_≡_, refl, sym, ap, _∙_}
-use mathlib.Core.Bool.{Bool, true, false, not, cond}
+use mathlib.Core.Bool.{Bool, true, false, not, cond, true≢false}
 use mathlib.Core.Logic.{inl, inr}
 use Prim.Native.Nat.{ℕ, zero, suc, _+_, _/_, _%_, _^_, _≤_, _<_}
 use native.Mathlib.Nat.{eq-or-lt-of-le}
 use native.Mathlib.Omega.{arith}
-use lib.Dec.{ltb, eqb}
+use lib.Dec.{T, ltb, eqb}
 use borrow.Author.Tests.{eq-eqb, ne-eqb, lt-ltb, le-ltb}
-use lib.Ieee.{nan, inf, binary32, odd, ofFields, ofBits}
+use lib.Ieee.{Float, nan, inf, fin, binary32, odd, ofFields, ofBits, toBits, isNan}
 use lib.Ieee.Scale.{finite}
+use lib.Ieee.Bits.{toBits-ofBits}
 
 odd-finite : (d : ℕ) (s : Bool) (q k l : ℕ) → finite (odd d s q k l) ≡ true
 unfolding odd
@@ -39,3 +40,13 @@ field n h = elim (eq-or-lt-of-le most) [
 pub finite-bits : (b : ℕ) → finite (ofBits binary32 b) ≡ ltb (b % 2 ^ 31) 0x7f80_0000
 unfolding ofBits
 finite-bits b = fields-finite _ (b % 2 ^ 31 / 2 ^ 23) (b % 2 ^ 23) ∙ field (b % 2 ^ 31) (omega arith)
+
+finite-number : (x : Float) → finite x ≡ true → T (not (isNan x))
+unfolding isNan
+finite-number nan e = absurd (true≢false (sym e))
+finite-number (inf s) e = tt
+finite-number (fin s m k) e = tt
+
+-- the bits of a finite float are the word that it was made of
+pub float-back : (w : ℕ) → w < 2 ^ 32 → ltb (w % 2 ^ 31) 0x7f80_0000 ≡ true → toBits binary32 (ofBits binary32 w) ≡ w
+float-back w h f = toBits-ofBits binary32 w h (finite-number (ofBits binary32 w) (finite-bits w ∙ f))

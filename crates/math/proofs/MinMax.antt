@@ -41,27 +41,27 @@ plain-plain (fin s (suc m) e) = refl
 module _ {before under : Float → Float → Bool} (o : Order before under) (a b : Float) where
   -- ---- the arms of `f32_min` and `f32_max`
   pub over-nan : ne a a ≡ true → Picked under a b b
-  over-nan h = record { one = inr refl; left = λ t. absurd (not-both (isNan a) (nan-differs a h) t); right = o .self b }
+  over-nan h = record { picked = inr refl; left = λ t. absurd (not-both (isNan a) (nan-differs a h) t); right = o .self b }
 
   pub over : before b a ≡ true → Picked under a b b
-  over h = record { one = inr refl; left = λ t. o .weak b a h; right = o .self b }
+  over h = record { picked = inr refl; left = λ t. o .weak b a h; right = o .self b }
 
   pub stays : ne a a ≡ false → before b a ≡ false → Picked under a b a
-  stays h k = record { one = inl refl; left = o .self a; right = λ t. o .total a b (same-no-nan a h) t k }
+  stays h k = record { picked = inl refl; left = o .self a; right = λ t. o .total a b (same-no-nan a h) t k }
 
   -- ---- and of `first`
   pub picks : Picked under a b (chosen before a b)
   picks = go (isNan a) refl (before b a) refl
     where
       go : (n : Bool) → isNan a ≡ n → (c : Bool) → before b a ≡ c → Picked under a b (cond n b (cond c b a))
-      go true p c q = record { one = inr refl; left = λ t. absurd (no-number a p t); right = o .self b }
+      go true p c q = record { picked = inr refl; left = λ t. absurd (no-number a p t); right = o .self b }
       go false p true q = over q
-      go false p false q = record { one = inl refl; left = o .self a; right = λ t. o .total a b (is-number a p) t q }
+      go false p false q = record { picked = inl refl; left = o .self a; right = λ t. o .total a b (is-number a p) t q }
 
   -- ---- what is picked fits, and is known but for a zero's sign
   module _ (f : Format) (p : T (fits f a)) (q : T (fits f b)) where
     pub picked-fits : (r : Float) → Picked under a b r → T (fits f r)
-    picked-fits r h = elim (h .one) [
+    picked-fits r h = elim (h .picked) [
       | inl e ↦ subst (λ (x : Float). T (fits f x)) (sym e) p
       | inr e ↦ subst (λ (x : Float). T (fits f x)) (sym e) q
     ]
@@ -81,9 +81,9 @@ module _ {before under : Float → Float → Bool} (o : Order before under) (a b
         ap plain e ∙ either (λ n. subst (λ (x : Float). T (under x b)) e (g .right n)) (λ n. subst (λ (x : Float). T (under x a)) e' (g' .left n)) ∙ ap plain (sym e')
 
     pub agree : (r r' : Float) → Picked under a b r → Picked under a b r' → plain r ≡ plain r'
-    agree r r' g g' = elim (g .one) [
-      | inl e ↦ elim (g' .one) [ inl e' ↦ ap plain (e ∙ sym e') | inr e' ↦ both r r' e e' g g' ]
-      | inr e ↦ elim (g' .one) [ inl e' ↦ sym (both r' r e' e g' g) | inr e' ↦ ap plain (e ∙ sym e') ]
+    agree r r' g g' = elim (g .picked) [
+      | inl e ↦ elim (g' .picked) [ inl e' ↦ ap plain (e ∙ sym e') | inr e' ↦ both r r' e e' g g' ]
+      | inr e ↦ elim (g' .picked) [ inl e' ↦ sym (both r' r e' e g' g) | inr e' ↦ ap plain (e ∙ sym e') ]
     ]
 
     pub agree-first : (r : Float) → Picked under a b r → plain r ≡ plain (chosen before a b)

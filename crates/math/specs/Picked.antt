@@ -8,7 +8,7 @@ use lib.Ieee.{Float, nan, inf, fin, le, isNan}
 
 -- r is one of a and b, and not after either that is a number. So it is a NaN only where both are, and of two zeros it is either one.
 pub record Picked (under : Float → Float → Bool) (a b r : Float) : Type 0 where
-  pub one : (r ≡ a) ⊎ (r ≡ b)
+  pub picked : (r ≡ a) ⊎ (r ≡ b)
   pub left : T (not (isNan a)) → T (under r a)
   pub right : T (not (isNan b)) → T (under r b)
 

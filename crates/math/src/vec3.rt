@@ -16,14 +16,18 @@ pub struct Vec3 {
 
 impl Vec3 {
     pub fn new(x: f32, y: f32, z: f32) -> Self
-        ensures { λ r. ⌜ (r .x ≡ x) × (r .y ≡ y) × (r .z ≡ z) ⌝ }
+        ensures x { λ r. ⌜ r .x ≡ x ⌝ }
+        ensures y { λ r. ⌜ r .y ≡ y ⌝ }
+        ensures z { λ r. ⌜ r .z ≡ z ⌝ }
     {
         Self { x, y, z }
     }
 
     // The lesser by coordinate.
     pub fn min(self, rhs: Vec3) -> Self
-        ensures { λ r. ⌜ IsMin (self .x) (rhs .x) (r .x) × IsMin (self .y) (rhs .y) (r .y) × IsMin (self .z) (rhs .z) (r .z) ⌝ }
+        ensures x { λ r. ⌜ IsMin (self .x) (rhs .x) (r .x) ⌝ }
+        ensures y { λ r. ⌜ IsMin (self .y) (rhs .y) (r .y) ⌝ }
+        ensures z { λ r. ⌜ IsMin (self .z) (rhs .z) (r .z) ⌝ }
     {
         Self {
             x: f32_min(self.x, rhs.x),
@@ -34,7 +38,9 @@ impl Vec3 {
 
     // The greater by coordinate.
     pub fn max(self, rhs: Vec3) -> Self
-        ensures { λ r. ⌜ IsMax (self .x) (rhs .x) (r .x) × IsMax (self .y) (rhs .y) (r .y) × IsMax (self .z) (rhs .z) (r .z) ⌝ }
+        ensures x { λ r. ⌜ IsMax (self .x) (rhs .x) (r .x) ⌝ }
+        ensures y { λ r. ⌜ IsMax (self .y) (rhs .y) (r .y) ⌝ }
+        ensures z { λ r. ⌜ IsMax (self .z) (rhs .z) (r .z) ⌝ }
     {
         Self {
             x: f32_max(self.x, rhs.x),

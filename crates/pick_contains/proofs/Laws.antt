@@ -11,7 +11,7 @@ use Rattle.strip.specs.Cell.{Vec3}
 use Rattle.strip.specs.Reading.{vecAt, itemsAt, vecsAt}
 use Rattle.strip.proofs.Steps.{items-turn, items-done}
 use Rattle.pick_contains.specs.declared.Spot.{Spot}
-use Rattle.strip.specs.Tests.{one}
+use Rattle.strip.specs.Tests.{oneIf}
 use Rattle.pick_contains.specs.Inside.{crossed, crossings, lastOf, inside}
 
 pub short-product : (a b : ℕ) → a < 2 ^ 16 → b < 2 ^ 16 → a * b < 2 ^ 32
@@ -29,7 +29,7 @@ same-place f m e p = e ∙ ap f p
 module _ (spot : Vec3 → Spot) (ws : List ℕ) (s : Spot) where
   -- a turn of the loop over sides, and its end
   module _ (last : Spot) (place i n : ℕ) where
-    pub crossings-turn : i < n → (next : Spot) → next ≡ spot (vecAt ws place) → (k : ℕ) → k ≡ one (crossed s last next)
+    pub crossings-turn : i < n → (next : Spot) → next ≡ spot (vecAt ws place) → (k : ℕ) → k ≡ oneIf (crossed s last next)
         → crossings s last (map spot (vecsAt ws place (n - i))) ≡ k + crossings s next (map spot (vecsAt ws (place + 3) (n - (i + 1))))
     unfolding crossings
     crossings-turn h next e k m = rw (items-turn (vecAt ws) (λ x. x + 3) place i n h, m, e)

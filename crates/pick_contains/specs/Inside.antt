@@ -3,7 +3,7 @@ use Prim.Native.Nat.{ℕ, _+_, _-_, _*_, _%_}
 use mathlib.Core.Bool.{Bool, false, cond}
 use mathlib.Core.List.{List, [], _∷_}
 use lib.Dec.{eqb, leb, ltb}
-use Rattle.strip.specs.Tests.{one}
+use Rattle.strip.specs.Tests.{oneIf}
 use Rattle.pick_contains.specs.declared.Spot.{Spot}
 
 -- "strictly left of the side at height y, decided in whole numbers": of the side's ends `low` is not above the spot and `high` is, so there the
@@ -21,7 +21,7 @@ crossed s a b =
 -- how many sides are crossed of those from `from` to the first vertex, and on from vertex to vertex
 unfoldable pub crossings : (spot from : Spot) → List Spot → ℕ
 crossings s from [] = 0
-crossings s from (v ∷ vs) = one (crossed s from v) + crossings s v vs
+crossings s from (v ∷ vs) = oneIf (crossed s from v) + crossings s v vs
 
 -- the last of the vertices, or what is given where there is none
 unfoldable pub lastOf : Spot → List Spot → Spot

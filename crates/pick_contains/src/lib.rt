@@ -5,7 +5,7 @@ ghost use Prim.Native.Nat.{_+_, _*_, _^_, _≤_, _<_};
 ghost use lib.ListN.{length};
 ghost use Rattle.quantise.specs.Short.{short};
 ghost use Rattle.strip.specs.Reading.{word, vecsAt, polygonOf};
-ghost use Rattle.strip.specs.Tests as Tests;
+ghost use Rattle.strip.specs.Tests.{oneIf};
 ghost use Rattle.pick_contains.specs.Inside as Inside;
 ghost use Rattle.pick_contains.specs.Inside.{leftOf, inside};
 ghost use Rattle.pick_contains.specs.Vertices.{shortOn, spotOn, vertexSpot};
@@ -19,7 +19,7 @@ pub struct Spot {
     pub y: u16,
 }
 
-// An axis of the cell's box.
+// An axis of the cell's box: lo from bb_min and extent from bb_size.
 pub struct Axis {
     pub lo: f32,
     pub extent: f32,
@@ -33,7 +33,8 @@ struct Vertex {
 
 // A product of shorts, which 32 bits hold.
 fn times(a: u16, b: u16) -> u64
-    ensures { λ r. ⌜ (r ≡ a * b) × (r < 2 ^ 32) ⌝ }
+    ensures product { λ r. ⌜ r ≡ a * b ⌝ }
+    ensures bound { λ r. ⌜ r < 2 ^ 32 ⌝ }
 {
     (a as u64) * (b as u64)
 }
@@ -109,8 +110,9 @@ fn crossed(strip: &[u32], s: Spot, a: Vertex, b: Vertex, x: Axis) -> bool
 }
 
 // A test as a number to add up. Adding was faster than branching on it where a polygon's sides lie now left, now right of the spot.
-fn one(b: bool) -> usize
-    ensures { λ r. ⌜ (r ≡ Tests.one b) × (r ≤ 1) ⌝ }
+fn one_if(b: bool) -> usize
+    ensures value { λ r. ⌜ r ≡ oneIf b ⌝ }
+    ensures bound { λ r. ⌜ r ≤ 1 ⌝ }
 {
     if b { 1 } else { 0 }
 }
@@ -125,7 +127,7 @@ fn crossings(strip: &[u32], at: usize, n: usize, x: Axis, y: Axis, s: Spot, from
     let mut place = at;
     for i in 0..n {
         let next = read_vertex(strip, place, y);
-        count += one(crossed(strip, s, last, next, x));
+        count += one_if(crossed(strip, s, last, next, x));
         last = next;
         place += 3;
     }

@@ -11,43 +11,36 @@ use Rattle.strip.specs.Scan.{Scanned, ok, fault, scan}
 use Rattle.strip.specs.Outcome.{refused, done, refusal, values, shown}
 use Rattle.strip.specs.Check.{onCell}
 use Rattle.strip_parts.specs.Boxed.{onBox, checked}
-use Rattle.strip.proofs.Faults.{Refused, scan-fault}
+use Rattle.picking.specs.Answers.{OnCell, ThreeOrTen}
+use Rattle.strip.proofs.Faults.{scan-fault}
 use Rattle.strip.proofs.Faults as Faults
 
 module _ (strip : List ℕ) where
-  -- the cell of a well-formed strip whose box is finite, or isn't
-  abbrev pub OnCell : Bool → (Cell → Type 0) → Type 0
-  OnCell finite P = (c : Cell) × (scan strip ≡ ok c) × (finiteBox (c .head) ≡ finite) × P c
-
-  -- 3 exactly where the strip is badly formed, and otherwise 10 exactly where its box isn't finite
-  abbrev pub ThreeOrTen : ℕ → ℕ → Type 0
-  ThreeOrTen number place = Refused strip number place ⊎ ((number ≡ 10) × (place ≡ 0) × OnCell false (λ c. Unit))
-
   -- whatever a call has to say of the cell
   module _ {A : Type 0} (f : Cell → A) where
-    pub says-value : (a : A) → (shown (checked f strip) ≡ values a) ↔ OnCell true (λ c. f c ≡ a)
+    pub says-value : (a : A) → (shown (checked f strip) ≡ values a) ↔ OnCell strip true (λ c. f c ≡ a)
     says-value a = (on (scan strip) refl, λ (c, e, b, g). rw (e, b, g))
       where
-        on : (d : Scanned) → scan strip ≡ d → shown (onCell (onBox (λ c. done (f c) [])) d) ≡ values a → OnCell true (λ c. f c ≡ a)
+        on : (d : Scanned) → scan strip ≡ d → shown (onCell (onBox (λ c. done (f c) [])) d) ≡ values a → OnCell strip true (λ c. f c ≡ a)
         on (fault number place) e h = let z : _≡_ {A = ℕ} 0 1 = cc in absurd (omega arith)
         on (ok c) e h = by (finiteBox (c .head)) refl h
           where
-            by : (t : Bool) → finiteBox (c .head) ≡ t → shown (cond t (done (f c) []) (refused 10 0)) ≡ values a → OnCell true (λ c. f c ≡ a)
+            by : (t : Bool) → finiteBox (c .head) ≡ t → shown (cond t (done (f c) []) (refused 10 0)) ≡ values a → OnCell strip true (λ c. f c ≡ a)
             by true b g = (c, e, b, cc)
             by false b g = let z : _≡_ {A = ℕ} 0 1 = cc in absurd (omega arith)
 
-    pub says-refusal : (number place : ℕ) → (shown (checked f strip) ≡ refusal number place) ↔ ThreeOrTen number place
+    pub says-refusal : (number place : ℕ) → (shown (checked f strip) ≡ refusal number place) ↔ ThreeOrTen strip number place
     says-refusal number place = (on (scan strip) refl, back)
       where
-        on : (d : Scanned) → scan strip ≡ d → shown (onCell (onBox (λ c. done (f c) [])) d) ≡ refusal number place → ThreeOrTen number place
+        on : (d : Scanned) → scan strip ≡ d → shown (onCell (onBox (λ c. done (f c) [])) d) ≡ refusal number place → ThreeOrTen strip number place
         on (fault n p) e h = let k : fault n p ≡ fault number place = cc in inl (scan-fault strip number place .0 (e ∙ k))
         on (ok c) e h = by (finiteBox (c .head)) refl h
           where
-            by : (t : Bool) → finiteBox (c .head) ≡ t → shown (cond t (done (f c) []) (refused 10 0)) ≡ refusal number place → ThreeOrTen number place
+            by : (t : Bool) → finiteBox (c .head) ≡ t → shown (cond t (done (f c) []) (refused 10 0)) ≡ refusal number place → ThreeOrTen strip number place
             by true b g = let z : _≡_ {A = ℕ} 0 1 = cc in absurd (omega arith)
             by false b g = inr (cc, cc, (c, e, b, tt))
 
-        back : ThreeOrTen number place → shown (checked f strip) ≡ refusal number place
+        back : ThreeOrTen strip number place → shown (checked f strip) ≡ refusal number place
         back (inl h) = rw (scan-fault strip number place .1 h)
         back (inr (n, p, (c, e, b, u))) = rw (n, p, e, b)
 

@@ -11,18 +11,12 @@ use borrow.Author.Tests.{ltb-true, ltb-false, leb-true, leb-false, lt-ltb, le-lt
 use Rattle.quantise.proofs.Ops.{ltb-same}
 use Rattle.strip.specs.Cell.{NavPoly, Head}
 use Rattle.pick_contains.specs.declared.Spot.{Spot}
-use Rattle.strip.specs.Tests.{one}
+use Rattle.strip.specs.Tests.{oneIf}
 use Rattle.pick_contains.specs.Inside.{leftOf, crossed, crossings, lastOf, inside}
 use Rattle.picking.specs.Picking.{spotOf, contains}
+use Rattle.picking.specs.Rectangles.{spot, rectangle, Halves, IsRectangle}
 use Rattle.picking.proofs.Whole.{not-crossed}
 use Rattle.picking.proofs.Sides.{either-way}
-
-abbrev pub spot : ℕ → ℕ → Spot
-spot x y = record { x = x; y = y }
-
--- from the lower left vertex to the lower right one, and on round
-abbrev pub rectangle : (l b r t : ℕ) → List Spot
-rectangle l b r t = spot l b ∷ spot r b ∷ spot r t ∷ spot l t ∷ []
 
 -- n is from a on and below b
 abbrev between : ℕ → ℕ → ℕ → Bool
@@ -59,7 +53,7 @@ level : (s : Spot) (p q h : ℕ) → crossed s (spot p h) (spot q h) ≡ false
 level s p q h = not-crossed s (spot p h) (spot q h) refl
 
 -- whether an odd number is crossed of two upright sides: p and q say that the spot is left of the one, and of the other, further right, and w that its height is theirs
-odd : (w p q : Bool) → (p ≡ true → q ≡ true) → eqb ((one (w && p) + (0 + (one (w && q) + 0))) % 2) 1 ≡ ((not p && q) && w)
+odd : (w p q : Bool) → (p ≡ true → q ≡ true) → eqb ((oneIf (w && p) + (0 + (oneIf (w && q) + 0))) % 2) 1 ≡ ((not p && q) && w)
 odd false p q h = sym (and-false (not p && q))
 odd true false false h = refl
 odd true false true h = refl
@@ -91,10 +85,6 @@ module _ (l b r t : ℕ) where
 
   pub on-upper : (x : ℕ) → l ≤ r → b ≤ t → inside (spot x t) (rectangle l b r t) ≡ false
   on-upper x h k = simp (in-rectangle (spot x t) l b r t h k, le-ltb t t (omega arith), and-false)
-
--- a whole passes where one of its two halves does, and never both of them do
-abbrev pub Halves : (whole a b : Bool) → Type 0
-Halves whole a b = (whole ≡ (a || b)) × ((a && b) ≡ false)
 
 -- so it stays where a further test has to pass, put before the halves or behind them
 halves-and : (c whole a b : Bool) → Halves whole a b → Halves (c && whole) (c && a) (c && b)
@@ -129,9 +119,6 @@ one-above-the-other l r b m t i h k s =
     (halves-and (between l (s .x) r) (between b (s .y) t) (between b (s .y) m) (between m (s .y) t) (halves b m t (s .y) h k))
 
 -- of polygons whose vertices have these spots: what each contains, and two that share an upright side or a level one
-abbrev pub IsRectangle : Head → NavPoly → (l b r t : ℕ) → Type 0
-IsRectangle h p l b r t = map (spotOf h) (p .vertices) ≡ rectangle l b r t
-
 module _ (h : Head) (s : Spot) where
   pub rectangle-contains : (p : NavPoly) (l b r t : ℕ) → IsRectangle h p l b r t → l ≤ r → b ≤ t
       → contains h s p ≡ ((leb l (s .x) && ltb (s .x) r) && (leb b (s .y) && ltb (s .y) t))

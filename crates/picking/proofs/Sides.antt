@@ -15,7 +15,7 @@ use Rattle.strip.specs.Cell.{NavPoly, Head}
 use Rattle.strip.specs.Fits.{All}
 use Rattle.strip.proofs.Alls.{all-images}
 use Rattle.pick_contains.specs.declared.Spot.{Spot}
-use Rattle.strip.specs.Tests.{one}
+use Rattle.strip.specs.Tests.{oneIf}
 use Rattle.pick_contains.specs.Inside.{leftOf, crossed, crossings, lastOf, inside}
 use Rattle.picking.specs.Picking.{spotOf, contains}
 use Rattle.picking.proofs.Whole.{not-crossed}
@@ -63,7 +63,7 @@ backwards s [] = refl
 backwards s (v ∷ vs) = rw (turned s v vs, reverse-cons v vs, last-append s v (reverse vs), last-append s v vs, walk-back s v v vs)
 
 -- fewer than 3 sides are crossed an even number of times
-twice : (t : Bool) → (one t + (one t + 0)) % 2 ≡ 0
+twice : (t : Bool) → (oneIf t + (oneIf t + 0)) % 2 ≡ 0
 twice true = refl
 twice false = refl
 

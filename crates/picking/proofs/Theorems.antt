@@ -23,17 +23,8 @@ use Rattle.picking.specs.declared.SpotAnswer.{SpotAnswer}
 use Rattle.picking.specs.declared.SpotAnswer.the-variants as Spots
 use Rattle.picking.specs.Picking.{spotAt, spotOf, contains, Found, found, none, firstFrom, lowest, pickOutcome, spotOutcome, pickPaper, spotPaper}
 use Rattle.picking.proofs.Sides.{few-vertices, far-right, far-above}
-use Rattle.picking.proofs.Checks.{OnCell, ThreeOrTen, says-value, says-refusal}
-
--- the polygon of number k passes a test, and none before it does
-pub record Lowest (test : NavPoly → Bool) (k : ℕ) (ps : List NavPoly) : Type 0 where
-  pub before : List NavPoly
-  pub polygon : NavPoly
-  pub behind : List NavPoly
-  pub all : ps ≡ before ++ (polygon ∷ behind)
-  pub number : length before ≡ k
-  pub passes : test polygon ≡ true
-  pub none-before : All (λ p. test p ≡ false) before
+use Rattle.picking.specs.Answers.{OnCell, ThreeOrTen, Lowest}
+use Rattle.picking.proofs.Checks.{says-value, says-refusal}
 
 module _ (test : NavPoly → Bool) where
   -- counted from i on
@@ -48,7 +39,7 @@ module _ (test : NavPoly → Bool) where
     record {
       before = p ∷ l .before;
       polygon = l .polygon;
-      behind = l .behind;
+      following = l .following;
       all = ap (λ (x : List NavPoly). p ∷ x) (l .all);
       number = ap suc (l .number);
       passes = l .passes;
@@ -64,7 +55,7 @@ module _ (test : NavPoly → Bool) where
     where
       by : (t : Bool) → test p ≡ t → From (i + 1) (firstFrom test (i + 1) ps) ps → From i (cond t (found i) (firstFrom test (i + 1) ps)) (p ∷ ps)
       by true e l =
-          (0, omega arith, record { before = []; polygon = p; behind = ps; all = refl; number = refl; passes = e; none-before = tt })
+          (0, omega arith, record { before = []; polygon = p; following = ps; all = refl; number = refl; passes = e; none-before = tt })
       by false e l = later p i (firstFrom test (i + 1) ps) ps e l
 
   -- and back
@@ -81,7 +72,7 @@ module _ (test : NavPoly → Bool) where
       there e = let (n, g, l) = rw e at (searched 0 ps) in let z : n ≡ k = omega arith in rw z at l
 
       back : Lowest test k ps → firstFrom test 0 ps ≡ found k
-      back l = rw (l .all, passed-by 0 (l .before) (l .polygon ∷ l .behind) (l .none-before), l .passes) (ap found (omega arith))
+      back l = rw (l .all, passed-by 0 (l .before) (l .polygon ∷ l .following) (l .none-before), l .passes) (ap found (omega arith))
 
   pub first-none : (ps : List NavPoly) → (firstFrom test 0 ps ≡ none) ↔ All (λ p. test p ≡ false) ps
   unfolding firstFrom

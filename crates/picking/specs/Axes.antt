@@ -1,10 +1,9 @@
--- The axes of the cell's box, as `axis_at` makes them. Only the contract of that function uses this. Definitions only.
-use Prim.Native.Nat.{ℕ, _+_}
-use mathlib.Core.List.{List}
-use lib.Ieee.{binary32, ofBits}
-use Rattle.strip.specs.Reading.{word}
+-- The axes of the box of a cell's record: lo from bb_min and extent from bb_size. Only the contracts of `x_axis` and `y_axis` use this. Definitions only.
+use Rattle.cell_record.specs.declared.CellRecord.{CellRecord}
 use Rattle.pick_contains.specs.declared.Axis.{Axis}
 
--- the axis of the cell's box that is k words behind the x axis
-abbrev pub axisAt : List ℕ → ℕ → Axis
-axisAt strip k = record { lo = ofBits binary32 (word strip (5 + k)); extent = ofBits binary32 (word strip (11 + k)) }
+abbrev pub xAxis : CellRecord → Axis
+xAxis r = record { lo = r .«bb_min» .x; extent = r .«bb_size» .x }
+
+abbrev pub yAxis : CellRecord → Axis
+yAxis r = record { lo = r .«bb_min» .y; extent = r .«bb_size» .y }

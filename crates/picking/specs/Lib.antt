@@ -1,2 +1,4 @@
 pub mod Picking
 pub mod Axes
+pub mod Answers
+pub mod Rectangles

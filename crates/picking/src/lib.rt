@@ -7,8 +7,9 @@ ghost use Rattle.strip.specs.Rows.{polygonsAt, afterPolygons};
 ghost use Rattle.strip.specs.Outcome.{values, shown};
 ghost use Rattle.picking.specs.Picking as Picking;
 ghost use Rattle.picking.specs.Picking.{firstFrom, pickOutcome, spotOutcome, pickPaper, spotPaper};
-ghost use Rattle.picking.specs.Axes.{axisAt};
-use math::num::float_of_bits;
+ghost use Rattle.picking.specs.Axes.{xAxis, yAxis};
+use cell_record::CellRecord;
+use cell_record::record_at;
 use pick_contains::Axis;
 use pick_contains::Spot;
 use pick_contains::contains;
@@ -28,14 +29,27 @@ pub enum SpotAnswer {
     Refused(Refusal),
 }
 
-// An axis of the cell's box: x, or the one that is k words behind it.
-fn axis_at(strip: &[u32], k: usize) -> Axis
-    requires { ⌜ (k ≤ 2) × (14 ≤ length (now strip)) ⌝ }
-    ensures { λ r. ⌜ r ≡ axisAt (now (strip .entry)) k ⌝ }
+// The axes of the cell's box.
+fn x_axis(cell: CellRecord) -> Axis
+    ensures { λ r. ⌜ r ≡ xAxis cell ⌝ }
 {
-    let lo = float_of_bits(strip[5 + k]);
-    let extent = float_of_bits(strip[11 + k]);
-    Axis { lo, extent }
+    let bb_min = cell.bb_min;
+    let bb_size = cell.bb_size;
+    Axis {
+        lo: bb_min.x,
+        extent: bb_size.x,
+    }
+}
+
+fn y_axis(cell: CellRecord) -> Axis
+    ensures { λ r. ⌜ r ≡ yAxis cell ⌝ }
+{
+    let bb_min = cell.bb_min;
+    let bb_size = cell.bb_size;
+    Axis {
+        lo: bb_min.y,
+        extent: bb_size.y,
+    }
 }
 
 // The first of n polygons that contains s. Its number is n until it is found, and the loop ends with it.
@@ -43,8 +57,9 @@ fn first_containing(strip: &[u32], n: usize, s: Spot) -> PickAnswer
     requires { ⌜ (14 ≤ length (now strip)) × (afterPolygons (now strip) 14 n ≤ length (now strip)) ⌝ }
     ensures { λ r. ⌜ pickPaper r ≡ values (firstFrom (Picking.contains (headAt (now (strip .entry)) 0) s) 0 (polygonsAt (now (strip .entry)) 14 n)) ⌝ }
 {
-    let x = axis_at(strip, 0);
-    let y = axis_at(strip, 1);
+    let cell = record_at(strip);
+    let x = x_axis(cell);
+    let y = y_axis(cell);
     let mut first = n;
     let mut at: usize = 14;
     let mut i: usize = 0;
@@ -81,11 +96,10 @@ pub fn spot_for_position(strip: &[u32], x: f32, y: f32) -> SpotAnswer
 {
     match check_cell(strip) {
         StripAnswer::WellFormed(_) => {
-            let across = axis_at(strip, 0);
-            let up = axis_at(strip, 1);
+            let cell = record_at(strip);
             SpotAnswer::At(Spot {
-                x: short_on(x, across),
-                y: short_on(y, up),
+                x: short_on(x, x_axis(cell)),
+                y: short_on(y, y_axis(cell)),
             })
         }
         StripAnswer::Refused(r) => SpotAnswer::Refused(r),

@@ -21,17 +21,17 @@ same true = refl
 same false = refl
 
 -- P12: the length is the end of the blocks' sizes, which neither the areas nor the box change
-vehicle-length : (content area : ℕ) (min max size : Vec3) → content / 2 ^ 2 % 2 ≡ 1 → length (pages (empty content area min max size)) ≡ 688
+vehicle-length : (content area : ℕ) (bb-min bb-max bb-size : Vec3) → content / 2 ^ 2 % 2 ≡ 1 → length (pages (empty content area bb-min bb-max bb-size)) ≡ 688
 unfolding computed
-vehicle-length content area min max size h = pages-length (empty content area min max size) ∙ rw h
+vehicle-length content area bb-min bb-max bb-size h = pages-length (empty content area bb-min bb-max bb-size) ∙ rw h
 
-vehicle-total : (content area : ℕ) (min max size : Vec3) → content / 2 ^ 2 % 2 ≡ 1 → counts (empty content area min max size) .total ≡ 128
+vehicle-total : (content area : ℕ) (bb-min bb-max bb-size : Vec3) → content / 2 ^ 2 % 2 ≡ 1 → counts (empty content area bb-min bb-max bb-size) .total ≡ 128
 unfolding computed
-vehicle-total content area min max size h = rw h
+vehicle-total content area bb-min bb-max bb-size h = rw h
 
-grid-length : (content area : ℕ) (min max size : Vec3) → content / 2 ^ 2 % 2 ≡ 0 → length (pages (empty content area min max size)) ≡ 3088
+grid-length : (content area : ℕ) (bb-min bb-max bb-size : Vec3) → content / 2 ^ 2 % 2 ≡ 0 → length (pages (empty content area bb-min bb-max bb-size)) ≡ 3088
 unfolding computed
-grid-length content area min max size h = pages-length (empty content area min max size) ∙ rw h
+grid-length content area bb-min bb-max bb-size h = pages-length (empty content area bb-min bb-max bb-size) ∙ rw h
 
 pub table : Table
 unfolding short fraction side sub div mul lt clamped nearestNumber distinctFrom withNew indexOf halfWord pack placeOf computed

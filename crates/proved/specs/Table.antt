@@ -1,5 +1,5 @@
 -- The proved examples of the scope document as one table of equations on the definitions. proofs/Table.antt computes it. Definitions only.
-use Prim.Native.Nat.{ℕ, _/_, _%_, _^_}
+use Prim.Native.Nat.{ℕ, _/_, _%_}
 use mathlib.Core.Path.{_≡_}
 use mathlib.Core.Bool.{true, false}
 use mathlib.Core.List.{List, [], _∷_}
@@ -14,6 +14,7 @@ use Rattle.areas.specs.Decoded.{noneWord}
 use Rattle.write_blocks.specs.Layout.{placeOf}
 use Rattle.strip.specs.Cell.{Vec3, Cell}
 use Rattle.strip.specs.Outcome.{Paper, values, refusal}
+use Rattle.write_pages.specs.Sectors.{CONTENT-VEHICLE}
 use Rattle.write_pages.specs.Pages.{counts, pages}
 use Rattle.ynv_write.specs.declared.Written.{Written}
 
@@ -34,9 +35,9 @@ abbrev pub minus-three-eighths : Float
 minus-three-eighths = fin true 3 (negsuc 2)
 
 -- a cell without polygons, portals and points, of a content (bit 2 is set in a vehicle's), an area id and a box
-abbrev pub empty : (content area : ℕ) → (min max size : Vec3) → Cell
-empty content area min max size = record {
-  head = record { content = content; area = area; version = 0; vft = 0; bb-min = min; bb-max = max; bb-size = size };
+abbrev pub empty : (content area : ℕ) → (bb-min bb-max bb-size : Vec3) → Cell
+empty content area bb-min bb-max bb-size = record {
+  head = record { content = content; area = area; version = 0; vft = 0; bb-min = bb-min; bb-max = bb-max; bb-size = bb-size };
   polys = [];
   portals = [];
   points = [];
@@ -69,6 +70,6 @@ pub record Table : Type 0 where
   pub p11-fits : placeOf 16288 96 ≡ 16288
   pub p11-next : placeOf 16288 112 ≡ 16384
   -- whatever the area and the box: the vehicle with every content that has bit 2, the grid cell with every content that lacks it
-  pub p12-vehicle : (content area : ℕ) (min max size : Vec3) → content / 2 ^ 2 % 2 ≡ 1 → length (pages (empty content area min max size)) ≡ 688
-  pub p12-total : (content area : ℕ) (min max size : Vec3) → content / 2 ^ 2 % 2 ≡ 1 → counts (empty content area min max size) .total ≡ 128
-  pub p12-grid : (content area : ℕ) (min max size : Vec3) → content / 2 ^ 2 % 2 ≡ 0 → length (pages (empty content area min max size)) ≡ 3088
+  pub p12-vehicle : (content area : ℕ) (bb-min bb-max bb-size : Vec3) → content / CONTENT-VEHICLE % 2 ≡ 1 → length (pages (empty content area bb-min bb-max bb-size)) ≡ 688
+  pub p12-total : (content area : ℕ) (bb-min bb-max bb-size : Vec3) → content / CONTENT-VEHICLE % 2 ≡ 1 → counts (empty content area bb-min bb-max bb-size) .total ≡ 128
+  pub p12-grid : (content area : ℕ) (bb-min bb-max bb-size : Vec3) → content / CONTENT-VEHICLE % 2 ≡ 0 → length (pages (empty content area bb-min bb-max bb-size)) ≡ 3088

@@ -45,8 +45,8 @@ module _ (w h e : ℕ) (is : w ≡ 16777216 * h) (some : 0 < h) (wide : 128 * w 
         let more : 65535 < q + 1 = lt-of-mul-lt-mul-right w (omega (arith, near .most, one .not-above)) in
         omega arith
 
-    pub whole : (p : ℕ) → Near (t * 65535) 1 p (65536 * h) → nearestWhole p w ≡ q
-    whole p six = div-eq-of-lt-le (2 * w) (omega (arith, six .not-below, one .not-below, near .least)) (omega (arith, six .not-above, one .not-above, near .most))
+    pub nearest-is : (p : ℕ) → Near (t * 65535) 1 p (65536 * h) → nearestWhole p w ≡ q
+    nearest-is p six = div-eq-of-lt-le (2 * w) (omega (arith, six .not-below, one .not-below, near .least)) (omega (arith, six .not-above, one .not-above, near .most))
 
   -- what is not above 0 is that of the first short only
   pub zeroth : (q r1 r2 : ℕ) → Near (q * w) 65535 r1 h → Near (r1 * e) w r2 (4096 * h) → 2 * r2 ≤ 16384 * h → q ≡ 0

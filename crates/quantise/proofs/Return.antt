@@ -16,30 +16,19 @@ use Rattle.math.proofs.Scaled as scaled
 use Rattle.math.proofs.Scaled.{Within}
 use Rattle.quantise.specs.Short.{short, coordinate, least, clamped, most, unit, nought}
 use Rattle.quantise.specs.Steps.{roundedU16}
+use Rattle.quantise.specs.Returning.{returning}
 use Rattle.quantise.proofs.Numbers.{signed, round-signed, part-is, part-near, last-part}
 use Rattle.quantise.proofs.Near.{Near, rounds-near}
 use Rattle.quantise.proofs.Units.{w, h, Rounded, rounded, rounded-value, at-end, in-range, clamps}
 use Rattle.quantise.proofs.Ops.{mul-at, div-at, add-at, no-zero}
 use Rattle.quantise.proofs.Capped.{product, uncapped}
 use Rattle.math.proofs.Whole.{lt-true}
-use Rattle.quantise.proofs.Chain.{Close, cancel, back, last, whole, zeroth, inside, over, over-behind, across, across-none, under, under-behind, under-none, x-room, t-room, r1-room, r2-room, at-least, at-most, sum-at-most, in-units, as-one, exact-two, same-value, wider, not-tiny}
-
--- The axes on which it holds, by the exact values: extent is from 128 to 4096, lo is not below -16384, and lo + extent not above 16384.
--- (A negative lo and an extent up to 4096 come to less than that. A lo that is not negative comes to more than -16384.)
-unfoldable pub boxed : Float → Float → Bool
-boxed nan extent = false
-boxed (inf s) extent = false
-boxed (fin s m e) nan = false
-boxed (fin s m e) (inf t) = false
-boxed (fin s m e) (fin true n d) = false
-boxed (fin s m e) (fin false n d) =
-    leb (128 * down d) (n * up d) && leb (n * up d) (4096 * down d)
-    && cond s (leb (m * up e) (16384 * down e)) (leb (m * up e * down d + n * up d * down e) (16384 * (down e * down d)))
+use Rattle.quantise.proofs.Chain.{Close, cancel, back, last, nearest-is, zeroth, inside, over, over-behind, across, across-none, under, under-behind, under-none, x-room, t-room, r1-room, r2-room, at-least, at-most, sum-at-most, in-units, as-one, exact-two, same-value, wider, not-tiny}
 
 -- ---- (lo + r) - lo
 data Back (x : Float) (r : ℕ) : Type 0 where
   ahead : (y : ℕ) → x ≡ round binary32 false y w → Close y r (16384 * h) → Back x r
-  behind : (y : ℕ) → x ≡ round binary32 true y w → 2 * r ≤ 16384 * h → Back x r
+  below-lo : (y : ℕ) → x ≡ round binary32 true y w → 2 * r ≤ 16384 * h → Back x r
 
 neg-value : (x : Float) (s : Bool) (a c : ℕ) → HasValue x s a c → HasValue (neg x) (not s) a c
 unfolding neg
@@ -87,7 +76,7 @@ module _ (lo r : Float) (l k : ℕ) (vr : HasValue r false k w) where
       let a = subst (Rounded false (l + k) 139) (sym is) (rounded false (l + k) 139 (lit≤ tt) room) in
       let d = off false false (a .units) (a .value) v in
       elim (order (a .units) l) [
-        | inl g ↦ behind (l - a .units) (d ∙ less false (a .units) l g) (over-behind l k (a .units) (2 ^ 139) (a .near) g)
+        | inl g ↦ below-lo (l - a .units) (d ∙ less false (a .units) l g) (over-behind l k (a .units) (2 ^ 139) (a .near) g)
         | inr g ↦ ahead (a .units - l) (d ∙ more false (a .units) l g) (over l k (a .units) (2 ^ 139) (a .near) g)
       ]
 
@@ -119,7 +108,7 @@ module _ (lo r : Float) (l k : ℕ) (vr : HasValue r false k w) where
         elim (order y l) [
           | inl f ↦ ahead (l - y) (d ∙ less true y l f) (under l k y (2 ^ 139) (le-of-lt g) (a .near) (le-of-lt f))
           | inr f ↦ elim (order l y) [
-            | inl f' ↦ behind (y - l) (d ∙ more true y l f ∙ ap (λ (t : Bool). round binary32 t (y - l) w) (lt-ltb l y f')) (under-behind l k y (2 ^ 139) (le-of-lt g) (a .near) f)
+            | inl f' ↦ below-lo (y - l) (d ∙ more true y l f ∙ ap (λ (t : Bool). round binary32 t (y - l) w) (lt-ltb l y f')) (under-behind l k y (2 ^ 139) (le-of-lt g) (a .near) f)
             | inr f' ↦ ahead (y - l) (d ∙ more true y l f ∙ ap (λ (t : Bool). round binary32 t (y - l) w) (le-ltb l y f')) (under-none l k y (2 ^ 139) (le-of-lt g) (a .near) (le-antisymm f' f))
           ]
         ]
@@ -199,11 +188,11 @@ module _ (extent : Float) (q r1 r2 e : ℕ) (ve : HasValue extent false e w) (wi
     | in-range g is ↦
         let p = product t n v g in
         ap (λ (x : Float). roundedU16 (mul binary32 x most)) is ∙ rounded-value (mul binary32 t most) (p .units) w (pow-pos 149) (p .value)
-        ∙ ap (λ (x : ℕ). min x 65535) (whole w h e refl some-h wide narrow q r1 n one near (p .units) (p .near)) ∙ min-eq-left l
+        ∙ ap (λ (x : ℕ). min x 65535) (nearest-is w h e refl some-h wide narrow q r1 n one near (p .units) (p .near)) ∙ min-eq-left l
   ]
 
   returned : (d : Float) → Back d r2 → roundedU16 (mul binary32 (clamped (div binary32 d extent)) most) ≡ q
-  returned d (behind y is low) =
+  returned d (below-lo y is low) =
       clamped-negative (div binary32 d extent) (div-negative d extent e w some-e (rw is (round-signed binary32 true y w)) ve)
       ∙ sym (zeroth w h e refl some-h wide narrow q r1 r2 one two low)
   returned d (ahead y is close) =
@@ -214,16 +203,16 @@ module _ (extent : Float) (q r1 r2 e : ℕ) (ve : HasValue extent false e w) (wi
       (back w h e refl some-h wide narrow r1 r2 y (d' .units) (t .0) two close (d' .near) (cancel (d' .units * w) e (t .0) (2 * h) w (pow-pos 149) (t .2)))
 
 -- ---- the two ways to r2: below the last short, and at it
-abbrev Room : Bool → ℕ → ℕ → Type 0
-Room false l e = l + e ≤ 2 ^ 163
-Room true l e = l ≤ 2 ^ 163
+abbrev InReach : Bool → ℕ → ℕ → Type 0
+InReach false l e = l + e ≤ 2 ^ 163
+InReach true l e = l ≤ 2 ^ 163
 
-back-of : (lo r : Float) (s : Bool) (l k e : ℕ) → HasValue lo s l w → HasValue r false k w → k ≤ e → e ≤ 4096 * w → Room s l e → Back (sub binary32 (add binary32 lo r) lo) k
+back-of : (lo r : Float) (s : Bool) (l k e : ℕ) → HasValue lo s l w → HasValue r false k w → k ≤ e → e ≤ 4096 * w → InReach s l e → Back (sub binary32 (add binary32 lo r) lo) k
 back-of lo r false l k e v u g f room = from-positive lo r l k u v (wider l k e (2 ^ 163) g room)
 back-of lo r true l k e v u g f room = from-negative lo r l k u v room (le-trans g (le-trans f (lit≤ tt)))
 
 -- ---- on an axis whose numbers are known in units
-module _ (lo extent : Float) (s : Bool) (l e : ℕ) (vl : HasValue lo s l w) (ve : HasValue extent false e w) (wide : 128 * w ≤ e) (narrow : e ≤ 4096 * w) (room : Room s l e) where
+module _ (lo extent : Float) (s : Bool) (l e : ℕ) (vl : HasValue lo s l w) (ve : HasValue extent false e w) (wide : 128 * w ≤ e) (narrow : e ≤ 4096 * w) (room : InReach s l e) where
   abbrev again : ℕ → ℕ
   again q = roundedU16 (mul binary32 (clamped (div binary32 (sub binary32 (coordinate q lo extent) lo) extent)) most)
 
@@ -276,21 +265,21 @@ not-small n g e v wide = go (lt (fin false n g) least) refl
     go true p = absurd (not-tiny w e (pow-pos 149) wide (lt-true (fin false n g) least e w 1 (2 ^ 23) (pow-pos 149) (pow-pos 23) v (refl, refl) p))
 
 room-of : (s : Bool) (m : ℕ) (g : ℤ) (n : ℕ) (d : ℤ) (l e : ℕ) → HasValue (fin s m g) s l w → HasValue (fin false n d) false e w
-    → T (cond s (leb (m * up g) (16384 * down g)) (leb (m * up g * down d + n * up d * down g) (16384 * (down g * down d)))) → Room s l e
+    → T (cond s (leb (m * up g) (16384 * down g)) (leb (m * up g * down d + n * up d * down g) (16384 * (down g * down d)))) → InReach s l e
 room-of true m g n d l e vl ve t = at-most w (down g) (down-pos g) 16384 (m * up g) l (vl .1) (leb→le (m * up g) (16384 * down g) t)
 room-of false m g n d l e vl ve t =
     sum-at-most w (down g) (down-pos g) 16384 (m * up g) l (n * up d) e (down d) (down-pos d) (vl .1) (ve .1)
     (leb→le (m * up g * down d + n * up d * down g) (16384 * (down g * down d)) t)
 
-all-shorts : (q : ℕ) → q ≤ 65535 → (lo extent : Float) (s : Bool) (l e : ℕ) (vl : HasValue lo s l w) (ve : HasValue extent false e w) (wide : 128 * w ≤ e) (narrow : e ≤ 4096 * w) (room : Room s l e)
+all-shorts : (q : ℕ) → q ≤ 65535 → (lo extent : Float) (s : Bool) (l e : ℕ) (vl : HasValue lo s l w) (ve : HasValue extent false e w) (wide : 128 * w ≤ e) (narrow : e ≤ 4096 * w) (room : InReach s l e)
     → HasValue (mul binary32 unit extent) false e w → again lo extent s l e vl ve wide narrow room q ≡ q
 all-shorts q g lo extent s l e vl ve wide narrow room v = elim (eq-or-lt-of-le g) [
   | inl is ↦ subst (λ (x : ℕ). again lo extent s l e vl ve wide narrow room x ≡ x) (sym is) (at-last lo extent s l e vl ve wide narrow room v)
   | inr less ↦ before-last lo extent s l e vl ve wide narrow room q less
 ]
 
-pub short-coordinate : (q : ℕ) (lo extent : Float) → q ≤ 65535 → T (fits binary32 lo) → T (fits binary32 extent) → T (boxed lo extent) → short (coordinate q lo extent) lo extent ≡ q
-unfolding short boxed
+pub short-coordinate : (q : ℕ) (lo extent : Float) → q ≤ 65535 → T (fits binary32 lo) → T (fits binary32 extent) → T (returning lo extent) → short (coordinate q lo extent) lo extent ≡ q
+unfolding short returning
 short-coordinate q nan extent l fl fe b = absurd b
 short-coordinate q (inf s) extent l fl fe b = absurd b
 short-coordinate q (fin s m g) nan l fl fe b = absurd b

@@ -3,5 +3,7 @@ use Rattle.math.specs.declared.vec3.Vec3.{Vec3}
 use Rattle.quantise.specs.declared.short.Shorts.{Shorts}
 use Rattle.quantise.specs.Short.{coordinate}
 
+-- by axis, lo from bb_min and extent from bb_size
 abbrev pub coordinates : Shorts → Vec3 → Vec3 → Vec3
-coordinates q lo size = record { x = coordinate (q .x) (lo .x) (size .x); y = coordinate (q .y) (lo .y) (size .y); z = coordinate (q .z) (lo .z) (size .z) }
+coordinates q bb-min bb-size =
+    record { x = coordinate (q .x) (bb-min .x) (bb-size .x); y = coordinate (q .y) (bb-min .y) (bb-size .y); z = coordinate (q .z) (bb-min .z) (bb-size .z) }

@@ -1,3 +1,4 @@
 pub mod Short
 pub mod Coordinates
 pub mod Steps
+pub mod Returning

@@ -55,4 +55,5 @@ coordinate q lo extent = add binary32 lo (mul binary32 (div binary32 (ofInt bina
 
 -- by axis, lo from bb_min and extent from bb_size
 abbrev pub shorts : Vec3 → Vec3 → Vec3 → Shorts
-shorts v lo size = record { x = short (v .x) (lo .x) (size .x); y = short (v .y) (lo .y) (size .y); z = short (v .z) (lo .z) (size .z) }
+shorts v bb-min bb-size =
+    record { x = short (v .x) (bb-min .x) (bb-size .x); y = short (v .y) (bb-min .y) (bb-size .y); z = short (v .z) (bb-min .z) (bb-size .z) }

@@ -84,22 +84,23 @@ pub fn unquantise_axis(q: u16, lo: f32, extent: f32) -> f32
     lo + (q as f32) / 65535.0 * extent
 }
 
-pub fn quantise(v: Vec3, bb_min: Vec3, size: Vec3) -> Shorts
-    ensures { λ r. ⌜ r ≡ shorts v «bb_min» size ⌝ }
+// By axis, lo from bb_min and extent from bb_size.
+pub fn quantise(v: Vec3, bb_min: Vec3, bb_size: Vec3) -> Shorts
+    ensures { λ r. ⌜ r ≡ shorts v «bb_min» «bb_size» ⌝ }
 {
     Shorts {
-        x: quantise_axis(v.x, bb_min.x, size.x),
-        y: quantise_axis(v.y, bb_min.y, size.y),
-        z: quantise_axis(v.z, bb_min.z, size.z),
+        x: quantise_axis(v.x, bb_min.x, bb_size.x),
+        y: quantise_axis(v.y, bb_min.y, bb_size.y),
+        z: quantise_axis(v.z, bb_min.z, bb_size.z),
     }
 }
 
-pub fn unquantise(q: Shorts, bb_min: Vec3, size: Vec3) -> Vec3
-    ensures { λ r. ⌜ r ≡ coordinates q «bb_min» size ⌝ }
+pub fn unquantise(q: Shorts, bb_min: Vec3, bb_size: Vec3) -> Vec3
+    ensures { λ r. ⌜ r ≡ coordinates q «bb_min» «bb_size» ⌝ }
 {
     Vec3 {
-        x: unquantise_axis(q.x, bb_min.x, size.x),
-        y: unquantise_axis(q.y, bb_min.y, size.y),
-        z: unquantise_axis(q.z, bb_min.z, size.z),
+        x: unquantise_axis(q.x, bb_min.x, bb_size.x),
+        y: unquantise_axis(q.y, bb_min.y, bb_size.y),
+        z: unquantise_axis(q.z, bb_min.z, bb_size.z),
     }
 }

@@ -69,7 +69,7 @@ pub record Swept (s : List ℕ) (at n : ℕ) (min max : Vec3) (place i : ℕ) : 
 
 -- all three coordinates are x
 abbrev pub Each : Float → Vec3 → Type 0
-Each x v = (v .x ≡ x) × (v .y ≡ x) × (v .z ≡ x)
+Each x v = (v .x ≡ x) × ((v .y ≡ x) × (v .z ≡ x))
 
 module _ (s : List ℕ) (at n : ℕ) where
   pub swept-begin : (min max : Vec3) → Each greatest min → Each lowest max → Swept s at n min max at 0
@@ -77,18 +77,18 @@ module _ (s : List ℕ) (at n : ℕ) where
     within = omega arith;
     here = omega arith;
     min-x = left-begin IsMin greatest (min .x) s at n (e .0);
-    min-y = left-begin IsMin greatest (min .y) s (at + 1) n (e .1);
-    min-z = left-begin IsMin greatest (min .z) s (at + 2) n (e .2);
+    min-y = left-begin IsMin greatest (min .y) s (at + 1) n (e .1 .0);
+    min-z = left-begin IsMin greatest (min .z) s (at + 2) n (e .1 .1);
     max-x = left-begin IsMax lowest (max .x) s at n (d .0);
-    max-y = left-begin IsMax lowest (max .y) s (at + 1) n (d .1);
-    max-z = left-begin IsMax lowest (max .z) s (at + 2) n (d .2);
+    max-y = left-begin IsMax lowest (max .y) s (at + 1) n (d .1 .0);
+    max-z = left-begin IsMax lowest (max .z) s (at + 2) n (d .1 .1);
   }
 
   module _ (min max : Vec3) (place i : ℕ) (g : Swept s at n min max place i) where
     pub swept-turn : (v min' max' : Vec3) → i < n
         → v ≡ floatsAt s place
-        → IsMin (min .x) (v .x) (min' .x) × IsMin (min .y) (v .y) (min' .y) × IsMin (min .z) (v .z) (min' .z)
-        → IsMax (max .x) (v .x) (max' .x) × IsMax (max .y) (v .y) (max' .y) × IsMax (max .z) (v .z) (max' .z)
+        → IsMin (min .x) (v .x) (min' .x) × (IsMin (min .y) (v .y) (min' .y) × IsMin (min .z) (v .z) (min' .z))
+        → IsMax (max .x) (v .x) (max' .x) × (IsMax (max .y) (v .y) (max' .y) × IsMax (max .z) (v .z) (max' .z))
         → Swept s at n min' max' (place + 3) (i + 1)
     swept-turn v min' max' h e l m =
         let ex = ap (λ (u : Vec3). u .x) e in
@@ -100,11 +100,11 @@ module _ (s : List ℕ) (at n : ℕ) where
           within = omega arith;
           here = omega (arith, g .here);
           min-x = left-turn IsMin greatest _ s _ (v .x) _ place (place + 3) i n h refl (g .min-x) ex (l .0);
-          min-y = left-turn IsMin greatest _ s _ (v .y) _ (place + 1) (place + 3 + 1) i n h py (g .min-y) ey (l .1);
-          min-z = left-turn IsMin greatest _ s _ (v .z) _ (place + 2) (place + 3 + 2) i n h pz (g .min-z) ez (l .2);
+          min-y = left-turn IsMin greatest _ s _ (v .y) _ (place + 1) (place + 3 + 1) i n h py (g .min-y) ey (l .1 .0);
+          min-z = left-turn IsMin greatest _ s _ (v .z) _ (place + 2) (place + 3 + 2) i n h pz (g .min-z) ez (l .1 .1);
           max-x = left-turn IsMax lowest _ s _ (v .x) _ place (place + 3) i n h refl (g .max-x) ex (m .0);
-          max-y = left-turn IsMax lowest _ s _ (v .y) _ (place + 1) (place + 3 + 1) i n h py (g .max-y) ey (m .1);
-          max-z = left-turn IsMax lowest _ s _ (v .z) _ (place + 2) (place + 3 + 2) i n h pz (g .max-z) ez (m .2);
+          max-y = left-turn IsMax lowest _ s _ (v .y) _ (place + 1) (place + 3 + 1) i n h py (g .max-y) ey (m .1 .0);
+          max-z = left-turn IsMax lowest _ s _ (v .z) _ (place + 2) (place + 3 + 2) i n h pz (g .max-z) ez (m .1 .1);
         }
 
     pub swept-end : (r : Aabb) → r .min ≡ min → r .max ≡ max → n ≤ i → Bounding s at n r

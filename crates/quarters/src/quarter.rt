@@ -88,7 +88,8 @@ pub fn quarter_box(min: Vec3, max: Vec3) -> QuarterBox
 
 // A side as the 16 bits that stand in the pages.
 pub fn bits16_of(x: i16) -> u32
-    ensures { λ r. ⌜ (r ≡ bits16 x) × (r < 65536) ⌝ }
+    ensures bits { λ r. ⌜ r ≡ bits16 x ⌝ }
+    ensures bound { λ r. ⌜ r < 65536 ⌝ }
 {
     if x < 0 {
         let below = (0 - x as i32) as u32;

@@ -22,8 +22,9 @@ use Rattle.read_polygons.specs.Polygons.{limitsOf}
 use Rattle.read_polygon_tally.specs.Tally.{tallyFrom}
 use Rattle.read_polygon_tally.specs.Steps.{paper, Small}
 use Rattle.strip.specs.Outcome.{Paper, values, refusal, refusalOf}
+use Rattle.strip.proofs.Papers.{no-values}
 use Rattle.read_list_set.specs.Items.{itemsIn}
-use Rattle.read_list_set.specs.Listed.{listsOf, ListsRead, Counts}
+use Rattle.read_list_set.specs.Listed.{listsOf, ListsRead, ListsCounted}
 use Rattle.read_list_set.specs.Listed as Listed
 use Rattle.read_polygons.proofs.Exact.{tally-made}
 use Rattle.read_list_set.proofs.Runs.{length-items}
@@ -45,8 +46,8 @@ use Rattle.read_sectors.specs.Answer as Tree
 use Rattle.read_sectors.specs.Answer.{outcomeOf, treeOutcome}
 use Rattle.read_sectors.proofs.Answers.{by-walk, accepted}
 use Rattle.read_decide.specs.declared.ParseAnswer.{ParseAnswer}
-use Rattle.read_decide.specs.declared.Check.{Check}
-use Rattle.read_decide.specs.declared.Check.the-variants as Check
+use Rattle.read_decide.specs.declared.HeadCheck.{HeadCheck}
+use Rattle.read_decide.specs.declared.HeadCheck.the-variants as HeadCheck
 use Rattle.read_decide.specs.Answer.{countsOf}
 use Rattle.read_decide.specs.Answer as Parse
 use Rattle.read_decide.specs.Deciding.{answerOf, passedThen, addresses, linkBytes, polysWords, ListsReady, Tallied, ListsChecked}
@@ -56,9 +57,6 @@ use Rattle.read_decide.proofs.Lengths.{polys-count, portals-count, poin
 
 refused-of : {m p n q : ℕ} → _≡_ {A = Paper (Limits × ℕ)} (refusal m p) (refusal n q) → refused m p ≡ refused n q
 refused-of e = cc
-
-never : {l : Limits} {n number place : ℕ} → _≡_ {A = Paper (Limits × ℕ)} (values (l, n)) (refusal number place) → ⊥
-never e = let z : _≡_ {A = ℕ} 0 1 = cc in omega arith
 
 -- the four in turn, before the rest
 abbrev inTurn : Paper ℕ → Paper ℕ → Paper ℕ → Paper ℕ → Reading → Reading
@@ -76,14 +74,14 @@ module _ (links : ℕ) where
   turned (values v) (refusal m q) c d rest e = refused-of e
   turned (values v) (values i) (refusal m q) d rest e = refused-of e
   turned (values v) (values i) (values j) (refusal m q) rest e = refused-of e
-  turned (values v) (values i) (values j) (values p) rest e = absurd (never e)
+  turned (values v) (values i) (values j) (values p) rest e = absurd (no-values (sym e))
 
   taken : (a b c d : Paper ℕ) (rest : Reading) {l : Limits} {n : ℕ} → four a b c d ≡ values (l, n) → inTurn a b c d rest ≡ rest
   unfolding four
-  taken (refusal m q) b c d rest e = absurd (never (sym e))
-  taken (values v) (refusal m q) c d rest e = absurd (never (sym e))
-  taken (values v) (values i) (refusal m q) d rest e = absurd (never (sym e))
-  taken (values v) (values i) (values j) (refusal m q) rest e = absurd (never (sym e))
+  taken (refusal m q) b c d rest e = absurd (no-values e)
+  taken (values v) (refusal m q) c d rest e = absurd (no-values e)
+  taken (values v) (values i) (refusal m q) d rest e = absurd (no-values e)
+  taken (values v) (values i) (values j) (refusal m q) rest e = absurd (no-values e)
   taken (values v) (values i) (values j) (values p) rest e = refl
 
 module _ (S G : List ℕ) where
@@ -115,7 +113,7 @@ module _ (S G : List ℕ) {a : ListAddresses} (ea : a ≡ addresses (header S G)
     all-taken rest =
         taken (length (linkBytes S G) / 2) (answer S G 6 0x70 1) (answer S G 2 0x80 2) (answer S G 8 0x88 3) (answer S G 48 0x118 4) rest (sym (by-header .0) ∙ ap Listed.paper found)
 
-    counts : Counts S G (leAt 8 (header S G) 0x70) (leAt 8 (header S G) 0x80) (leAt 8 (header S G) 0x88) (leAt 8 (header S G) 0x118) (length (linkBytes S G) / 2) l n
+    counts : ListsCounted S G (leAt 8 (header S G) 0x70) (leAt 8 (header S G) 0x80) (leAt 8 (header S G) 0x88) (leAt 8 (header S G) 0x118) (length (linkBytes S G) / 2) l n
     counts = rw found at (by-header .1)
 
     all-ready : ListsReady S G
@@ -216,14 +214,14 @@ passed-far S G passes z = by (readableAt S G 0x5000_0000 368) (rw z at (passes (
     by true e = let n : _≡_ {A = ℕ} 31 0 = cc in omega arith
     by false e = let n : _≡_ {A = ℕ} 30 0 = cc in omega arith
 
-module _ (S G : List ℕ) {x : Check} (ex : (rest : Reading) → onHead S G rest ≡ passedThen x rest) where
-  pub head-stopped : {q : Refusal} → x ≡ Check.Refused q → refusalOf q ≡ answerOf (readCell S G)
+module _ (S G : List ℕ) {x : HeadCheck} (ex : (rest : Reading) → onHead S G rest ≡ passedThen x rest) where
+  pub head-stopped : {q : Refusal} → x ≡ HeadCheck.Refused q → refusalOf q ≡ answerOf (readCell S G)
   unfolding readCell
   head-stopped {q} e =
       let is : readCell S G ≡ refused (q .number) (q .place) = ex _ ∙ rw e in
       sym (ap answerOf is)
 
-  module _ (e : x ≡ Check.Passed) {root : ℕ} (er : root ≡ rootAt S G) (a : TreeAnswer) (ea : (Tree.paper a ≡ shown (treeOutcome S G root)) × Tree.Small a) where
+  module _ (e : x ≡ HeadCheck.Passed) {root : ℕ} (er : root ≡ rootAt S G) (a : TreeAnswer) (ea : (Tree.paper a ≡ shown (treeOutcome S G root)) × Tree.Small a) where
     passes : (rest : Reading) → onHead S G rest ≡ rest
     passes rest = ex rest ∙ rw e
 

@@ -4,6 +4,7 @@ use mathlib.Core.Path.{_≡_}
 use mathlib.Core.List.{List, map}
 use lib.ListN.{length}
 use Rattle.fields.specs.Bytes.{leAt, cut}
+use Rattle.fields.specs.Sizes.{EDGE-SIZE, INDEX-SIZE, POLY-SIZE, PORTAL-SIZE, VERTEX-SIZE}
 use Rattle.resource.specs.Section.{resolved}
 use Rattle.strip.specs.Outcome.{Paper, refusal, values}
 use Rattle.strip.specs.Cell.{each, polygonWords, portalWords}
@@ -15,8 +16,8 @@ use Rattle.read_decide.specs.declared.Parsed.{Parsed}
 use Rattle.read_decide.specs.declared.ParseAnswer.{ParseAnswer}
 use Rattle.read_decide.specs.declared.ParseAnswer.the-variants as ParseAnswer
 use Rattle.read_decide.specs.declared.ListAddresses.{ListAddresses}
-use Rattle.read_decide.specs.declared.Check.{Check}
-use Rattle.read_decide.specs.declared.Check.the-variants as Check
+use Rattle.read_decide.specs.declared.HeadCheck.{HeadCheck}
+use Rattle.read_decide.specs.declared.HeadCheck.the-variants as HeadCheck
 use Rattle.read_decide.specs.declared.ListsCheck.{ListsCheck}
 use Rattle.read_decide.specs.declared.ListsCheck.the-variants as ListsCheck
 use Rattle.read_decide.specs.Reading.{Reading, made, refused, header, root, head, source, polygons, portalCount, portals, onLists}
@@ -28,9 +29,9 @@ answerOf (made c sectors) = values (countsOf c sectors)
 answerOf (refused number place) = refusal number place
 
 -- a run of checks, before the rest
-abbrev pub passedThen : Check → Reading → Reading
-passedThen Check.Passed rest = rest
-passedThen (Check.Refused r) rest = refused (r .number) (r .place)
+abbrev pub passedThen : HeadCheck → Reading → Reading
+passedThen HeadCheck.Passed rest = rest
+passedThen (HeadCheck.Refused r) rest = refused (r .number) (r .place)
 
 -- where the lists are
 unfoldable pub addresses : List ℕ → ListAddresses
@@ -51,14 +52,14 @@ module _ (system graphics : List ℕ) where
   polysWords = each polygonWords (map (polygonMade (source system graphics)) (polygons system graphics))
 
   unfoldable pub portalsWords : List ℕ
-  portalsWords = each portalWords (map (portalOf (backOf (head system graphics))) (cut 28 (portalCount system graphics) (portals system graphics)))
+  portalsWords = each portalWords (map (portalOf (backOf (head system graphics))) (cut PORTAL-SIZE (portalCount system graphics) (portals system graphics)))
 
   -- the lists can be read by their part tables
   pub record ListsReady : Type 0 where
-    pub vertices : Readable system graphics 6 (tableOf system graphics (leAt 8 (header system graphics) 0x70))
-    pub indices : Readable system graphics 2 (tableOf system graphics (leAt 8 (header system graphics) 0x80))
-    pub edges : Readable system graphics 8 (tableOf system graphics (leAt 8 (header system graphics) 0x88))
-    pub polygons : Readable system graphics 48 (tableOf system graphics (leAt 8 (header system graphics) 0x118))
+    pub vertices : Readable system graphics VERTEX-SIZE (tableOf system graphics (leAt 8 (header system graphics) 0x70))
+    pub indices : Readable system graphics INDEX-SIZE (tableOf system graphics (leAt 8 (header system graphics) 0x80))
+    pub edges : Readable system graphics EDGE-SIZE (tableOf system graphics (leAt 8 (header system graphics) 0x88))
+    pub polygons : Readable system graphics POLY-SIZE (tableOf system graphics (leAt 8 (header system graphics) 0x118))
 
   abbrev pub ReadyFor : ParseAnswer → Type 0
   ReadyFor (ParseAnswer.Parsed p) = ListsReady

@@ -4,6 +4,7 @@ use mathlib.Core.Bool.{Bool, cond}
 use mathlib.Core.List.{List, [], _∷_, map}
 use lib.Dec.{ltb}
 use Rattle.fields.specs.Bytes.{leAt, cut}
+use Rattle.fields.specs.Sizes.{EDGE-SIZE, INDEX-SIZE, NAVMESH-SIZE, POLY-SIZE, PORTAL-SIZE, SECTOR-SIZE, VERTEX-SIZE}
 use Rattle.resource.specs.Section.{resolved}
 use Rattle.strip.specs.Cell.{Head, Cell}
 use Rattle.strip.specs.Box.{finiteBox}
@@ -39,13 +40,13 @@ onWalk (Walk.refused number) rest = refused number 0
 -- what the pages hold, by the header's addresses and counts
 module _ (system graphics : List ℕ) where
   unfoldable pub header : List ℕ
-  header = resolved system graphics 0x5000_0000 368
+  header = resolved system graphics 0x5000_0000 NAVMESH-SIZE
 
   abbrev pub rootAt : ℕ
   rootAt = leAt 8 header 0x120
 
   unfoldable pub root : List ℕ
-  root = resolved system graphics rootAt 96
+  root = resolved system graphics rootAt SECTOR-SIZE
 
   unfoldable pub head : Head
   head = headOf header root
@@ -58,22 +59,22 @@ module _ (system graphics : List ℕ) where
   unfoldable pub source : Source
   source =
       record {
-        vertices = itemsAt 6 (leAt 8 header 0x70);
-        indices = itemsAt 2 (leAt 8 header 0x80);
-        edges = itemsAt 8 (leAt 8 header 0x88);
+        vertices = itemsAt VERTEX-SIZE (leAt 8 header 0x70);
+        indices = itemsAt INDEX-SIZE (leAt 8 header 0x80);
+        edges = itemsAt EDGE-SIZE (leAt 8 header 0x88);
         links = linksAt system graphics (leAt 8 header 0x130) (leAt 4 header 0x150);
         area = areaOf header;
         back = backOf head;
       }
 
   abbrev pub polygons : List (List ℕ)
-  polygons = itemsAt 48 (leAt 8 header 0x118)
+  polygons = itemsAt POLY-SIZE (leAt 8 header 0x118)
 
   abbrev pub portalCount : ℕ
   portalCount = leAt 4 header 0x14C
 
   unfoldable pub portals : List ℕ
-  portals = resolved system graphics (leAt 8 header 0x128) (28 * portalCount)
+  portals = resolved system graphics (leAt 8 header 0x128) (PORTAL-SIZE * portalCount)
 
   -- the cell, with a tree of these points
   unfoldable pub cellOf : List (List ℕ) → Cell
@@ -81,29 +82,29 @@ module _ (system graphics : List ℕ) where
       record {
         head = head;
         polys = map (polygonMade source) polygons;
-        portals = map (portalOf (backOf head)) (cut 28 portalCount portals);
+        portals = map (portalOf (backOf head)) (cut PORTAL-SIZE portalCount portals);
         points = map (pointOf (backOf head)) points;
       }
 
   -- before the walk: 30, 31, 32 for the root, 40
   unfoldable pub onHead : Reading → Reading
   onHead rest =
-      check (readableAt system graphics 0x5000_0000 368) 30
-      (check (ltb 0 rootAt) 31 (check (readableAt system graphics rootAt 96) 32 (check (finiteBox head) 40 rest)))
+      check (readableAt system graphics 0x5000_0000 NAVMESH-SIZE) 30
+      (check (ltb 0 rootAt) 31 (check (readableAt system graphics rootAt SECTOR-SIZE) 32 (check (finiteBox head) 40 rest)))
 
   -- after it: lists 1 to 4, then polygons
   unfoldable pub onLists : Reading → Reading
   onLists rest =
-      onPaper (listed system graphics 6 (leAt 8 header 0x70) 1)
-      (onPaper (listed system graphics 2 (leAt 8 header 0x80) 2)
-      (onPaper (listed system graphics 8 (leAt 8 header 0x88) 3)
-      (onPaper (listed system graphics 48 (leAt 8 header 0x118) 4)
+      onPaper (listed system graphics VERTEX-SIZE (leAt 8 header 0x70) 1)
+      (onPaper (listed system graphics INDEX-SIZE (leAt 8 header 0x80) 2)
+      (onPaper (listed system graphics EDGE-SIZE (leAt 8 header 0x88) 3)
+      (onPaper (listed system graphics POLY-SIZE (leAt 8 header 0x118) 4)
       (onPaper (tallyFrom (limitsOf source) (source .indices) 0 polygons) rest))))
 
   -- and portals: so many, 28 bytes each
   unfoldable pub afterWalk : List (List ℕ) → ℕ → Reading
   afterWalk points sectors =
-      onLists (check (readableAt system graphics (leAt 8 header 0x128) (28 * portalCount)) 39 (made (cellOf points) sectors))
+      onLists (check (readableAt system graphics (leAt 8 header 0x128) (PORTAL-SIZE * portalCount)) 39 (made (cellOf points) sectors))
 
   unfoldable pub readCell : Reading
   readCell = onHead (onWalk (walk system graphics 4096 (rootAt ∷ [])) afterWalk)

@@ -44,7 +44,7 @@ pub enum ParseAnswer {
 }
 
 // What a run of checks answers.
-enum Check {
+enum HeadCheck {
     Passed,
     Refused(Refusal),
 }
@@ -89,7 +89,8 @@ pub fn list_addresses(header: &[u8]) -> ListAddresses
 }
 
 pub fn portal_count(header: &[u8]) -> usize
-    ensures { λ r. ⌜ (r ≡ leAt 4 (now (header .entry)) 0x14C) × (r < 2 ^ 32) ⌝ }
+    ensures count { λ r. ⌜ r ≡ leAt 4 (now (header .entry)) 0x14C ⌝ }
+    ensures bound { λ r. ⌜ r < 2 ^ 32 ⌝ }
 {
     u32_le(header, 0x14C) as usize
 }
@@ -138,14 +139,14 @@ fn finite_box<'a>(header: &'a [u8], root: &'a [u8]) -> bool
     finite_at(header, 0x60)
 }
 
-fn refuse(number: u32) -> Check
-    ensures { λ r. ⌜ r ≡ Check.Refused (record { number = number; place = 0 }) ⌝ }
+fn refuse(number: u32) -> HeadCheck
+    ensures { λ r. ⌜ r ≡ HeadCheck.Refused (record { number = number; place = 0 }) ⌝ }
 {
-    Check::Refused(Refusal { number, place: 0 })
+    HeadCheck::Refused(Refusal { number, place: 0 })
 }
 
 // Header, root and box, in whichever sections they were looked up.
-fn check_head<'a>(header: &'a [u8], root: &'a [u8]) -> Check
+fn check_head<'a>(header: &'a [u8], root: &'a [u8]) -> HeadCheck
     ensures { λ r. ⌜ ((system graphics : List ℕ) → HeaderRoot system graphics (now (header .entry)) (now (root .entry)) → (rest : Reading) → onHead system graphics rest ≡ passedThen r rest) ⌝ }
 {
     if header.len() < NAVMESH_SIZE {
@@ -158,7 +159,7 @@ fn check_head<'a>(header: &'a [u8], root: &'a [u8]) -> Check
         return refuse(32);
     }
     if finite_box(header, root) {
-        return Check::Passed;
+        return HeadCheck::Passed;
     }
     refuse(40)
 }
@@ -199,7 +200,8 @@ fn decide_rest<'a>(
     tree: Tree,
 ) -> ParseAnswer
     requires { ⌜ (now header ≡ Reading.header (now system) (now graphics)) × (tree .points ≤ 65535 * 4096) ⌝ }
-    ensures { λ r. ⌜ ((points : List (List ℕ)) → length points ≡ tree .points → paper r ≡ answerOf (afterWalk (now (system .entry)) (now (graphics .entry)) points (tree .sectors))) × ReadyFor (now (system .entry)) (now (graphics .entry)) r ⌝ }
+    ensures answer { λ r. ⌜ ((points : List (List ℕ)) → length points ≡ tree .points → paper r ≡ answerOf (afterWalk (now (system .entry)) (now (graphics .entry)) points (tree .sectors))) ⌝ }
+    ensures ready { λ r. ⌜ ReadyFor (now (system .entry)) (now (graphics .entry)) r ⌝ }
 {
     match check_lists(system, graphics, header) {
         ListsCheck::Refused(r) => ParseAnswer::Refused(r),
@@ -230,11 +232,12 @@ pub fn decide<'a>(
     root: &'a [u8],
 ) -> ParseAnswer
     requires { ⌜ HeaderRoot (now system) (now graphics) (now header) (now root) ⌝ }
-    ensures { λ r. ⌜ (paper r ≡ answerOf (readCell (now (system .entry)) (now (graphics .entry)))) × ReadyFor (now (system .entry)) (now (graphics .entry)) r ⌝ }
+    ensures answer { λ r. ⌜ paper r ≡ answerOf (readCell (now (system .entry)) (now (graphics .entry))) ⌝ }
+    ensures ready { λ r. ⌜ ReadyFor (now (system .entry)) (now (graphics .entry)) r ⌝ }
 {
     match check_head(header, root) {
-        Check::Refused(r) => ParseAnswer::Refused(r),
-        Check::Passed => match read_sector_tree(system, graphics, u64_le(header, 0x120)) {
+        HeadCheck::Refused(r) => ParseAnswer::Refused(r),
+        HeadCheck::Passed => match read_sector_tree(system, graphics, u64_le(header, 0x120)) {
             TreeAnswer::Refused(q) => ParseAnswer::Refused(q),
             TreeAnswer::Tree(tree) => decide_rest(system, graphics, header, tree),
         },

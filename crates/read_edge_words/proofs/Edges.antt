@@ -9,6 +9,7 @@ use Rattle.fields.specs.Bytes.{leAt}
 use Rattle.fields.specs.Put.{put}
 use Rattle.fields.proofs.Puts.{put-next}
 use Rattle.areas.specs.declared.edge.RawEnd.{RawEnd}
+use Rattle.areas.specs.EdgeHalf.{ADJACENT-NONE}
 use Rattle.areas.specs.Decoded.{decodedEnd}
 use Rattle.strip.specs.Cell.{NavEdgeEnd, NavEdge, halfWords, edgeWords}
 use Rattle.read_grammar.specs.Polygons.{halfOf, edgeOf}
@@ -26,7 +27,7 @@ pub area-in : (header : List ℕ) {i n r : ℕ} → n ≡ leAt 4 header 0x94 →
 unfolding areaOf
 area-in header {i} {n} en l er = er ∙ rw (← en, lt-ltb i n l)
 
-pub area-none : (header : List ℕ) {i n : ℕ} → n ≡ leAt 4 header 0x94 → n ≤ i → 16383 ≡ areaOf header i
+pub area-none : (header : List ℕ) {i n : ℕ} → n ≡ leAt 4 header 0x94 → n ≤ i → ADJACENT-NONE ≡ areaOf header i
 unfolding areaOf
 area-none header {i} {n} en l = rw (← en, le-ltb i n l)
 

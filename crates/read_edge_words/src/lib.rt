@@ -5,11 +5,13 @@ ghost use Prim.Native.Nat.{_+_, _*_, _≤_};
 ghost use lib.ListN.{length};
 ghost use Rattle.fields.specs.Bytes.{cut};
 ghost use Rattle.fields.specs.Put.{put};
+ghost use Rattle.fields.specs.Sizes.{EDGE-SIZE};
 ghost use Rattle.strip.specs.Cell.{halfWords, edgeWords, each};
 ghost use Rattle.read_grammar.specs.Polygons.{halfOf, edgeOf};
 ghost use Rattle.read_grammar.specs.Derives.{areaOf};
 use areas::ADJACENT_NONE;
 use areas::edge::decode_end;
+use fields::sizes::EDGE_SIZE;
 use fields::u32_le;
 use read_records::words::put3;
 
@@ -44,13 +46,13 @@ fn put_edge<'a>(header: &'a [u8], e: &'a [u8], out: &mut [u32], at: usize)
 
 // The first n edges of `run`.
 pub fn put_edge_run<'a>(header: &'a [u8], run: &'a [u8], n: usize, out: &mut [u32], at: usize)
-    requires { ⌜ (8 * n ≤ length (now run)) × (at + 6 * n ≤ length (now out)) ⌝ }
-    ensures { λ _. ⌜ now (out .exit) ≡ put at (each edgeWords (map (edgeOf (areaOf (now (header .entry)))) (cut 8 n (now (run .entry))))) (now (out .entry)) ⌝ }
+    requires { ⌜ (EDGE-SIZE * n ≤ length (now run)) × (at + 6 * n ≤ length (now out)) ⌝ }
+    ensures { λ _. ⌜ now (out .exit) ≡ put at (each edgeWords (map (edgeOf (areaOf (now (header .entry)))) (cut EDGE-SIZE n (now (run .entry))))) (now (out .entry)) ⌝ }
 {
     let mut k = 0;
     while k < n {
-        let from = 8 * k;
-        let to = from + 8;
+        let from = EDGE_SIZE * k;
+        let to = from + EDGE_SIZE;
         put_edge(header, &run[from..to], out, at + 6 * k);
         k += 1;
     }

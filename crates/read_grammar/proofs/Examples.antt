@@ -33,7 +33,7 @@ module _ (graphics : List ℕ) where
   At off n b = Good vehiclePages graphics (0x5000_0000 + off) n b
 
   found : (off n : ℕ) {b : List ℕ} → 0 < n → resolved vehiclePages graphics (0x5000_0000 + off) n ≡ b → length b ≡ n → At off n b
-  found off n h e l = record { some = h; there = e; whole = l }
+  found off n h e l = record { some = h; there = e; length-is = l }
 
   blocks : At 0 368 vehicleHeader × At 368 48 (emptyList LIST-VFT-VERTICES 368) × At 416 48 (emptyList LIST-VFT-INDICES 416) × At 464 48 (emptyList LIST-VFT-EDGES 464)
       × At 512 48 (emptyList LIST-VFT-POLYS 512) × At 560 96 vehicleSector × At 656 32 vehicleData

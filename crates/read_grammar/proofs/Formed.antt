@@ -196,7 +196,7 @@ module _ (system graphics : List ℕ) (sb : Bytes system) (gb : Bytes graphics) 
     pub makes-numbers : Positions AllNumbers c
     makes-numbers =
         let b = box-finite (c .head) (m .finite-box) in
-        positions AllNumbers (back-numbers (c .head) (b .min) (b .size))
+        positions AllNumbers (back-numbers (c .head) (b .bb-min) (b .bb-size))
 
     pub makes-shaped : All Shaped (c .polys)
     makes-shaped = polygons-have Shaped (λ b p h f. polygon-shaped h f)

@@ -17,10 +17,10 @@ use Rattle.read_grammar.specs.Lists.{ListAt, some}
 
 module _ (system graphics : List ℕ) (va n : ℕ) where
   pub good-found : {b : List ℕ} → Good system graphics va n b → good system graphics va n ≡ true
-  good-found g = resource.full-good system graphics va n (g .some) (omega (arith, ap length (g .there), g .whole))
+  good-found g = resource.full-good system graphics va n (g .some) (omega (arith, ap length (g .there), g .length-is))
 
   pub found-good : 0 < n → good system graphics va n ≡ true → Good system graphics va n (resolved system graphics va n)
-  found-good h e = record { some = h; there = refl; whole = resource.good-length system graphics va n e }
+  found-good h e = record { some = h; there = refl; length-is = resource.good-length system graphics va n e }
 
   pub good-never : {b : List ℕ} → good system graphics va n ≡ false → Good system graphics va n b → ⊥
   good-never e g = false≢true (sym e ∙ good-found g)
@@ -31,7 +31,7 @@ null-never system graphics n g = good-never system graphics 0 n (resource.null-b
 
 -- what stands in the system section is good at its address
 pub held-good : {s : List ℕ} {at : ℕ} {b : List ℕ} (graphics : List ℕ) → at < 0x1000_0000 → 0 < length b → Holds s at b → Good s graphics (0x5000_0000 + at) (length b) b
-held-good graphics few h held = record { some = h; there = resource.held-resolved graphics few held; whole = refl }
+held-good graphics few h held = record { some = h; there = resource.held-resolved graphics few held; length-is = refl }
 
 -- ---- lists
 

@@ -5,19 +5,19 @@ use mathlib.Core.List.{List, [], _++_}
 use lib.ListN.{length}
 use Rattle.fields.specs.Bytes.{leAt, cut}
 use Rattle.read_grammar.specs.Parts.{Good}
-use Rattle.fields.specs.Sizes.{LIST-SIZE}
+use Rattle.fields.specs.Sizes.{LIST-PART-SIZE, LIST-SIZE}
 
 -- the part table of k parts at an address, 16 bytes each, unless k is 0
 pub data Table (system graphics : List ℕ) (va : ℕ) : ℕ → List ℕ → Type 0 where
   no-table : Table system graphics va 0 []
-  table : {k : ℕ} {t : List ℕ} → Good system graphics va (16 * suc k) t → Table system graphics va (suc k) t
+  table : {k : ℕ} {t : List ℕ} → Good system graphics va (LIST-PART-SIZE * suc k) t → Table system graphics va (suc k) t
 
 -- The bytes of the items, w bytes each, of the k parts that the table t names from its byte `at` on: address, item count at 8. A part with
 -- count 0 is skipped.
 pub data Parts (system graphics : List ℕ) (w : ℕ) (t : List ℕ) : ℕ → ℕ → List ℕ → Type 0 where
   no-part : {at : ℕ} → Parts system graphics w t at 0 []
-  skipped : {at k : ℕ} {bs : List ℕ} → leAt 4 t (at + 8) ≡ 0 → Parts system graphics w t (at + 16) k bs → Parts system graphics w t at (suc k) bs
-  part : {at k : ℕ} {b bs : List ℕ} → Good system graphics (leAt 8 t at) (w * leAt 4 t (at + 8)) b → Parts system graphics w t (at + 16) k bs
+  skipped : {at k : ℕ} {bs : List ℕ} → leAt 4 t (at + 8) ≡ 0 → Parts system graphics w t (at + LIST-PART-SIZE) k bs → Parts system graphics w t at (suc k) bs
+  part : {at k : ℕ} {b bs : List ℕ} → Good system graphics (leAt 8 t at) (w * leAt 4 t (at + 8)) b → Parts system graphics w t (at + LIST-PART-SIZE) k bs
       → Parts system graphics w t at (suc k) (b ++ bs)
 
 -- The list at an address that isn't 0: item count at 8, address of the part table at 0x10, part count at 0x20. The parts' counts add up to the

@@ -11,7 +11,7 @@ use Rattle.resource.specs.Section.{resolved}
 pub record Good (system graphics : List ℕ) (va n : ℕ) (b : List ℕ) : Type 0 where
   pub some : 0 < n
   pub there : resolved system graphics va n ≡ b
-  pub whole : length b ≡ n
+  pub length-is : length b ≡ n
 
 -- n items of w bytes each at an address: a good part if there is any
 pub data Array (system graphics : List ℕ) (w va : ℕ) : ℕ → List (List ℕ) → Type 0 where

@@ -19,7 +19,8 @@ pub fn read_list<'a>(
     item_size: u16,
     place: usize,
 ) -> ListAnswer
-    ensures { λ r. ⌜ (paper r ≡ listed (now (system .entry)) (now (graphics .entry)) «item_size» va place) × Few r ⌝ }
+    ensures answer { λ r. ⌜ paper r ≡ listed (now (system .entry)) (now (graphics .entry)) «item_size» va place ⌝ }
+    ensures bound { λ r. ⌜ Few r ⌝ }
 {
     if va == 0 {
         return ListAnswer::Items(0);

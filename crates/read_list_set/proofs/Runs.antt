@@ -41,7 +41,7 @@ front w bytes i m n h =
 pub record Part (w : ℕ) (items : List (List ℕ)) (i m : ℕ) (q : List ℕ) : Type 0 where
   pub some : 0 < m
   pub fits : i + m ≤ length items
-  pub whole : w * m ≤ length q
+  pub long : w * m ≤ length q
   pub step : drop i items ≡ cut w m q ++ drop (i + m) items
 
 -- the part where the cursor stands, from item i on
@@ -73,7 +73,7 @@ module _ (system graphics : List ℕ) (w : ℕ) (table : List ℕ) (wide : 0 < w
       record {
         some = omega (arith, count-of);
         fits = omega (arith, length-items system graphics w table);
-        whole = whole;
+        long = whole;
         step = sym split ∙ rw (one, drop-drop (length q / w) i items);
       }
 
@@ -106,7 +106,7 @@ left-end items start count k h = let e : count - k ≡ 0 = omega arith in rw e
 pub record Taken (w : ℕ) (items : List (List ℕ)) (start count k n : ℕ) (q : List ℕ) : Type 0 where
   pub some : 0 < n
   pub fits : k + n ≤ count
-  pub whole : w * n ≤ length q
+  pub long : w * n ≤ length q
   pub step : left items start count k ≡ cut w n q ++ left items start count (k + n)
 
 -- as many as the cursor's part holds
@@ -122,7 +122,7 @@ taken system graphics w table wide r start count k {c} h {q} e {n} en room l =
     record {
       some = omega (arith, count-of system graphics w table wide r h e);
       fits = omega arith;
-      whole = whole;
+      long = whole;
       step = rw (a, take-add n (count - (k + n)) (drop (start + k) items), one, drop-drop, b);
     }
 

@@ -1,6 +1,10 @@
 // The four lists of a cell at their addresses: the first refusal in order, or how many items each has.
 ghost use mathlib.Core.Path.{_≡_};
 ghost use Rattle.read_list_set.specs.Listed.{listsOf, ListsRead, paper};
+use fields::sizes::EDGE_SIZE;
+use fields::sizes::INDEX_SIZE;
+use fields::sizes::POLY_SIZE;
+use fields::sizes::VERTEX_SIZE;
 use read_list_check::read_list;
 use read_lists::ListAnswer;
 use strip::Refusal;
@@ -29,15 +33,28 @@ pub fn read_lists<'a>(
     pa: u64,
     links: usize,
 ) -> ListsAnswer
-    ensures { λ r. ⌜ (paper r ≡ listsOf (now (system .entry)) (now (graphics .entry)) va ia ea pa links) × ListsRead (now (system .entry)) (now (graphics .entry)) va ia ea pa links r ⌝ }
+    ensures answer { λ r. ⌜ paper r ≡ listsOf (now (system .entry)) (now (graphics .entry)) va ia ea pa links ⌝ }
+    ensures lists { λ r. ⌜ ListsRead (now (system .entry)) (now (graphics .entry)) va ia ea pa links r ⌝ }
 {
-    match read_list(system, graphics, va, 6, 1) {
+    match read_list(system, graphics, va, VERTEX_SIZE as u16, 1) {
         ListAnswer::Refused(r) => ListsAnswer::Refused(r),
-        ListAnswer::Items(vertices) => match read_list(system, graphics, ia, 2, 2) {
+        ListAnswer::Items(vertices) => match read_list(system, graphics, ia, INDEX_SIZE as u16, 2) {
             ListAnswer::Refused(r) => ListsAnswer::Refused(r),
-            ListAnswer::Items(indices) => match read_list(system, graphics, ea, 8, 3) {
+            ListAnswer::Items(indices) => match read_list(
+                system,
+                graphics,
+                ea,
+                EDGE_SIZE as u16,
+                3,
+            ) {
                 ListAnswer::Refused(r) => ListsAnswer::Refused(r),
-                ListAnswer::Items(edges) => match read_list(system, graphics, pa, 48, 4) {
+                ListAnswer::Items(edges) => match read_list(
+                    system,
+                    graphics,
+                    pa,
+                    POLY_SIZE as u16,
+                    4,
+                ) {
                     ListAnswer::Refused(r) => ListsAnswer::Refused(r),
                     ListAnswer::Items(polys) => ListsAnswer::Lists(
                         Limits {

@@ -12,6 +12,7 @@ use Rattle.fields.specs.Bytes.{leAt}
 use Rattle.read_lists.specs.declared.ListAnswer.{ListAnswer}
 use Rattle.read_lists.specs.declared.ListAnswer.the-variants.{Items}
 use Rattle.strip.specs.Outcome.{Paper, values, refusal}
+use Rattle.strip.proofs.Papers.{no-values}
 use Rattle.read_lists.specs.Lists.{before, total, readableAt, goodTo, allGood, header, tableOf, listed}
 use Rattle.read_lists.specs.Listed.{paper, Few, Readable}
 use Rattle.resource.proofs.Parts.{null-empty}
@@ -24,28 +25,25 @@ pub record Accepted (system graphics : List ℕ) (size va : ℕ) : Type 0 where
   pub adds-up : total (tableOf system graphics va) ≡ leAt 4 (header system graphics va) 8
 
 -- how many items it has
-pub data Found (system graphics : List ℕ) (size : ℕ) : ℕ → ℕ → Type 0 where
-  at-null : Found system graphics size 0 0
-  there : {va : ℕ} → Accepted system graphics size va → Found system graphics size va (leAt 4 (header system graphics va) 8)
-
-pub refused-items : {number place n : ℕ} → refusal number place ≡ values n → ⊥
-refused-items e = let z : _≡_ {A = ℕ} 0 1 = cc in omega arith
+pub data ListFound (system graphics : List ℕ) (size : ℕ) : ℕ → ℕ → Type 0 where
+  at-null : ListFound system graphics size 0 0
+  there : {va : ℕ} → Accepted system graphics size va → ListFound system graphics size va (leAt 4 (header system graphics va) 8)
 
 -- the tests that an answer with items passed
 passed : (a b c d e : Bool) (r p q s m n : ℕ) → cond a (values 0) (cond b (cond c (cond d (cond e (values m) (refusal q s)) (refusal r p)) (refusal r p)) (refusal r p)) ≡ values n
     → ((a ≡ true) × (0 ≡ n)) ⊎ ((a ≡ false) × (b ≡ true) × (c ≡ true) × (d ≡ true) × (e ≡ true) × (m ≡ n))
 passed true b c d e r p q s m n h = inl (refl, cc)
-passed false false c d e r p q s m n h = absurd (refused-items h)
-passed false true false d e r p q s m n h = absurd (refused-items h)
-passed false true true false e r p q s m n h = absurd (refused-items h)
-passed false true true true false r p q s m n h = absurd (refused-items h)
+passed false false c d e r p q s m n h = absurd (no-values h)
+passed false true false d e r p q s m n h = absurd (no-values h)
+passed false true true false e r p q s m n h = absurd (no-values h)
+passed false true true true false r p q s m n h = absurd (no-values h)
 passed false true true true true r p q s m n h = inr (refl, refl, refl, refl, refl, cc)
 
 above-zero : (va : ℕ) → eqb va 0 ≡ false → 0 < va
 above-zero va e = pos-of-ne-zero (eqb-false va 0 e)
 
 module _ (system graphics : List ℕ) (size place : ℕ) where
-  pub listed-found : {va n : ℕ} → listed system graphics size va place ≡ values n → Found system graphics size va n
+  pub listed-found : {va n : ℕ} → listed system graphics size va place ≡ values n → ListFound system graphics size va n
   unfolding listed
   listed-found {va} {n} h =
       ⊎-elim
@@ -55,7 +53,7 @@ module _ (system graphics : List ℕ) (size place : ℕ) where
       rw (← m) (there (record { some = above-zero va f; header-whole = b; table-whole = c; parts-good = d; adds-up = eqb-true _ _ e })))
       (passed _ _ _ _ _ _ _ _ _ _ n h)
 
-  pub found-listed : {va n : ℕ} → Found system graphics size va n → listed system graphics size va place ≡ values n
+  pub found-listed : {va n : ℕ} → ListFound system graphics size va n → listed system graphics size va place ≡ values n
   unfolding listed
   found-listed at-null = refl
   found-listed (there {va = va} a) = rw (ne-eqb va 0 (λ z. omega arith), a .header-whole, a .table-whole, a .parts-good, eq-eqb _ _ (a .adds-up))
@@ -93,7 +91,7 @@ module _ (system graphics : List ℕ) (size : ℕ) where
   unfolding tableOf header leAt
   null-table = rw (null-empty system graphics 48) (null-empty system graphics 0)
 
-  found-good : {va n : ℕ} → Found system graphics size va n → (allGood system graphics size (tableOf system graphics va) ≡ true) × (n ≡ total (tableOf system graphics va))
+  found-good : {va n : ℕ} → ListFound system graphics size va n → (allGood system graphics size (tableOf system graphics va) ≡ true) × (n ≡ total (tableOf system graphics va))
   unfolding goodTo before
   found-good at-null = rw null-table (refl, refl)
   found-good (there a) = (a .parts-good, sym (a .adds-up))

@@ -13,9 +13,10 @@ use Rattle.read_grammar.specs.Parts.{Good}
 use Rattle.read_grammar.specs.Lists.{Table, no-table, table, Parts, no-part, skipped, part, ListAt, Items as ItemsAt, empty, some}
 use Rattle.read_grammar.proofs.Parts.{list-length}
 use Rattle.strip.specs.Outcome.{values, refusal}
+use Rattle.strip.proofs.Papers.{no-values}
 use Rattle.read_lists.specs.Lists.{addressAt, countAt, parts, total, readableAt, header, tableOf, partBytes, partGood, bytesTo, goodTo, allGood, listBytes, listed}
 use Rattle.read_lists.proofs.Lists.{resolved-most, whole-of, length-whole, good-both, length-list}
-use Rattle.read_lists.proofs.Accepted.{Accepted, Found, at-null, there, listed-found, found-listed, refused-items}
+use Rattle.read_lists.proofs.Accepted.{Accepted, ListFound, at-null, there, listed-found, found-listed}
 
 nothing : (l : List ℕ) → length l ≤ 0 → l ≡ []
 nothing [] h = refl
@@ -25,10 +26,10 @@ nothing (x ∷ l) h = absurd (omega arith)
 
 module _ (S G : List ℕ) (va n : ℕ) where
   whole-good : 0 < n → readableAt S G va n ≡ true → Good S G va n (resolved S G va n)
-  whole-good h e = record { some = h; there = refl; whole = length-whole S G va n e }
+  whole-good h e = record { some = h; there = refl; length-is = length-whole S G va n e }
 
   good-whole : {b : List ℕ} → Good S G va n b → readableAt S G va n ≡ true
-  good-whole g = whole-of S G va n (omega (arith, ap length (g .there), g .whole))
+  good-whole g = whole-of S G va n (omega (arith, ap length (g .there), g .length-is))
 
   none-asked : n ≡ 0 → readableAt S G va n ≡ true
   none-asked z = whole-of S G va n (omega arith)
@@ -114,7 +115,7 @@ module _ (S G : List ℕ) (w : ℕ) (wide : 0 < w) where
   unfolding tableOf
   parts-are va e = omega (arith, length-whole S G (leAt 8 (header S G va) 0x10) (16 * leAt 4 (header S G va) 0x20) e)
 
-  found-items : {va n : ℕ} → Found S G w va n → ItemsAt S G w va (itemsOf va n)
+  found-items : {va n : ℕ} → ListFound S G w va n → ItemsAt S G w va (itemsOf va n)
   unfolding cut header tableOf listBytes
   found-items at-null = empty
   found-items (there {va = va} a) =
@@ -178,10 +179,10 @@ module _ (S G : List ℕ) (w : ℕ) (wide : 0 < w) where
     length-is : leAt 4 (l .header) 8 ≡ length xs
     length-is = sym (list-length S G w l)
 
-  items-found : {va : ℕ} {xs : List (List ℕ)} → ItemsAt S G w va xs → Found S G w va (length xs) × (xs ≡ itemsOf va (length xs))
+  items-found : {va : ℕ} {xs : List (List ℕ)} → ItemsAt S G w va xs → ListFound S G w va (length xs) × (xs ≡ itemsOf va (length xs))
   unfolding cut
   items-found empty = (at-null, refl)
-  items-found (some {va = va} far l) = (subst (Found S G w va) (items-are far l ∙ length-is far l) (there (accepted far l)), l .are ∙ rw (length-is far l, ← (bytes-are far l)))
+  items-found (some {va = va} far l) = (subst (ListFound S G w va) (items-are far l ∙ length-is far l) (there (accepted far l)), l .are ∙ rw (length-is far l, ← (bytes-are far l)))
 
   module _ (place : ℕ) where
     pub listed-items : {va n : ℕ} → listed S G w va place ≡ values n → ItemsAt S G w va (itemsOf va n)
@@ -191,4 +192,4 @@ module _ (S G : List ℕ) (w : ℕ) (wide : 0 < w) where
     items-listed i = let (f, e) = items-found i in (found-listed S G w place f, e)
 
     pub refused-none : {va number p : ℕ} {xs : List (List ℕ)} → listed S G w va place ≡ refusal number p → ItemsAt S G w va xs → ⊥
-    refused-none e i = refused-items (sym e ∙ items-listed i .0)
+    refused-none e i = no-values (sym e ∙ items-listed i .0)

@@ -157,16 +157,16 @@ before-back table (suc k) h = simp unary-clauses
 module _ {table : List ℕ} {c : Cursor} (s : AtPart table c) where
   pub back : {i : ℕ} → i < c .first → (0 < c .part) × (c .first ≡ before table (c .part - 1) + countAt table (c .part - 1))
   back h =
-      let some = some-before table (c .part) (rw (s .first) at h) in
-      (some, s .first ∙ before-back table (c .part) some)
+      let some = some-before table (c .part) (rw (s .first-is) at h) in
+      (some, s .first-is ∙ before-back table (c .part) some)
 
   pub next : c .first + c .count ≡ before table (c .part + 1)
-  next = rw (s .first, s .count) (sym (before-next table (c .part)))
+  next = rw (s .first-is, s .count) (sym (before-next table (c .part)))
 
   -- a cursor at or before an item of the list stands at a part
   pub inside-of : {i : ℕ} → c .first ≤ i → i < total table → c .part < parts table
   inside-of lo l =
-      ⊎-elim (λ z. let f : c .first ≡ total table = s .first ∙ ap (before table) z in absurd (omega arith)) (λ m. m) (eq-or-lt-of-le (s .inside))
+      ⊎-elim (λ z. let f : c .first ≡ total table = s .first-is ∙ ap (before table) z in absurd (omega arith)) (λ m. m) (eq-or-lt-of-le (s .inside))
 
   pub within : c .part < parts table → c .first + c .count ≤ total table
   within m = rw next (before-up table (c .part + 1) (parts table) (omega arith))
@@ -215,9 +215,9 @@ module _ (system graphics : List ℕ) (size : ℕ) (table : List ℕ) (r : Reada
       unfolding listBytes
       run-cut =
           let s = h .stands in
-          let lo : before table (c .part) ≤ i = rw (s .first) at (h .low) in
-          let hi : i ≤ before table (c .part) + countAt table (c .part) = let a = rw (s .first, s .count) at (h .high) in omega arith in
-          rw here (part-to-end p (size * (i - c .first)) ∙ rw (s .first, s .count, is-part) (sym (run-in system graphics size table (c .part) (parts table) i (h .inside) (r .good) lo hi)))
+          let lo : before table (c .part) ≤ i = rw (s .first-is) at (h .low) in
+          let hi : i ≤ before table (c .part) + countAt table (c .part) = let a = rw (s .first-is, s .count) at (h .high) in omega arith in
+          rw here (part-to-end p (size * (i - c .first)) ∙ rw (s .first-is, s .count, is-part) (sym (run-in system graphics size table (c .part) (parts table) i (h .inside) (r .good) lo hi)))
 
   -- a run from item i on is as long as it is said to be
   module _ {q : List ℕ} (e : q ≡ take (size * (c .first + c .count - i)) (drop (size * i) (listBytes system graphics size table))) where

@@ -10,7 +10,7 @@ use Rattle.read_lists.specs.Lists.{addressAt, countAt, parts, before}
 -- at a part of the table, or after the last
 pub record AtPart (table : List ℕ) (c : Cursor) : Type 0 where
   pub inside : c .part ≤ parts table
-  pub first : c .first ≡ before table (c .part)
+  pub first-is : c .first ≡ before table (c .part)
   pub count : c .count ≡ countAt table (c .part)
   pub address : c .address ≡ addressAt table (c .part)
 

@@ -7,7 +7,7 @@ use lib.ListN.{length, take, drop}
 use Rattle.fields.specs.Bytes.{leAt}
 use Rattle.resource.specs.Section.{good, resolved}
 use Rattle.strip.specs.Outcome.{Paper, values, refusal}
-use Rattle.fields.specs.Sizes.{LIST-SIZE}
+use Rattle.fields.specs.Sizes.{LIST-PART-SIZE, LIST-SIZE}
 
 -- item i of a list of bytes, size bytes to an item
 unfoldable pub item : ℕ → List ℕ → ℕ → List ℕ
@@ -15,14 +15,14 @@ item size bytes i = take size (drop (size * i) bytes)
 
 -- entry k of a part table, 16 bytes: its address, and its item count at 8
 unfoldable pub addressAt : List ℕ → ℕ → ℕ
-addressAt table k = leAt 8 table (16 * k)
+addressAt table k = leAt 8 table (LIST-PART-SIZE * k)
 
 unfoldable pub countAt : List ℕ → ℕ → ℕ
-countAt table k = leAt 4 table (16 * k + 8)
+countAt table k = leAt 4 table (LIST-PART-SIZE * k + 8)
 
 -- the parts that a table has
 abbrev pub parts : List ℕ → ℕ
-parts table = length table / 16
+parts table = length table / LIST-PART-SIZE
 
 -- how many items stand before part k
 unfoldable pub before : List ℕ → ℕ → ℕ
@@ -43,7 +43,7 @@ module _ (system graphics : List ℕ) where
   header va = resolved system graphics va LIST-SIZE
 
   unfoldable pub tableOf : ℕ → List ℕ
-  tableOf va = resolved system graphics (leAt 8 (header va) 0x10) (16 * leAt 4 (header va) 0x20)
+  tableOf va = resolved system graphics (leAt 8 (header va) 0x10) (LIST-PART-SIZE * leAt 4 (header va) 0x20)
 
 module _ (system graphics : List ℕ) (size : ℕ) where
   unfoldable pub partBytes : List ℕ → ℕ → List ℕ
@@ -74,7 +74,7 @@ module _ (system graphics : List ℕ) (size : ℕ) where
   listed va place =
       cond (eqb va 0) (values 0)
       (cond (readableAt system graphics va LIST-SIZE)
-      (cond (readableAt system graphics (leAt 8 (header system graphics va) 0x10) (16 * leAt 4 (header system graphics va) 0x20))
+      (cond (readableAt system graphics (leAt 8 (header system graphics va) 0x10) (LIST-PART-SIZE * leAt 4 (header system graphics va) 0x20))
       (cond (allGood (tableOf system graphics va))
       (cond (eqb (total (tableOf system graphics va)) (leAt 4 (header system graphics va) 8))
       (values (leAt 4 (header system graphics va) 8))

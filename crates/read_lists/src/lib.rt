@@ -39,7 +39,9 @@ pub fn list_table<'a>(system: &'a [u8], graphics: &'a [u8], va: u64) -> &'a [u8]
 // The cursor at part k.
 fn cursor_at(table: &[u8], k: usize, first: usize) -> Cursor
     requires { ⌜ (k ≤ parts (now table)) × (first ≡ before (now table) k) ⌝ }
-    ensures { λ r. ⌜ AtPart (now (table .entry)) r × (r .part ≡ k) × (r .first ≡ first) ⌝ }
+    ensures cursor { λ r. ⌜ AtPart (now (table .entry)) r ⌝ }
+    ensures part { λ r. ⌜ r .part ≡ k ⌝ }
+    ensures first { λ r. ⌜ r .first ≡ first ⌝ }
 {
     Cursor {
         part: k,
@@ -51,7 +53,9 @@ fn cursor_at(table: &[u8], k: usize, first: usize) -> Cursor
 
 // The cursor at the head of a list.
 pub fn list_start(table: &[u8]) -> Cursor
-    ensures { λ r. ⌜ AtPart (now (table .entry)) r × (r .part ≡ 0) × (r .first ≡ 0) ⌝ }
+    ensures cursor { λ r. ⌜ AtPart (now (table .entry)) r ⌝ }
+    ensures part { λ r. ⌜ r .part ≡ 0 ⌝ }
+    ensures first { λ r. ⌜ r .first ≡ 0 ⌝ }
 {
     cursor_at(table, 0, 0)
 }
@@ -59,7 +63,8 @@ pub fn list_start(table: &[u8]) -> Cursor
 // The cursor moved back, part by part, until item i stands at its part or behind it.
 fn back_to(table: &[u8], from: Cursor, i: usize) -> Cursor
     requires { ⌜ AtPart (now table) from ⌝ }
-    ensures { λ r. ⌜ AtPart (now (table .entry)) r × (r .first ≤ i) ⌝ }
+    ensures cursor { λ r. ⌜ AtPart (now (table .entry)) r ⌝ }
+    ensures bound { λ r. ⌜ r .first ≤ i ⌝ }
 {
     let mut c = from;
     while i < c.first {

@@ -59,11 +59,11 @@ module _ (system graphics : List ℕ) where
   -- the first i subs of an accepted walk: the last of them, and the others
   pub record Split (left i va l : ℕ) (s : List ℕ) (ps : List (List ℕ)) : Type 0 where
     pub between : ℕ
-    pub first : List (List ℕ)
+    pub of-tree : List (List ℕ)
     pub rest : List (List ℕ)
-    pub tree : walk system graphics left (va ∷ []) ≡ done between first
+    pub tree : walk system graphics left (va ∷ []) ≡ done between of-tree
     pub subs : walk system graphics between (subsTo s (i - 1)) ≡ done l rest
-    pub is : ps ≡ first ++ rest
+    pub is : ps ≡ of-tree ++ rest
     pub spent : between ≤ left
 
   done-onward : (w : Walked) (t : List ℕ) {l : ℕ} {ps : List (List ℕ)} → onward system graphics w t ≡ done l ps
@@ -77,7 +77,7 @@ module _ (system graphics : List ℕ) where
       let h = rw (subs-at s i some ev there, walk-append system graphics left (va ∷ []) (subsTo s (i - 1))) at e in
       let (k, qs, rs, a, b, c) = done-onward (walk system graphics left (va ∷ [])) (subsTo s (i - 1)) h in
       let (n, t, f) = walk-sound system graphics left (va ∷ []) k qs a in
-      record { between = k; first = qs; rest = rs; tree = a; subs = b; is = c; spent = omega arith }
+      record { between = k; of-tree = qs; rest = rs; tree = a; subs = b; is = c; spent = omega arith }
 
   module _ (left va : ℕ) {s : List ℕ} (es : s ≡ resolved system graphics va 96) where
     pub visits-left : {at n : ℕ} → HasRoom (walk system graphics left (va ∷ [])) at n → 0 < left
@@ -122,24 +122,24 @@ module _ (system graphics : List ℕ) where
         pub tree-fits : {at n : ℕ} → HasRoom (walk system graphics left (subsTo s i)) at n → HasRoom (walk system graphics left (va ∷ [])) at n
         tree-fits {at} {n} f =
             let p = split left i some ev there (f .is) in
-            let h : at + 4 * (length (p .first) + length (p .rest)) ≤ n = rw (p .is, length-append) at (f .room) in
-            record { left = p .between; points = p .first; is = p .tree; room = omega arith }
+            let h : at + 4 * (length (p .of-tree) + length (p .rest)) ≤ n = rw (p .is, length-append) at (f .room) in
+            record { left = p .between; points = p .of-tree; is = p .tree; room = omega arith }
 
         pub rest-fits : {at m n : ℕ} {old mid : List ℕ} {r : TreeCursor} → HasRoom (walk system graphics left (subsTo s i)) at n
             → Written (walk system graphics left (va ∷ [])) at old r mid → m ≡ n
             → (r .left ≤ left) × HasRoom (walk system graphics (r .left) (subsTo s (i - 1))) (r .at) m
         rest-fits {at} {n = n} {r = r} f w k =
             let p = split left i some ev there (f .is) in
-            let t = w (p .between) (p .first) (p .tree) in
-            let h : at + 4 * (length (p .first) + length (p .rest)) ≤ n = rw (p .is, length-append) at (f .room) in
+            let t = w (p .between) (p .of-tree) (p .tree) in
+            let h : at + 4 * (length (p .of-tree) + length (p .rest)) ≤ n = rw (p .is, length-append) at (f .room) in
             (rw (t .left) (p .spent), record { left = f .left; points = p .rest; is = rw (t .left) (p .subs); room = rw (t .at, k) (omega arith) })
 
         pub subs-written : {at : ℕ} {old mid new : List ℕ} {q r : TreeCursor} → Written (walk system graphics left (va ∷ [])) at old q mid
             → Written (walk system graphics (q .left) (subsTo s (i - 1))) (q .at) mid r new → Written (walk system graphics left (subsTo s i)) at old r new
         subs-written v w l ps e =
             let p = split left i some ev there e in
-            let t = v (p .between) (p .first) (p .tree) in
-            stands-both (p .first) (p .is) (t .at) (t .strip) (w l (p .rest) (rw (t .left) (p .subs)))
+            let t = v (p .between) (p .of-tree) (p .tree) in
+            stands-both (p .of-tree) (p .is) (t .at) (t .strip) (w l (p .rest) (rw (t .left) (p .subs)))
 
   -- what holds at the head of the loop over the subs: i of them are left, and whatever writes their points from here on writes the whole
   pub record Rest (s : List ℕ) (left at : ℕ) (old : List ℕ) (l e : ℕ) (out : List ℕ) (i : ℕ) : Type 0 where

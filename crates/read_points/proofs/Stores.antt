@@ -1,7 +1,6 @@
 -- The words of points, and stores of them.
 use Prim.Native.Nat.{ℕ, _+_, _*_, _<_}
 use native.Mathlib.Nat.{add-zero}
-use native.Mathlib.Numerals.{towards-suc}
 use native.Mathlib.Omega.{arith}
 use mathlib.Core.Path.{_≡_, refl, sym, ap, _∙_}
 use mathlib.Core.List.{List, [], _∷_, _++_, map, append-assoc}
@@ -9,15 +8,11 @@ use lib.ListN.{length, length-map, set}
 use Rattle.fields.specs.Bytes.{leAt}
 use Rattle.fields.specs.Put.{put}
 use Rattle.fields.specs.Rows.{pack}
-use Rattle.fields.proofs.Puts.{put-nil, put-cons, put-next}
+use Rattle.fields.proofs.Puts.{put-nil, put-four, put-next}
 use Rattle.strip.specs.Cell.{Vec3, vecWords, each, pointWords}
 use Rattle.strip.proofs.Plain.{length-each, point-length}
 use Rattle.read_grammar.specs.Derives.{pointOf}
 use Rattle.read_points.specs.Write.{asShorts, pointsWords}
-
--- the words of a point, stored one after the other
-pub four-put : (at a b c d : ℕ) (s : List ℕ) → set (set (set (set s at a) (at + 1) b) (at + 2) c) (at + 3) d ≡ put at (a ∷ b ∷ c ∷ d ∷ []) s
-four-put at a b c d s = simp (put-cons, put-nil, towards-suc)
 
 -- a point's first word
 first-word : (a k : ℕ) → a < 256 → k < 256 → 0x4000_0000 + a + 0x100 * k ≡ pack ((8, a) ∷ (8, k) ∷ (12, 0) ∷ (4, 4) ∷ [])
@@ -28,7 +23,7 @@ first-word a k h l = omega arith
 pub point-put : (at : ℕ) (b s : List ℕ) {w a k x y z : ℕ} → w ≡ 0x4000_0000 + a + 0x100 * k → a ≡ leAt 1 b 6 → k ≡ leAt 1 b 7 → x ≡ leAt 2 b 0 → y ≡ leAt 2 b 2 → z ≡ leAt 2 b 4 → a < 256 → k < 256
     → set (set (set (set s at w) (at + 1) x) (at + 2) y) (at + 3) z ≡ put at (pointWords (pointOf asShorts b)) s
 unfolding pointWords pointOf vecWords asShorts
-point-put at b s {a = a} {k = k} ew ea ek ex ey ez h l = four-put at _ _ _ _ s ∙ rw (ew, ← ea, ← ek, ← ex, ← ey, ← ez, first-word a k h l)
+point-put at b s {a = a} {k = k} ew ea ek ex ey ez h l = put-four at _ _ _ _ s ∙ rw (ew, ← ea, ← ek, ← ex, ← ey, ← ez, first-word a k h l)
 
 module _ (back : ℕ → ℕ → ℕ → Vec3) where
   -- one point, and those after it

@@ -7,6 +7,7 @@ ghost use Prim.Native.Nat.{_+_, _*_, _≤_};
 ghost use lib.ListN.{length};
 ghost use Rattle.fields.specs.Bytes.{cut};
 ghost use Rattle.fields.specs.Put.{put};
+ghost use Rattle.fields.specs.Sizes.{POINT-SIZE};
 ghost use Rattle.strip.specs.Cell.{pointWords};
 ghost use Rattle.read_grammar.specs.Trees.{subsTo};
 ghost use Rattle.read_grammar.specs.Derives.{pointOf};
@@ -40,13 +41,13 @@ fn put_point(b: &[u8], strip: &mut [u32], at: usize)
 
 // The first n points of a part.
 fn put_points(points: &[u8], n: usize, strip: &mut [u32], at: usize)
-    requires { ⌜ (8 * n ≤ length (now points)) × (at + 4 * n ≤ length (now strip)) ⌝ }
-    ensures { λ _. ⌜ now (strip .exit) ≡ put at (pointsWords asShorts (cut 8 n (now (points .entry)))) (now (strip .entry)) ⌝ }
+    requires { ⌜ (POINT-SIZE * n ≤ length (now points)) × (at + 4 * n ≤ length (now strip)) ⌝ }
+    ensures { λ _. ⌜ now (strip .exit) ≡ put at (pointsWords asShorts (cut POINT-SIZE n (now (points .entry)))) (now (strip .entry)) ⌝ }
 {
     let mut i = 0;
     while i < n {
-        let from = 8 * i;
-        let to = from + 8;
+        let from = POINT_SIZE * i;
+        let to = from + POINT_SIZE;
         put_point(&points[from..to], strip, at + 4 * i);
         i += 1;
     }

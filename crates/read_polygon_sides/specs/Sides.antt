@@ -6,6 +6,7 @@ use mathlib.Core.List.{List, [], _++_, map}
 use lib.ListN.{length, take, drop, getD}
 use Rattle.fields.specs.Bytes.{cut}
 use Rattle.fields.specs.Put.{put}
+use Rattle.fields.specs.Sizes.{EDGE-SIZE, INDEX-SIZE, VERTEX-SIZE}
 use Rattle.strip.specs.Cell.{Vec3 as Position, vecWords, edgeWords, each}
 use Rattle.read_grammar.specs.Polygons.{edgeOf}
 use Rattle.read_lists.specs.Lists.{item, total}
@@ -23,9 +24,9 @@ sides area back vertices indices edges start n =
 
 -- the three lists were read, and a cursor stands in each
 pub record ListsOpen (system graphics vertices indices edges : List ℕ) (c : Cursors) : Type 0 where
-  pub vertex-list : Readable system graphics 6 vertices
-  pub index-list : Readable system graphics 2 indices
-  pub edge-list : Readable system graphics 8 edges
+  pub vertex-list : Readable system graphics VERTEX-SIZE vertices
+  pub index-list : Readable system graphics INDEX-SIZE indices
+  pub edge-list : Readable system graphics EDGE-SIZE edges
   pub in-vertices : AtPart vertices (c .vertices)
   pub in-indices : AtPart indices (c .indices)
   pub in-edges : AtPart edges (c .edges)
@@ -34,7 +35,7 @@ pub record ListsOpen (system graphics vertices indices edges : List ℕ) (c : Cu
 pub record Inside (system graphics vertices indices edges : List ℕ) (start n : ℕ) : Type 0 where
   pub in-indices : start + n ≤ total indices
   pub in-edges : start + n ≤ total edges
-  pub below : allBelow (total vertices) (take n (drop start (itemsIn system graphics 2 indices))) ≡ true
+  pub below : allBelow (total vertices) (take n (drop start (itemsIn system graphics INDEX-SIZE indices))) ≡ true
 
 -- bytes that hold `count` items of w bytes, of which the first has number `first`
 pub record Held (w : ℕ) (items : List (List ℕ)) (first count : ℕ) (bytes : List ℕ) : Type 0 where
@@ -45,6 +46,6 @@ pub record Near (back : ℕ → ℕ → ℕ → Position) (part : List ℕ) (fir
   pub low : from ≤ r
   pub most : r ≤ n
   pub same-length : length new ≡ length old
-  pub strip : (items : List (List ℕ)) → Held 6 items first count part
-      → put (at + 3 * r) (each vecWords (map (corner back items) (cut 2 (n - r) (drop (2 * r) run)))) new
-      ≡ put (at + 3 * from) (each vecWords (map (corner back items) (cut 2 (n - from) (drop (2 * from) run)))) old
+  pub strip : (items : List (List ℕ)) → Held VERTEX-SIZE items first count part
+      → put (at + 3 * r) (each vecWords (map (corner back items) (cut INDEX-SIZE (n - r) (drop (INDEX-SIZE * r) run)))) new
+      ≡ put (at + 3 * from) (each vecWords (map (corner back items) (cut INDEX-SIZE (n - from) (drop (INDEX-SIZE * from) run)))) old

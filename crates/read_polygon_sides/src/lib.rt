@@ -6,6 +6,7 @@ ghost use Prim.Native.Nat.{_+_, _*_, _≤_, _<_};
 ghost use lib.ListN.{length, take, drop};
 ghost use Rattle.fields.specs.Bytes.{cut, leAt};
 ghost use Rattle.fields.specs.Put.{put};
+ghost use Rattle.fields.specs.Sizes.{EDGE-SIZE, INDEX-SIZE, VERTEX-SIZE};
 ghost use Rattle.strip.specs.Cell.{vecWords, edgeWords, each};
 ghost use Rattle.read_grammar.specs.Polygons.{edgeOf};
 ghost use Rattle.read_grammar.specs.Derives.{areaOf};
@@ -18,6 +19,9 @@ ghost use Rattle.read_list_set.specs.Items.{itemsIn};
 ghost use Rattle.read_polygon_sides.specs.Sides.{sides, ListsOpen, Inside, Near};
 ghost use Rattle.read_polygon_sides.specs.Corner.{corner};
 use fields::least;
+use fields::sizes::EDGE_SIZE;
+use fields::sizes::INDEX_SIZE;
+use fields::sizes::VERTEX_SIZE;
 use math::vec3::Vec3;
 use read_edge_words::put_edge_run;
 use read_lists::Cursor;
@@ -51,15 +55,16 @@ fn put_edges<'a>(
     out: &mut [u32],
     at: usize,
 ) -> Cursor
-    requires { ⌜ Readable (now system) (now graphics) 8 (now table) × AtPart (now table) from × (start + count ≤ total (now table)) × (at + 6 * count ≤ length (now out)) ⌝ }
-    ensures { λ r. ⌜ AtPart (now (table .entry)) r × (now (out .exit) ≡ put at (each edgeWords (map (edgeOf (areaOf (now (header .entry)))) (take count (drop start (itemsIn (now (system .entry)) (now (graphics .entry)) 8 (now (table .entry))))))) (now (out .entry))) ⌝ }
+    requires { ⌜ Readable (now system) (now graphics) EDGE-SIZE (now table) × AtPart (now table) from × (start + count ≤ total (now table)) × (at + 6 * count ≤ length (now out)) ⌝ }
+    ensures cursor { λ r. ⌜ AtPart (now (table .entry)) r ⌝ }
+    ensures content { λ _. ⌜ now (out .exit) ≡ put at (each edgeWords (map (edgeOf (areaOf (now (header .entry)))) (take count (drop start (itemsIn (now (system .entry)) (now (graphics .entry)) EDGE-SIZE (now (table .entry))))))) (now (out .entry)) ⌝ }
 {
     let mut c = from;
     let mut k = 0;
     while k < count {
         c = seek(table, c, start + k);
-        let run = list_run(system, graphics, table, 8, c, start + k);
-        let n = least(run.len() / 8, count - k);
+        let run = list_run(system, graphics, table, EDGE_SIZE, c, start + k);
+        let n = least(run.len() / EDGE_SIZE, count - k);
         put_edge_run(header, run, n, out, at + 6 * k);
         k += n;
     }
@@ -79,8 +84,9 @@ fn put_near<'a>(
     out: &mut [u32],
     at: usize,
 ) -> usize
-    requires { ⌜ (6 * count ≤ length (now part)) × (2 * n ≤ length (now run)) × (at + 3 * n ≤ length (now out)) × (from < n) × (first ≤ leAt 2 (now run) (2 * from)) × (leAt 2 (now run) (2 * from) < first + count) ⌝ }
-    ensures { λ r. ⌜ (from < r) × Near (backBy «bb_min» «bb_size») (now (part .entry)) first count (now (run .entry)) from n at (now (out .entry)) r (now (out .exit)) ⌝ }
+    requires { ⌜ (VERTEX-SIZE * count ≤ length (now part)) × (INDEX-SIZE * n ≤ length (now run)) × (at + 3 * n ≤ length (now out)) × (from < n) × (first ≤ leAt 2 (now run) (INDEX-SIZE * from)) × (leAt 2 (now run) (INDEX-SIZE * from) < first + count) ⌝ }
+    ensures progress { λ r. ⌜ from < r ⌝ }
+    ensures content { λ r. ⌜ Near (backBy «bb_min» «bb_size») (now (part .entry)) first count (now (run .entry)) from n at (now (out .entry)) r (now (out .exit)) ⌝ }
 {
     let mut k = from;
     while k < n {
@@ -91,8 +97,8 @@ fn put_near<'a>(
         if count <= j - first {
             return k;
         }
-        let low = 6 * (j - first);
-        let high = low + 6;
+        let low = VERTEX_SIZE * (j - first);
+        let high = low + VERTEX_SIZE;
         put_vertex(&part[low..high], bb_min, bb_size, out, at + 3 * k);
         k += 1;
     }
@@ -112,9 +118,10 @@ fn put_vertex_run<'a>(
     out: &mut [u32],
     at: usize,
 ) -> Cursor
-    requires { ⌜ Readable (now system) (now graphics) 6 (now vertices) × AtPart (now vertices) from × (2 * n ≤ length (now run)) × (at + 3 * n ≤ length (now out)) ⌝ }
-    requires { ⌜ allBelow (total (now vertices)) (cut 2 n (now run)) ≡ true ⌝ }
-    ensures { λ r. ⌜ AtPart (now (vertices .entry)) r × (now (out .exit) ≡ put at (each vecWords (map (corner (backBy «bb_min» «bb_size») (itemsIn (now (system .entry)) (now (graphics .entry)) 6 (now (vertices .entry)))) (cut 2 n (now (run .entry))))) (now (out .entry))) ⌝ }
+    requires { ⌜ Readable (now system) (now graphics) VERTEX-SIZE (now vertices) × AtPart (now vertices) from × (INDEX-SIZE * n ≤ length (now run)) × (at + 3 * n ≤ length (now out)) ⌝ }
+    requires { ⌜ allBelow (total (now vertices)) (cut INDEX-SIZE n (now run)) ≡ true ⌝ }
+    ensures cursor { λ r. ⌜ AtPart (now (vertices .entry)) r ⌝ }
+    ensures content { λ _. ⌜ now (out .exit) ≡ put at (each vecWords (map (corner (backBy «bb_min» «bb_size») (itemsIn (now (system .entry)) (now (graphics .entry)) VERTEX-SIZE (now (vertices .entry)))) (cut INDEX-SIZE n (now (run .entry))))) (now (out .entry)) ⌝ }
 {
     let mut d = from;
     let mut k = 0;
@@ -122,7 +129,7 @@ fn put_vertex_run<'a>(
         d = seek(vertices, d, index_at(run, k));
         let first = d.first;
         let count = d.count;
-        let part = list_run(system, graphics, vertices, 6, d, first);
+        let part = list_run(system, graphics, vertices, VERTEX_SIZE, d, first);
         k = put_near(part, first, count, bb_min, bb_size, run, k, n, out, at);
     }
     d
@@ -142,18 +149,19 @@ fn put_vertices<'a>(
     out: &mut [u32],
     at: usize,
 ) -> Corners
-    requires { ⌜ Readable (now system) (now graphics) 6 (now vertices) × Readable (now system) (now graphics) 2 (now indices) × AtPart (now vertices) (from .vertices) × AtPart (now indices) (from .indices) ⌝ }
-    requires { ⌜ (start + count ≤ total (now indices)) × (at + 3 * count ≤ length (now out)) × (allBelow (total (now vertices)) (take count (drop start (itemsIn (now system) (now graphics) 2 (now indices)))) ≡ true) ⌝ }
-    ensures { λ r. ⌜ AtPart (now (vertices .entry)) (r .vertices) × AtPart (now (indices .entry)) (r .indices)
-        × (now (out .exit) ≡ put at (each vecWords (map (corner (backBy «bb_min» «bb_size») (itemsIn (now (system .entry)) (now (graphics .entry)) 6 (now (vertices .entry)))) (take count (drop start (itemsIn (now (system .entry)) (now (graphics .entry)) 2 (now (indices .entry))))))) (now (out .entry))) ⌝ }
+    requires { ⌜ Readable (now system) (now graphics) VERTEX-SIZE (now vertices) × Readable (now system) (now graphics) INDEX-SIZE (now indices) × AtPart (now vertices) (from .vertices) × AtPart (now indices) (from .indices) ⌝ }
+    requires { ⌜ (start + count ≤ total (now indices)) × (at + 3 * count ≤ length (now out)) × (allBelow (total (now vertices)) (take count (drop start (itemsIn (now system) (now graphics) INDEX-SIZE (now indices)))) ≡ true) ⌝ }
+    ensures vertices { λ r. ⌜ AtPart (now (vertices .entry)) (r .vertices) ⌝ }
+    ensures indices { λ r. ⌜ AtPart (now (indices .entry)) (r .indices) ⌝ }
+    ensures content { λ _. ⌜ now (out .exit) ≡ put at (each vecWords (map (corner (backBy «bb_min» «bb_size») (itemsIn (now (system .entry)) (now (graphics .entry)) VERTEX-SIZE (now (vertices .entry)))) (take count (drop start (itemsIn (now (system .entry)) (now (graphics .entry)) INDEX-SIZE (now (indices .entry))))))) (now (out .entry)) ⌝ }
 {
     let mut c = from.indices;
     let mut d = from.vertices;
     let mut k = 0;
     while k < count {
         c = seek(indices, c, start + k);
-        let run = list_run(system, graphics, indices, 2, c, start + k);
-        let n = least(run.len() / 2, count - k);
+        let run = list_run(system, graphics, indices, INDEX_SIZE, c, start + k);
+        let n = least(run.len() / INDEX_SIZE, count - k);
         d = put_vertex_run(
             system,
             graphics,
@@ -192,8 +200,8 @@ pub fn put_sides<'a>(
 ) -> Cursors
     requires { ⌜ ListsOpen (now system) (now graphics) (now vertices) (now indices) (now edges) from × (at + 9 * count ≤ length (now out)) ⌝ }
     requires { ⌜ Inside (now system) (now graphics) (now vertices) (now indices) (now edges) start count ⌝ }
-    ensures { λ r. ⌜ ListsOpen (now (system .entry)) (now (graphics .entry)) (now (vertices .entry)) (now (indices .entry)) (now (edges .entry)) r
-        × (now (out .exit) ≡ put at (sides (areaOf (now (header .entry))) (backBy «bb_min» «bb_size») (itemsIn (now (system .entry)) (now (graphics .entry)) 6 (now (vertices .entry))) (itemsIn (now (system .entry)) (now (graphics .entry)) 2 (now (indices .entry))) (itemsIn (now (system .entry)) (now (graphics .entry)) 8 (now (edges .entry))) start count) (now (out .entry))) ⌝ }
+    ensures cursors { λ r. ⌜ ListsOpen (now (system .entry)) (now (graphics .entry)) (now (vertices .entry)) (now (indices .entry)) (now (edges .entry)) r ⌝ }
+    ensures content { λ _. ⌜ now (out .exit) ≡ put at (sides (areaOf (now (header .entry))) (backBy «bb_min» «bb_size») (itemsIn (now (system .entry)) (now (graphics .entry)) VERTEX-SIZE (now (vertices .entry))) (itemsIn (now (system .entry)) (now (graphics .entry)) INDEX-SIZE (now (indices .entry))) (itemsIn (now (system .entry)) (now (graphics .entry)) EDGE-SIZE (now (edges .entry))) start count) (now (out .entry)) ⌝ }
 {
     let ci = from.indices;
     let cv = from.vertices;

@@ -12,6 +12,7 @@ use borrow.Author.Tests.{le-leb, lt-leb, leb-true}
 use Rattle.fields.specs.Bytes.{leAt, cut}
 use Rattle.strip.specs.declared.Refusal.{Refusal}
 use Rattle.strip.specs.Outcome.{Paper, values, refusal, refusalOf}
+use Rattle.strip.proofs.Papers.{no-values}
 use Rattle.read_grammar.specs.Polygons.{countOf, startOf, runOf}
 use Rattle.read_lists.specs.declared.Cursor.{Cursor}
 use Rattle.read_lists.specs.Cursors.{AtPart}
@@ -114,18 +115,15 @@ module _ (l : Limits) (indices : List (List ℕ)) where
 
 -- ---- what pass one accepted
 
-pub never : {number place w : ℕ} → refusal number place ≡ values w → ⊥
-never e = let z : _≡_ {A = ℕ} 0 1 = cc in omega arith
-
 pub then-words : (t u : Paper ℕ) {w : ℕ} → addWords t u ≡ values w → (a b : ℕ) × (t ≡ values a) × (u ≡ values b) × (w ≡ a + b)
-then-words (refusal number place) u e = absurd (never e)
-then-words (values a) (refusal number place) e = absurd (never e)
+then-words (refusal number place) u e = absurd (no-values e)
+then-words (values a) (refusal number place) e = absurd (no-values e)
 then-words (values a) (values b) e = (a, b, refl, refl, cc)
 
 picked : (x y z : Bool) (m p n q v w : ℕ) → cond (x && y) (cond z (values w) (refusal m p)) (refusal n q) ≡ values v → (x ≡ true) × (y ≡ true) × (z ≡ true) × (v ≡ w)
-picked false y z m p n q v w e = absurd (never e)
-picked true false z m p n q v w e = absurd (never e)
-picked true true false m p n q v w e = absurd (never e)
+picked false y z m p n q v w e = absurd (no-values e)
+picked true false z m p n q v w e = absurd (no-values e)
+picked true true false m p n q v w e = absurd (no-values e)
 picked true true true m p n q v w e = (refl, refl, refl, cc)
 
 module _ (l : Limits) (indices : List (List ℕ)) where
@@ -148,15 +146,15 @@ module _ (l : Limits) (indices : List (List ℕ)) where
           → ((r .number ≡ 37) ⊎ (r .number ≡ 38)) × (r .place ≡ p)
       by false y e = (inl (cc), cc)
       by true false e = (inr (cc), cc)
-      by true true e = absurd (never (sym e))
+      by true true e = absurd (no-values (sym e))
 
   pub tally-refused : (p : ℕ) (bs : List (List ℕ)) {r : Refusal} → tallyFrom l indices p bs ≡ refusalOf r → ((r .number ≡ 37) ⊎ (r .number ≡ 38)) × (p ≤ r .place) × (r .place < p + length bs)
   unfolding tallyFrom
-  tally-refused p [] e = absurd (never (sym e))
+  tally-refused p [] e = absurd (no-values (sym e))
   tally-refused p (b ∷ bs) {r} e = by (tallyOf l indices p b) (tallyFrom l indices (p + 1) bs) refl (λ h. tally-refused (p + 1) bs {r = r} h) e
     where
       by : (t u : Paper ℕ) → tallyOf l indices p b ≡ t → (u ≡ refusalOf r → ((r .number ≡ 37) ⊎ (r .number ≡ 38)) × (p + 1 ≤ r .place) × (r .place < p + 1 + length bs)) → addWords t u ≡ refusalOf r
           → ((r .number ≡ 37) ⊎ (r .number ≡ 38)) × (p ≤ r .place) × (r .place < p + length (b ∷ bs))
       by (refusal number place) u f g h = let (n, at) = one-refused p b {r = r} (f ∙ h) in (n, omega arith, omega arith)
       by (values a) (refusal number place) f g h = let (n, lo, hi) = g h in (n, omega arith, omega arith)
-      by (values a) (values c) f g h = absurd (never (sym h))
+      by (values a) (values c) f g h = absurd (no-values (sym h))

@@ -3,6 +3,7 @@ ghost use mathlib.Core.Path.{_≡_};
 ghost use Prim.Native.Nat.{_+_, _*_, _^_, _≤_, _<_};
 ghost use lib.ListN.{length, take, drop};
 ghost use Rattle.fields.specs.Bytes.{cut};
+ghost use Rattle.fields.specs.Sizes.{INDEX-SIZE, POLY-SIZE};
 ghost use Rattle.read_lists.specs.Lists.{total};
 ghost use Rattle.read_lists.specs.Listed.{Readable};
 ghost use Rattle.read_lists.specs.Cursors.{AtPart};
@@ -11,6 +12,7 @@ ghost use Rattle.read_list_set.specs.Items.{itemsIn};
 ghost use Rattle.read_polygon_tally.specs.Tally.{tallyOf, tallyFrom};
 ghost use Rattle.read_polygon_tally.specs.Steps.{paper, Stepped, Small};
 use fields::least;
+use fields::sizes::INDEX_SIZE;
 use fields::sizes::POLY_SIZE;
 use fields::u16_le;
 use read_list_set::Limits;
@@ -51,15 +53,16 @@ fn run_below<'a>(
     count: usize,
     limit: usize,
 ) -> Run
-    requires { ⌜ Readable (now system) (now graphics) 2 (now table) × AtPart (now table) from × (start + count ≤ total (now table)) ⌝ }
-    ensures { λ r. ⌜ (r .below ≡ allBelow limit (take count (drop start (itemsIn (now (system .entry)) (now (graphics .entry)) 2 (now (table .entry)))))) × AtPart (now (table .entry)) (r .cursor) ⌝ }
+    requires { ⌜ Readable (now system) (now graphics) INDEX-SIZE (now table) × AtPart (now table) from × (start + count ≤ total (now table)) ⌝ }
+    ensures below { λ r. ⌜ r .below ≡ allBelow limit (take count (drop start (itemsIn (now (system .entry)) (now (graphics .entry)) INDEX-SIZE (now (table .entry))))) ⌝ }
+    ensures cursor { λ r. ⌜ AtPart (now (table .entry)) (r .cursor) ⌝ }
 {
     let mut c = from;
     let mut k = 0;
     while k < count {
         c = seek(table, c, start + k);
-        let run = list_run(system, graphics, table, 2, c, start + k);
-        let n = least(run.len() / 2, count - k);
+        let run = list_run(system, graphics, table, INDEX_SIZE, c, start + k);
+        let n = least(run.len() / INDEX_SIZE, count - k);
         if !all_below(run, n, limit) {
             return Run {
                 below: false,
@@ -84,8 +87,8 @@ fn check_polygon<'a>(
     table: &'a [u8],
     from: Cursor,
 ) -> Step
-    requires { ⌜ Readable (now system) (now graphics) 2 (now table) × AtPart (now table) from × (limits .indices ≡ total (now table)) ⌝ }
-    ensures { λ r. ⌜ Stepped (now (table .entry)) 18434 (tallyOf limits (itemsIn (now (system .entry)) (now (graphics .entry)) 2 (now (table .entry))) p (now (rec .entry))) r ⌝ }
+    requires { ⌜ Readable (now system) (now graphics) INDEX-SIZE (now table) × AtPart (now table) from × (limits .indices ≡ total (now table)) ⌝ }
+    ensures { λ r. ⌜ Stepped (now (table .entry)) 18434 (tallyOf limits (itemsIn (now (system .entry)) (now (graphics .entry)) INDEX-SIZE (now (table .entry))) p (now (rec .entry))) r ⌝ }
 {
     let count = (u16_le(rec, 2) / 32 % 2048) as usize;
     let start = u16_le(rec, 4) as usize;
@@ -125,8 +128,8 @@ fn check_run<'a>(
     table: &'a [u8],
     from: Cursor,
 ) -> Step
-    requires { ⌜ Readable (now system) (now graphics) 2 (now table) × AtPart (now table) from × (limits .indices ≡ total (now table)) × (48 * m ≤ length (now run)) × (first + m < 2 ^ 32) ⌝ }
-    ensures { λ r. ⌜ Stepped (now (table .entry)) (18434 * m) (tallyFrom limits (itemsIn (now (system .entry)) (now (graphics .entry)) 2 (now (table .entry))) first (cut 48 m (now (run .entry)))) r ⌝ }
+    requires { ⌜ Readable (now system) (now graphics) INDEX-SIZE (now table) × AtPart (now table) from × (limits .indices ≡ total (now table)) × (POLY-SIZE * m ≤ length (now run)) × (first + m < 2 ^ 32) ⌝ }
+    ensures { λ r. ⌜ Stepped (now (table .entry)) (18434 * m) (tallyFrom limits (itemsIn (now (system .entry)) (now (graphics .entry)) INDEX-SIZE (now (table .entry))) first (cut POLY-SIZE m (now (run .entry)))) r ⌝ }
 {
     let mut words = 0;
     let mut c = from;
@@ -165,8 +168,9 @@ pub fn check_polygons<'a>(
     limits: Limits,
     table: &'a [u8],
 ) -> PolysAnswer
-    requires { ⌜ Readable (now system) (now graphics) 2 (now table) × Readable (now system) (now graphics) 48 (now polys) × (limits .indices ≡ total (now table)) × (n ≡ total (now polys)) ⌝ }
-    ensures { λ r. ⌜ (paper r ≡ tallyFrom limits (itemsIn (now (system .entry)) (now (graphics .entry)) 2 (now (table .entry))) 0 (itemsIn (now (system .entry)) (now (graphics .entry)) 48 (now (polys .entry)))) × Small (18434 * n) r ⌝ }
+    requires { ⌜ Readable (now system) (now graphics) INDEX-SIZE (now table) × Readable (now system) (now graphics) POLY-SIZE (now polys) × (limits .indices ≡ total (now table)) × (n ≡ total (now polys)) ⌝ }
+    ensures answer { λ r. ⌜ paper r ≡ tallyFrom limits (itemsIn (now (system .entry)) (now (graphics .entry)) INDEX-SIZE (now (table .entry))) 0 (itemsIn (now (system .entry)) (now (graphics .entry)) POLY-SIZE (now (polys .entry))) ⌝ }
+    ensures bound { λ r. ⌜ Small (18434 * n) r ⌝ }
 {
     let mut words = 0;
     let mut p = list_start(polys);

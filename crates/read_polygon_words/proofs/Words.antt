@@ -38,8 +38,8 @@ vec-three v = refl
 
 -- ---- words stored
 
-pub put-four : (at a b c d : ℕ) (xs : List ℕ) → set (put at (a ∷ b ∷ c ∷ []) xs) (at + 3) d ≡ put at (a ∷ b ∷ c ∷ d ∷ []) xs
-put-four at a b c d xs = sym (put-one (at + 3) d (put at (a ∷ b ∷ c ∷ []) xs)) ∙ put-append (a ∷ b ∷ c ∷ []) (d ∷ []) at xs
+pub fourth-behind : (at a b c d : ℕ) (xs : List ℕ) → set (put at (a ∷ b ∷ c ∷ []) xs) (at + 3) d ≡ put at (a ∷ b ∷ c ∷ d ∷ []) xs
+fourth-behind at a b c d xs = sym (put-one (at + 3) d (put at (a ∷ b ∷ c ∷ []) xs)) ∙ put-append (a ∷ b ∷ c ∷ []) (d ∷ []) at xs
 
 -- ---- indices
 
@@ -55,18 +55,18 @@ module _ (run : List ℕ) (n limit : ℕ) where
   below-begin = rw (sub-zero n)
 
   module _ (k : ℕ) (l : k < n) {x : ℕ} (ex : x ≡ leAt 2 run (2 * k)) where
-    first : leAt 2 (take 2 (drop (2 * k) run)) 0 ≡ x
+    index-read : leAt 2 (take 2 (drop (2 * k) run)) 0 ≡ x
     unfolding item
-    first = item-field 2 run k 2 0 (omega arith) ∙ rw (add-zero (2 * k), ex)
+    index-read = item-field 2 run k 2 0 (omega arith) ∙ rw (add-zero (2 * k), ex)
 
     pub below-more : x < limit → allBelow limit (cut 2 (n - (k + 1)) (drop (2 * (k + 1)) run)) ≡ allBelow limit (cut 2 (n - k) (drop (2 * k) run))
     unfolding allBelow
-    below-more h = rw (cut-left 2 n run k l, first, lt-ltb x limit h)
+    below-more h = rw (cut-left 2 n run k l, index-read, lt-ltb x limit h)
 
     -- an index of a run that passed is below the limit
     pub below-first : allBelow limit (cut 2 (n - k) (drop (2 * k) run)) ≡ true → (x < limit) × (allBelow limit (cut 2 (n - (k + 1)) (drop (2 * (k + 1)) run)) ≡ true)
     unfolding allBelow
-    below-first h = by (ltb x limit) refl (rw (cut-left 2 n run k l, first) at h)
+    below-first h = by (ltb x limit) refl (rw (cut-left 2 n run k l, index-read) at h)
       where
         by : (t : Bool) → ltb x limit ≡ t → (t && allBelow limit (cut 2 (n - (k + 1)) (drop (2 * (k + 1)) run))) ≡ true
             → (x < limit) × (allBelow limit (cut 2 (n - (k + 1)) (drop (2 * (k + 1)) run)) ≡ true)
@@ -75,7 +75,7 @@ module _ (run : List ℕ) (n limit : ℕ) where
 
     pub below-not : limit ≤ x → false ≡ allBelow limit (cut 2 (n - k) (drop (2 * k) run))
     unfolding allBelow
-    below-not h = rw (cut-left 2 n run k l, first, le-ltb x limit h)
+    below-not h = rw (cut-left 2 n run k l, index-read, le-ltb x limit h)
 
   pub below-end : (k : ℕ) → n ≤ k → true ≡ allBelow limit (cut 2 (n - k) (drop (2 * k) run))
   unfolding allBelow cut

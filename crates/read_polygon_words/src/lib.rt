@@ -5,11 +5,13 @@ ghost use Prim.Native.Nat.{_+_, _*_, _≤_};
 ghost use lib.ListN.{length};
 ghost use Rattle.fields.specs.Bytes.{cut, leAt};
 ghost use Rattle.fields.specs.Put.{put};
+ghost use Rattle.fields.specs.Sizes.{INDEX-SIZE};
 ghost use Rattle.strip.specs.Cell.{vecWords};
 ghost use Rattle.read_grammar.specs.Polygons.{vertexOf, linkRun, countOf};
 ghost use Rattle.read_records.specs.Back.{backBy};
 ghost use Rattle.read_polygon_words.specs.Words.{linkStart, linksNamed, linkCount, allBelow};
 ghost use Rattle.read_polygon_words.specs.Front.{linksOf, frontOf};
+use fields::sizes::INDEX_SIZE;
 use fields::u16_le;
 use fields::u32_le;
 use math::vec3::Vec3;
@@ -35,18 +37,18 @@ pub fn put_vertex(v: &[u8], bb_min: Vec3, bb_size: Vec3, out: &mut [u32], at: us
 
 // Index k of `run`. Two bytes are lent to the reader of numbers, which then needs no look at the end.
 pub fn index_at(run: &[u8], k: usize) -> usize
-    requires { ⌜ 2 * k + 2 ≤ length (now run) ⌝ }
-    ensures { λ r. ⌜ r ≡ leAt 2 (now (run .entry)) (2 * k) ⌝ }
+    requires { ⌜ INDEX-SIZE * k + INDEX-SIZE ≤ length (now run) ⌝ }
+    ensures { λ r. ⌜ r ≡ leAt 2 (now (run .entry)) (INDEX-SIZE * k) ⌝ }
 {
-    let from = 2 * k;
-    let to = from + 2;
+    let from = INDEX_SIZE * k;
+    let to = from + INDEX_SIZE;
     u16_le(&run[from..to], 0) as usize
 }
 
 // Whether the first n indices of `run` are below a limit.
 pub fn all_below(run: &[u8], n: usize, limit: usize) -> bool
-    requires { ⌜ 2 * n ≤ length (now run) ⌝ }
-    ensures { λ r. ⌜ r ≡ allBelow limit (cut 2 n (now (run .entry))) ⌝ }
+    requires { ⌜ INDEX-SIZE * n ≤ length (now run) ⌝ }
+    ensures { λ r. ⌜ r ≡ allBelow limit (cut INDEX-SIZE n (now (run .entry))) ⌝ }
 {
     let mut k = 0;
     while k < n {
@@ -60,7 +62,8 @@ pub fn all_below(run: &[u8], n: usize, limit: usize) -> bool
 
 // How many links a polygon has by a table of n: none where their run is not inside it.
 pub fn link_count(rec: &[u8], n: usize) -> usize
-    ensures { λ r. ⌜ (r ≡ linkCount n (now (rec .entry))) × (r ≤ 7) ⌝ }
+    ensures count { λ r. ⌜ r ≡ linkCount n (now (rec .entry)) ⌝ }
+    ensures bound { λ r. ⌜ r ≤ 7 ⌝ }
 {
     let w = u32_le(rec, 0x2C);
     let start = (w / 32768 % 131072) as usize;

@@ -13,10 +13,11 @@ use Rattle.strip.specs.declared.Refusal.{Refusal}
 use Rattle.read_grammar.specs.Polygons.{countOf, startOf, runOf, Each, none, more}
 use Rattle.read_polygon_words.specs.Words.{allBelow}
 use Rattle.strip.specs.Outcome.{values, refusalOf}
+use Rattle.strip.proofs.Papers.{no-values}
 use Rattle.read_polygons.specs.Polygons.{Source, Makes, limitsOf, polygonMade}
 use Rattle.read_polygon_tally.specs.Tally.{tallyOf, tallyFrom}
 use Rattle.read_polygon_words.proofs.Below.{and-true}
-use Rattle.read_polygon_tally.proofs.Tallies.{never, then-words, accepted}
+use Rattle.read_polygon_tally.proofs.Tallies.{then-words, accepted}
 use Rattle.read_polygons.proofs.Writes.{polygon-size}
 
 -- ---- indices
@@ -94,4 +95,4 @@ module _ (s : Source) where
 
   -- polygons that pass one refuses are made by nobody
   pub refused-none : (p : ℕ) {bs : List (List ℕ)} {ps : List NavPoly} {r : Refusal} → tallyFrom (limitsOf s) (s .indices) p bs ≡ refusalOf r → Each (Makes s) bs ps → ⊥
-  refused-none p e m = never (sym e ∙ made-tally p m .0)
+  refused-none p e m = no-values (sym e ∙ made-tally p m .0)

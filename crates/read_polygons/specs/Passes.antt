@@ -4,6 +4,7 @@ use mathlib.Core.Path.{_≡_}
 use mathlib.Core.List.{List}
 use lib.ListN.{length}
 use Rattle.fields.specs.Put.{put}
+use Rattle.fields.specs.Sizes.{EDGE-SIZE, INDEX-SIZE, VERTEX-SIZE}
 use Rattle.math.specs.declared.vec3.Vec3.{Vec3}
 use Rattle.strip.specs.Outcome.{values}
 use Rattle.read_grammar.specs.Derives.{areaOf}
@@ -20,9 +21,9 @@ use Rattle.read_polygons.specs.Polygons.{Source}
 abbrev pub sourceOf : List ℕ → List ℕ → List ℕ → List ℕ → List ℕ → List ℕ → List ℕ → Vec3 → Vec3 → Source
 sourceOf system graphics vertices indices edges links header bb-min bb-size =
     record {
-      vertices = itemsIn system graphics 6 vertices;
-      indices = itemsIn system graphics 2 indices;
-      edges = itemsIn system graphics 8 edges;
+      vertices = itemsIn system graphics VERTEX-SIZE vertices;
+      indices = itemsIn system graphics INDEX-SIZE indices;
+      edges = itemsIn system graphics EDGE-SIZE edges;
       links = linksOf links;
       area = areaOf header;
       back = backBy bb-min bb-size;

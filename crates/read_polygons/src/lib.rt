@@ -5,6 +5,7 @@ ghost use Prim.Native.Nat.{_+_, _*_, _≤_};
 ghost use lib.ListN.{length};
 ghost use Rattle.fields.specs.Bytes.{cut};
 ghost use Rattle.fields.specs.Put.{put};
+ghost use Rattle.fields.specs.Sizes.{EDGE-SIZE, INDEX-SIZE, POLY-SIZE, VERTEX-SIZE};
 ghost use Rattle.strip.specs.Cell.{polygonWords, each};
 ghost use Rattle.read_grammar.specs.Polygons.{startOf, countOf};
 ghost use Rattle.read_lists.specs.Lists.{total};
@@ -99,10 +100,10 @@ fn put_run<'a>(
     out: &mut [u32],
     at: usize,
 ) -> PolygonCursor
-    requires { ⌜ ListsOpen (now system) (now graphics) (now vertices) (now indices) (now edges) from × (48 * m ≤ length (now run))
-        × Passed (limitsOf (sourceOf (now system) (now graphics) (now vertices) (now indices) (now edges) (now links) (now header) «bb_min» «bb_size»)) (itemsIn (now system) (now graphics) 2 (now indices)) 0 (cut 48 m (now run)) at (length (now out)) ⌝ }
+    requires { ⌜ ListsOpen (now system) (now graphics) (now vertices) (now indices) (now edges) from × (POLY-SIZE * m ≤ length (now run))
+        × Passed (limitsOf (sourceOf (now system) (now graphics) (now vertices) (now indices) (now edges) (now links) (now header) «bb_min» «bb_size»)) (itemsIn (now system) (now graphics) INDEX-SIZE (now indices)) 0 (cut POLY-SIZE m (now run)) at (length (now out)) ⌝ }
     ensures { λ r. ⌜ Put (now (system .entry)) (now (graphics .entry)) (now (vertices .entry)) (now (indices .entry)) (now (edges .entry))
-        (each polygonWords (map (polygonMade (sourceOf (now (system .entry)) (now (graphics .entry)) (now (vertices .entry)) (now (indices .entry)) (now (edges .entry)) (now (links .entry)) (now (header .entry)) «bb_min» «bb_size»)) (cut 48 m (now (run .entry)))))
+        (each polygonWords (map (polygonMade (sourceOf (now (system .entry)) (now (graphics .entry)) (now (vertices .entry)) (now (indices .entry)) (now (edges .entry)) (now (links .entry)) (now (header .entry)) «bb_min» «bb_size»)) (cut POLY-SIZE m (now (run .entry)))))
         (now (out .entry)) at r (now (out .exit)) ⌝ }
 {
     let mut c = from;
@@ -148,10 +149,10 @@ pub fn put_polygons<'a>(
     out: &mut [u32],
     at: usize,
 ) -> usize
-    requires { ⌜ Readable (now system) (now graphics) 6 (now vertices) × Readable (now system) (now graphics) 2 (now indices) × Readable (now system) (now graphics) 8 (now edges) × Readable (now system) (now graphics) 48 (now polys) × (n ≡ total (now polys)) ⌝ }
-    requires { ⌜ Passed (limitsOf (sourceOf (now system) (now graphics) (now vertices) (now indices) (now edges) (now links) (now header) (cell .«bb_min») (cell .«bb_size»))) (itemsIn (now system) (now graphics) 2 (now indices)) 0 (itemsIn (now system) (now graphics) 48 (now polys)) at (length (now out)) ⌝ }
-    ensures { λ r. ⌜ (r ≡ at + length (each polygonWords (map (polygonMade (sourceOf (now (system .entry)) (now (graphics .entry)) (now (vertices .entry)) (now (indices .entry)) (now (edges .entry)) (now (links .entry)) (now (header .entry)) (cell .«bb_min») (cell .«bb_size»))) (itemsIn (now (system .entry)) (now (graphics .entry)) 48 (now (polys .entry))))))
-        × (now (out .exit) ≡ put at (each polygonWords (map (polygonMade (sourceOf (now (system .entry)) (now (graphics .entry)) (now (vertices .entry)) (now (indices .entry)) (now (edges .entry)) (now (links .entry)) (now (header .entry)) (cell .«bb_min») (cell .«bb_size»))) (itemsIn (now (system .entry)) (now (graphics .entry)) 48 (now (polys .entry))))) (now (out .entry))) ⌝ }
+    requires { ⌜ Readable (now system) (now graphics) VERTEX-SIZE (now vertices) × Readable (now system) (now graphics) INDEX-SIZE (now indices) × Readable (now system) (now graphics) EDGE-SIZE (now edges) × Readable (now system) (now graphics) POLY-SIZE (now polys) × (n ≡ total (now polys)) ⌝ }
+    requires { ⌜ Passed (limitsOf (sourceOf (now system) (now graphics) (now vertices) (now indices) (now edges) (now links) (now header) (cell .«bb_min») (cell .«bb_size»))) (itemsIn (now system) (now graphics) INDEX-SIZE (now indices)) 0 (itemsIn (now system) (now graphics) POLY-SIZE (now polys)) at (length (now out)) ⌝ }
+    ensures next { λ r. ⌜ r ≡ at + length (each polygonWords (map (polygonMade (sourceOf (now (system .entry)) (now (graphics .entry)) (now (vertices .entry)) (now (indices .entry)) (now (edges .entry)) (now (links .entry)) (now (header .entry)) (cell .«bb_min») (cell .«bb_size»))) (itemsIn (now (system .entry)) (now (graphics .entry)) POLY-SIZE (now (polys .entry))))) ⌝ }
+    ensures content { λ _. ⌜ now (out .exit) ≡ put at (each polygonWords (map (polygonMade (sourceOf (now (system .entry)) (now (graphics .entry)) (now (vertices .entry)) (now (indices .entry)) (now (edges .entry)) (now (links .entry)) (now (header .entry)) (cell .«bb_min») (cell .«bb_size»))) (itemsIn (now (system .entry)) (now (graphics .entry)) POLY-SIZE (now (polys .entry))))) (now (out .entry)) ⌝ }
 {
     let bb_min = cell.bb_min;
     let bb_size = cell.bb_size;

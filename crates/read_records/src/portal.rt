@@ -5,6 +5,7 @@ ghost use Prim.Native.Nat.{_+_, _*_, _≤_};
 ghost use lib.ListN.{length};
 ghost use Rattle.fields.specs.Bytes.{cut};
 ghost use Rattle.fields.specs.Put.{put};
+ghost use Rattle.fields.specs.Sizes.{PORTAL-SIZE};
 ghost use Rattle.strip.specs.Cell.{each, portalWords};
 ghost use Rattle.read_grammar.specs.Derives.{portalOf};
 ghost use Rattle.read_records.specs.Back.{backBy, backIn};
@@ -62,8 +63,8 @@ fn put_portal(b: &[u8], bb_min: Vec3, bb_size: Vec3, strip: &mut [u32], at: usiz
 
 // The first n portals of a part, from the strip's word `at` on.
 pub fn put_portals(portals: &[u8], n: usize, cell: CellRecord, strip: &mut [u32], at: usize)
-    requires { ⌜ (28 * n ≤ length (now portals)) × (at + 11 * n ≤ length (now strip)) ⌝ }
-    ensures { λ _. ⌜ now (strip .exit) ≡ put at (each portalWords (map (portalOf (backIn cell)) (cut 28 n (now (portals .entry))))) (now (strip .entry)) ⌝ }
+    requires { ⌜ (PORTAL-SIZE * n ≤ length (now portals)) × (at + 11 * n ≤ length (now strip)) ⌝ }
+    ensures { λ _. ⌜ now (strip .exit) ≡ put at (each portalWords (map (portalOf (backIn cell)) (cut PORTAL-SIZE n (now (portals .entry))))) (now (strip .entry)) ⌝ }
 {
     let bb_min = cell.bb_min;
     let bb_size = cell.bb_size;

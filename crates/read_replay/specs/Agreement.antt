@@ -90,12 +90,12 @@ abbrev pub TallyOf : List ℕ → (low high : ℕ) → Tally → Type 0
 TallyOf b low high = Counted (λ (at : ℕ). Begins b at) (λ (at : ℕ). Asked b low high at) (λ (at : ℕ). Agrees b at (recordOf b at)) (λ (at : ℕ). nextAt b at) (length b)
 
 -- a record at a place of n bytes, which it goes beyond and does not leave
-pub record Stands (at : ℕ) (r : Record) (n : ℕ) : Type 0 where
+pub record ReadRecordInside (at : ℕ) (r : Record) (n : ℕ) : Type 0 where
   pub starts : at < r .system
-  pub whole : r .system ≤ r .«system_end»
+  pub system-in-order : r .system ≤ r .«system_end»
   pub inside : r .«system_end» ≤ n
-  pub behind : r .system ≤ r .graphics
-  pub whole2 : r .graphics ≤ r .«graphics_end»
+  pub to-graphics : r .system ≤ r .graphics
+  pub graphics-in-order : r .graphics ≤ r .«graphics_end»
   pub inside2 : r .«graphics_end» ≤ n
   pub last : r .graphics ≤ r .strip
   pub ends : r .strip ≤ r .next

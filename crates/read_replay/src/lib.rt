@@ -7,7 +7,7 @@ ghost use mathlib.Core.Bool.{true};
 ghost use Prim.Native.Nat.{ℕ, _+_, _*_, _^_, _≤_, _<_};
 ghost use lib.ListN.{length, getD};
 ghost use Rattle.read_decide.specs.Answer.{paper};
-ghost use Rattle.read_replay.specs.Agreement.{expected, expectedCounts, toldWord, toldWords, recordOf, Stands};
+ghost use Rattle.read_replay.specs.Agreement.{expected, expectedCounts, toldWord, toldWords, recordOf, ReadRecordInside};
 use fields::u32_le;
 use read_decide::ParseAnswer;
 use read_decide::Parsed;
@@ -28,7 +28,8 @@ pub struct Record {
 // The words of the strip that stand in the record at a place: none where it is refused.
 fn strip_words(bytes: &[u8], at: usize) -> usize
     requires { ⌜ at + 40 ≤ length (now bytes) ⌝ }
-    ensures { λ r. ⌜ (r ≡ toldWords (now (bytes .entry)) at) × (r < 2 ^ 32) ⌝ }
+    ensures count { λ r. ⌜ r ≡ toldWords (now (bytes .entry)) at ⌝ }
+    ensures bound { λ r. ⌜ r < 2 ^ 32 ⌝ }
 {
     if u32_le(bytes, at + 16) == 0 {
         return u32_le(bytes, at + 20) as usize;
@@ -38,7 +39,8 @@ fn strip_words(bytes: &[u8], at: usize) -> usize
 
 pub fn record_at(bytes: &[u8], at: usize) -> Record
     requires { ⌜ at + 40 ≤ length (now bytes) ⌝ }
-    ensures { λ r. ⌜ (r ≡ recordOf (now (bytes .entry)) at) × Stands at r (length (now (bytes .entry))) ⌝ }
+    ensures places { λ r. ⌜ r ≡ recordOf (now (bytes .entry)) at ⌝ }
+    ensures bound { λ r. ⌜ ReadRecordInside at r (length (now (bytes .entry))) ⌝ }
 {
     let n = bytes.len();
     let system = at + 40;

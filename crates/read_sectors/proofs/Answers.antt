@@ -15,7 +15,7 @@ use Rattle.read_sectors.specs.declared.Walk.{Walk}
 use Rattle.read_sectors.specs.declared.Walk.the-variants.{Done, Refused}
 use Rattle.read_sectors.specs.Walk.{Walked, walk}
 use Rattle.read_sectors.specs.Walk.Walked.{done, refused}
-use Rattle.read_sectors.specs.Answer.{outcomeOf, treeOutcome, walkPaper, walkAnswer, Counted}
+use Rattle.read_sectors.specs.Answer.{outcomeOf, treeOutcome, walkPaper, walkAnswer, WalkCounted}
 
 was-refused : (w : Walked) {e : ℕ} → walkAnswer 0 w ≡ refusal e 0 → w ≡ refused e
 was-refused (done l ps) h = let z : _≡_ {A = ℕ} 0 1 = cc in absurd (omega arith)
@@ -32,7 +32,7 @@ module _ (system graphics : List ℕ) (root : ℕ) where
   unfolding treeOutcome
   says-null z = rw (eq-eqb root 0 z)
 
-  module _ (some : root ≡ 0 → ⊥) {v : Walk} (k : Counted (walk system graphics 4096 (root ∷ [])) 4096 0 v) where
+  module _ (some : root ≡ 0 → ⊥) {v : Walk} (k : WalkCounted (walk system graphics 4096 (root ∷ [])) 4096 0 v) where
     pub says-refused : {e : ℕ} → v ≡ Refused e → refusal e 0 ≡ shown (treeOutcome system graphics root)
     unfolding treeOutcome
     says-refused h = rw (ne-eqb root 0 some, was-refused (walk system graphics 4096 (root ∷ [])) (sym (k .is) ∙ ap walkPaper h))

@@ -10,8 +10,8 @@ use Rattle.strip.specs.Outcome as Outcome
 use Rattle.read_sectors.specs.declared.Tree.{Tree}
 use Rattle.read_sectors.specs.declared.TreeAnswer.{TreeAnswer}
 use Rattle.read_sectors.specs.declared.TreeAnswer.the-variants as TreeAnswer
-use Rattle.read_sectors.specs.declared.Found.{Found}
-use Rattle.read_sectors.specs.declared.Found.the-variants.{Points, Bad}
+use Rattle.read_sectors.specs.declared.SectorPoints.{SectorPoints}
+use Rattle.read_sectors.specs.declared.SectorPoints.the-variants.{Points, Bad}
 use Rattle.read_sectors.specs.declared.Walk.{Walk}
 use Rattle.read_sectors.specs.declared.Walk.the-variants.{Done, Refused}
 use Rattle.read_sectors.specs.Walk.{Walked, walk}
@@ -51,12 +51,12 @@ abbrev pub Within : ℕ → ℕ → Walk → Type 0
 Within left points (Done l p) = (l ≤ left) × (p + 65535 * l ≤ points + 65535 * left)
 Within left points (Refused number) = Unit {0}
 
-pub record Counted (w : Walked) (left points : ℕ) (r : Walk) : Type 0 where
+pub record WalkCounted (w : Walked) (left points : ℕ) (r : Walk) : Type 0 where
   pub is : walkPaper r ≡ walkAnswer points w
   pub within : Within left points r
 
 -- `find_points`: what each case says, and what a sector's data and points have to: how many points there are, or 34
-abbrev pub foundPaper : Found → Paper ℕ
+abbrev pub foundPaper : SectorPoints → Paper ℕ
 foundPaper (Points n) = values n
 foundPaper Bad = refusal 34 0
 
@@ -64,6 +64,6 @@ abbrev pub foundOf : Bool → List (List ℕ) → Paper ℕ
 foundOf false ps = refusal 34 0
 foundOf true ps = values (length ps)
 
-abbrev pub Few : Found → Type 0
+abbrev pub Few : SectorPoints → Type 0
 Few (Points n) = n ≤ 65535
 Few Bad = Unit {0}

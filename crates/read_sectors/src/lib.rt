@@ -7,7 +7,7 @@ ghost use Rattle.strip.specs.Outcome.{shown};
 ghost use Rattle.read_grammar.specs.Trees.{subsTo};
 ghost use Rattle.read_sectors.specs.Sector.{goodData, pointsOf};
 ghost use Rattle.read_sectors.specs.Walk.{walk};
-ghost use Rattle.read_sectors.specs.Answer.{paper, treeOutcome, foundPaper, foundOf, Few, Small, Counted};
+ghost use Rattle.read_sectors.specs.Answer.{paper, treeOutcome, foundPaper, foundOf, Few, Small, WalkCounted};
 use fields::sizes::POINT_SIZE;
 use fields::sizes::SECTOR_DATA_SIZE;
 use fields::sizes::SECTOR_SIZE;
@@ -28,7 +28,7 @@ pub enum TreeAnswer {
 }
 
 // A sector's data and points are good or absent, and there are so many points; or not.
-enum Found {
+enum SectorPoints {
     Points(usize),
     Bad,
 }
@@ -40,26 +40,27 @@ enum Walk {
 }
 
 // How many points a sector has, by its data's address, 0x2C, and the data's count and address of points, 0x1A and 0x10.
-fn find_points<'a>(system: &'a [u8], graphics: &'a [u8], sector: &'a [u8]) -> Found
-    ensures { λ r. ⌜ (foundPaper r ≡ foundOf (goodData (now (system .entry)) (now (graphics .entry)) (now (sector .entry))) (pointsOf (now (system .entry)) (now (graphics .entry)) (now (sector .entry)))) × Few r ⌝ }
+fn find_points<'a>(system: &'a [u8], graphics: &'a [u8], sector: &'a [u8]) -> SectorPoints
+    ensures answer { λ r. ⌜ foundPaper r ≡ foundOf (goodData (now (system .entry)) (now (graphics .entry)) (now (sector .entry))) (pointsOf (now (system .entry)) (now (graphics .entry)) (now (sector .entry))) ⌝ }
+    ensures bound { λ r. ⌜ Few r ⌝ }
 {
     let va = u64_le(sector, 0x2C);
     if va == 0 {
-        return Found::Points(0);
+        return SectorPoints::Points(0);
     }
     let data = resolve(system, graphics, va, SECTOR_DATA_SIZE);
     if data.len() < SECTOR_DATA_SIZE {
-        return Found::Bad;
+        return SectorPoints::Bad;
     }
     let n = u16_le(data, 0x1A) as usize;
     if n == 0 {
-        return Found::Points(0);
+        return SectorPoints::Points(0);
     }
     let points = resolve(system, graphics, u64_le(data, 0x10), POINT_SIZE * n);
     if points.len() < POINT_SIZE * n {
-        return Found::Bad;
+        return SectorPoints::Bad;
     }
-    Found::Points(n)
+    SectorPoints::Points(n)
 }
 
 // The address of a sector's sub i.
@@ -79,7 +80,7 @@ fn visit_sector<'a>(
     points: usize,
 ) -> Walk
     requires { ⌜ points + 65535 * left < 2 ^ 64 ⌝ }
-    ensures { λ r. ⌜ Counted (walk (now (system .entry)) (now (graphics .entry)) left (va ∷ [])) left points r ⌝ }
+    ensures { λ r. ⌜ WalkCounted (walk (now (system .entry)) (now (graphics .entry)) left (va ∷ [])) left points r ⌝ }
 {
     if left == 0 {
         return Walk::Refused(33);
@@ -89,8 +90,8 @@ fn visit_sector<'a>(
         return Walk::Refused(32);
     }
     match find_points(system, graphics, sector) {
-        Found::Bad => Walk::Refused(34),
-        Found::Points(n) => visit_subs(system, graphics, sector, left - 1, points + n),
+        SectorPoints::Bad => Walk::Refused(34),
+        SectorPoints::Points(n) => visit_subs(system, graphics, sector, left - 1, points + n),
     }
 }
 
@@ -103,7 +104,7 @@ fn visit_subs<'a>(
     points: usize,
 ) -> Walk
     requires { ⌜ points + 65535 * left < 2 ^ 64 ⌝ }
-    ensures { λ r. ⌜ Counted (walk (now (system .entry)) (now (graphics .entry)) left (subsTo (now (sector .entry)) 4)) left points r ⌝ }
+    ensures { λ r. ⌜ WalkCounted (walk (now (system .entry)) (now (graphics .entry)) left (subsTo (now (sector .entry)) 4)) left points r ⌝ }
 {
     let mut l = left;
     let mut p = points;
@@ -128,7 +129,8 @@ fn visit_subs<'a>(
 
 // The tree at root, of 4,096 sectors at most: how many sectors and points it has, or the first fault in preorder.
 pub fn read_sector_tree<'a>(system: &'a [u8], graphics: &'a [u8], root: u64) -> TreeAnswer
-    ensures { λ r. ⌜ (paper r ≡ shown (treeOutcome (now (system .entry)) (now (graphics .entry)) root)) × Small r ⌝ }
+    ensures answer { λ r. ⌜ paper r ≡ shown (treeOutcome (now (system .entry)) (now (graphics .entry)) root) ⌝ }
+    ensures bound { λ r. ⌜ Small r ⌝ }
 {
     if root == 0 {
         return TreeAnswer::Refused(Refusal {

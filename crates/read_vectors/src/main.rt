@@ -7,7 +7,7 @@ ghost use lib.ListN.{length};
 ghost use Rattle.strip.specs.Outcome.{shown};
 ghost use Rattle.read_decide.specs.Answer.{paper};
 ghost use Rattle.replay.specs.Tallies.{Tallied, Step};
-ghost use Rattle.read_replay.specs.Agreement.{untouchedWords, outcomeOf, stripOf, Agrees, Asked, TallyOf, Stands};
+ghost use Rattle.read_replay.specs.Agreement.{untouchedWords, outcomeOf, stripOf, Agrees, Asked, TallyOf, ReadRecordInside};
 use fields::u32_le;
 use read_decide::ParseAnswer;
 use read_replay::Record;
@@ -24,7 +24,7 @@ use replay::tallied;
 
 // Reads the sections of a record into as much of the strip as the record says.
 fn read_record(bytes: &[u8], at: usize, r: Record, strip: &mut [u32]) -> ParseAnswer
-    requires { ⌜ Stands at r (length (now bytes)) ⌝ }
+    requires { ⌜ ReadRecordInside at r (length (now bytes)) ⌝ }
     ensures answer { λ a. ⌜ paper a ≡ shown (outcomeOf (now (bytes .entry)) at r (length (now (strip .entry)))) ⌝ }
     ensures strip { λ _. ⌜ now (strip .exit) ≡ stripOf (now (bytes .entry)) at r (now (strip .entry)) ⌝ }
 {
@@ -42,14 +42,15 @@ fn read_record(bytes: &[u8], at: usize, r: Record, strip: &mut [u32]) -> ParseAn
 
 // What the strip holds before a record's sections are read into it.
 fn untouched() -> [u32; 512]
-    ensures { λ r. ⌜ (r ≡ untouchedWords) × (512 ≡ length r) ⌝ }
+    ensures content { λ r. ⌜ r ≡ untouchedWords ⌝ }
+    ensures size { λ r. ⌜ 512 ≡ length r ⌝ }
 {
     [0xD1D1_D1D1; 512]
 }
 
 // Whether reading a record's sections gives its answer and its words, and leaves the rest of the strip.
 fn agrees(bytes: &[u8], at: usize, r: Record) -> bool
-    requires { ⌜ (at + 40 ≤ length (now bytes)) × Stands at r (length (now bytes)) ⌝ }
+    requires { ⌜ (at + 40 ≤ length (now bytes)) × ReadRecordInside at r (length (now bytes)) ⌝ }
     ensures { λ s. ⌜ (s ≡ true → Agrees (now (bytes .entry)) at r) ⌝ }
 {
     let words = r.strip;
@@ -64,8 +65,9 @@ fn agrees(bytes: &[u8], at: usize, r: Record) -> bool
 
 // The tally with the record at a place, where the record's number is from low to high.
 fn with_record(bytes: &[u8], at: usize, r: Record, t: Tally, low: u32, high: u32) -> Tally
-    requires { ⌜ (at + 40 ≤ length (now bytes)) × Stands at r (length (now bytes)) × Tallied (length (now bytes)) at t ⌝ }
-    ensures { λ s. ⌜ Step (Asked (now (bytes .entry)) low high at) (Agrees (now (bytes .entry)) at r) t at s × Tallied (length (now (bytes .entry))) (at + 1) s ⌝ }
+    requires { ⌜ (at + 40 ≤ length (now bytes)) × ReadRecordInside at r (length (now bytes)) × Tallied (length (now bytes)) at t ⌝ }
+    ensures step { λ s. ⌜ Step (Asked (now (bytes .entry)) low high at) (Agrees (now (bytes .entry)) at r) t at s ⌝ }
+    ensures bound { λ s. ⌜ Tallied (length (now (bytes .entry))) (at + 1) s ⌝ }
 {
     if asked(u32_le(bytes, at + 16), low, high) {
         return tallied(t, bytes.len(), at, agrees(bytes, at, r));

@@ -4,13 +4,9 @@ use Prim.Native.Nat.{ℕ, _^_, _<_}
 use native.Mathlib.Omega.{arith}
 use Rattle.strip.proofs.Alls.{all-apart}
 use Rattle.strip.proofs.Plain.{encode-plain}
-use Rattle.strip.specs.Cell.{Vec3, NavEdge, NavPoly, NavPortal, Head, Cell, each, vecWords, halfWords, edgeWords, polygonWords, polygonWordsAs, portalWords, pointWords, headWords, endWords}
+use Rattle.strip.specs.Cell.{NavEdge, NavPoly, NavPortal, Head, Cell, each, vecWords, halfWords, edgeWords, polygonWords, polygonWordsAs, portalWords, pointWords, headWords, endWords}
 use Rattle.strip.specs.Fits.{All, PolygonFits, PortalFits, PointFits, InRange}
-
-pub record WordVec (v : Vec3) : Type 0 where
-  pub x : v .x < 2 ^ 32
-  pub y : v .y < 2 ^ 32
-  pub z : v .z < 2 ^ 32
+use Rattle.cell_record.specs.Words.{WordVec}
 
 pub record WordHead (h : Head) : Type 0 where
   pub content : h .content < 2 ^ 32

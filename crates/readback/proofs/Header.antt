@@ -15,7 +15,7 @@ use Rattle.fields.proofs.Rows.{length-rows, field-in}
 use Rattle.strip.specs.Cell.{Head}
 use Rattle.strip.specs.Fits.{All}
 use Rattle.read_grammar.specs.Derives.{areaOf}
-use Rattle.write_pages.specs.Pages.{padded, Places, Counts, headerFirst, headerLast, headerBytes}
+use Rattle.write_pages.specs.Pages.{padded, Places, HeaderCounts, headerFirst, headerLast, headerBytes}
 use Rattle.write_pages.proofs.Sizes.{length-padded}
 
 getD-padded : (n : ℕ) (l : List ℕ) (i : ℕ) → i < n → i < length l → getD (padded n l) i 0 ≡ getD l i 0
@@ -30,7 +30,7 @@ below-at m [] i h k = absurd (omega arith)
 below-at m (x ∷ l) zero h k = k .0
 below-at m (x ∷ l) (suc i) h k = below-at m l i (omega arith) (k .1)
 
-module _ (h : Head) (a : Places) (n : Counts) (areas : List ℕ) where
+module _ (h : Head) (a : Places) (n : HeaderCounts) (areas : List ℕ) where
   abbrev H : List ℕ
   H = headerBytes h a n areas
 

@@ -8,7 +8,7 @@ use Rattle.math.specs.declared.vec3.Vec3.{Vec3 as Floats}
 use Rattle.strip.specs.Cell.{Vec3, NavEdgeEnd, NavEdge, NavPoly, Cell}
 use Rattle.read_grammar.specs.Polygons.{Each, none, more}
 use Rattle.write_pages.specs.Items.{noEdge, cornersOf, cornersIn}
-use Rattle.write_pages.specs.Pages.{loOf, extentOf}
+use Rattle.write_pages.specs.Pages.{bbMin, bbSize}
 use Rattle.write_pages.specs.Reread.{halfAgain, edgeAgain, positionAgain, polygonAgain, reread}
 use Rattle.write_pages.proofs.Placed.{length-corners}
 use Rattle.readback.specs.Kept.{KeptHalf, KeptEdge, PolygonKept}
@@ -60,4 +60,4 @@ module _ (bb-min bb-size : Floats) where
 -- as many polygons, one by one
 pub reread-kept : (c : Cell) → Each PolygonKept (c .polys) (reread c .polys)
 unfolding reread
-reread-kept c = all-kept (loOf c) (extentOf c) (c .polys)
+reread-kept c = all-kept (bbMin c) (bbSize c) (c .polys)

@@ -10,7 +10,7 @@ use Rattle.strip.specs.Cell.{Cell}
 use Rattle.write_blocks.specs.Layout.{placeOf}
 use Rattle.write_blocks.proofs.Standing.{stand}
 use Rattle.write_pages.specs.Preorder.{preorder}
-use Rattle.write_pages.specs.Pages.{loOf, extentOf, areas, sectors, counts, placesOf, header, blocks, pages}
+use Rattle.write_pages.specs.Pages.{bbMin, bbSize, areas, sectors, counts, placesOf, header, blocks, pages}
 use Rattle.write_pages.specs.Reread.{pointAgain, reread}
 use Rattle.write_pages.specs.Accepted.{Accepted}
 use Rattle.write_pages.specs.PointCounts.{storedCount}
@@ -32,4 +32,4 @@ module _ (c : Cell) where
   -- so many points are read
   pub read-count : length (reread c .points) ≡ storedCount c
   unfolding reread
-  read-count = length-map (preorder (sectors c)) (pointAgain (loOf c) (extentOf c)) ∙ length-preorder (sectors c)
+  read-count = length-map (preorder (sectors c)) (pointAgain (bbMin c) (bbSize c)) ∙ length-preorder (sectors c)

@@ -16,13 +16,14 @@ use Rattle.quantise.proofs.Capped.{short-lt}
 use Rattle.strip.specs.Cell.{Vec3, NavEdgeEnd, NavEdge, NavPoly, Head}
 use Rattle.strip.specs.Fits.{All}
 use Rattle.distinct.specs.Distinct.{indexOf}
-use Rattle.distinct.proofs.Final.{In, found}
+use Rattle.distinct.specs.Members.{In}
+use Rattle.distinct.proofs.Final.{found}
 use Rattle.areas.specs.declared.edge.RawEnd.{RawEnd}
 use Rattle.areas.proofs.EdgeHalf.{half-lt, end-back}
 use Rattle.read_grammar.specs.Polygons as read
 use Rattle.read_grammar.specs.Polygons.{edgeOf, vertexOf, linkRun, PolygonOf, Each, none, more}
 use Rattle.read_grammar.specs.Derives.{axis, backOf}
-use Rattle.write_pages.specs.Items.{floats, Corner, gather, tripleIn, cornersOf, cornersIn, corners, triples, named, linksOf, vertexRow, indexRow, halfOf, edgeRow, vertexItems, indexItems, edgeItems, polygonRow, polygonItems}
+use Rattle.write_pages.specs.Items.{floats, POLYS-PER-PART, Corner, gather, tripleIn, cornersOf, cornersIn, corners, triples, named, linksOf, vertexRow, indexRow, halfOf, edgeRow, vertexItems, indexItems, edgeItems, polygonRow, polygonItems}
 use Rattle.write_pages.specs.Reread.{halfAgain, edgeAgain, positionAgain, polygonAgain}
 use Rattle.write_pages.specs.Accepted.{Checked, AllChecked}
 use Rattle.strip.proofs.Alls.{all-apart}
@@ -51,14 +52,14 @@ digits x y z hx hy hz =
     (omega arith, rw above (omega arith), rw top (omega arith))
 
 module _ (h : Head) where
-  abbrev pub lo : Floats
-  lo = floats (h .bb-min)
+  abbrev pub bb-min : Floats
+  bb-min = floats (h .bb-min)
 
-  abbrev pub extent : Floats
-  extent = floats (h .bb-size)
+  abbrev pub bb-size : Floats
+  bb-size = floats (h .bb-size)
 
   -- shorts turned back
-  pub position-back : (v : Vec3) → backOf h (shorts (floats v) lo extent .x) (shorts (floats v) lo extent .y) (shorts (floats v) lo extent .z) ≡ positionAgain lo extent v
+  pub position-back : (v : Vec3) → backOf h (shorts (floats v) bb-min bb-size .x) (shorts (floats v) bb-min bb-size .y) (shorts (floats v) bb-min bb-size .z) ≡ positionAgain bb-min bb-size v
   unfolding backOf axis positionAgain
   position-back v = refl
 
@@ -115,11 +116,11 @@ module _ (h : Head) where
           field-back (vertexRow t) 4 2 (t / 2 ^ 32) (omega arith) refl,
         )
 
-    triple-back : (v : Vec3) → turned (tripleIn lo extent v) ≡ positionAgain lo extent v
+    triple-back : (v : Vec3) → turned (tripleIn bb-min bb-size v) ≡ positionAgain bb-min bb-size v
     unfolding tripleIn
     triple-back v =
-        let q = shorts (floats v) lo extent in
-        let d = digits (q .x) (q .y) (q .z) (short-lt (floats v .x) (lo .x) (extent .x)) (short-lt (floats v .y) (lo .y) (extent .y)) (short-lt (floats v .z) (lo .z) (extent .z)) in
+        let q = shorts (floats v) bb-min bb-size in
+        let d = digits (q .x) (q .y) (q .z) (short-lt (floats v .x) (bb-min .x) (bb-size .x)) (short-lt (floats v .y) (bb-min .y) (bb-size .y)) (short-lt (floats v .z) (bb-min .z) (bb-size .z)) in
         rw (d .0, d .1, d .2) (position-back v)
 
     indices-back : (ks : List Corner) → All (Known vs areas) ks → map vertexAt (indexItems vs ks) ≡ map (λ k. turned (k .vertex)) ks
@@ -127,7 +128,7 @@ module _ (h : Head) where
     indices-back [] known = refl
     indices-back (k ∷ ks) known = rw (vertex-back k (known .0), indices-back ks (known .1))
 
-    corners-back : (us : List Vec3) (es : List NavEdge) → map (λ k. turned (k .vertex)) (cornersOf lo extent us es) ≡ map (positionAgain lo extent) us
+    corners-back : (us : List Vec3) (es : List NavEdge) → map (λ k. turned (k .vertex)) (cornersOf bb-min bb-size us es) ≡ map (positionAgain bb-min bb-size) us
     unfolding cornersOf
     corners-back [] es = refl
     corners-back (v ∷ us) [] = rw (triple-back v, corners-back us [])
@@ -141,20 +142,20 @@ module _ (h : Head) where
     -- ---- a polygon, whose run stands at `start` of the indices and edges, and whose links stand at `before` of the links
 
     polygon-back : (k start before : ℕ) (p : NavPoly) (indices edges : List (List ℕ)) (links : List ℕ) → WordPolygon p → Checked start p → k ≤ 16382 → before ≤ 7 * k
-        → All (Known vs areas) (cornersIn lo extent p)
-        → Holds indices start (indexItems vs (cornersIn lo extent p))
-        → Holds edges start (edgeItems areas (cornersIn lo extent p))
+        → All (Known vs areas) (cornersIn bb-min bb-size p)
+        → Holds indices start (indexItems vs (cornersIn bb-min bb-size p))
+        → Holds edges start (edgeItems areas (cornersIn bb-min bb-size p))
         → Holds links before (p .links)
-        → PolygonOf (vertexItems vs) indices edges links area (backOf h) (rowBytes (polygonRow own k start before p)) (polygonAgain lo extent p)
+        → PolygonOf (vertexItems vs) indices edges links area (backOf h) (rowBytes (polygonRow own k start before p)) (polygonAgain bb-min bb-size p)
     unfolding polygonAgain linkRun
     polygon-back k start before p indices edges links word fine low-k low-before known ix es ls =
         let row = polygonRow own k start before p in
         let b = rowBytes row in
-        let ks = cornersIn lo extent p in
+        let ks = cornersIn bb-min bb-size p in
         let n : ℕ = length (p .vertices) in
         let l : ℕ = length (p .links) in
         let count : List (ℕ × ℕ) = (5, 0) ∷ (11, n) ∷ [] in
-        let part : List (ℕ × ℕ) = (4, 0) ∷ (8, k / 341) ∷ (3, l) ∷ (17, before) ∷ [] in
+        let part : List (ℕ × ℕ) = (4, 0) ∷ (8, k / POLYS-PER-PART) ∷ (3, l) ∷ (17, before) ∷ [] in
         let e0 : leAt 2 b 0 ≡ p .flags0 = field-back row 0 2 (p .flags0) (omega arith) refl ∙ mod-eq-of-lt (word .flags0) in
         let e2 : field 5 11 (leAt 2 b 2) ≡ n =
         ap (field 5 11) (field-back row 2 2 (pack count) (omega arith) refl ∙ mod-eq-of-lt (pack-lt count)) ∙ bits-back count 5 11 n refl ∙ omega (arith, fine .most-vertices) in
@@ -164,7 +165,7 @@ module _ (h : Head) where
         let e2C : leAt 4 b 0x2C ≡ pack part = field-back row 0x2C 4 (pack part) (omega arith) refl ∙ mod-eq-of-lt (pack-lt part) in
         let before-is : field 15 17 (leAt 4 b 0x2C) ≡ before = ap (field 15 17) e2C ∙ bits-back part 15 17 before refl ∙ omega arith in
         let links-is : field 12 3 (leAt 4 b 0x2C) ≡ l = ap (field 12 3) e2C ∙ bits-back part 12 3 l refl ∙ omega (arith, fine .few-links) in
-        let long : length ks ≡ n = length-corners lo extent (p .vertices) (p .edges) in
+        let long : length ks ≡ n = length-corners bb-min bb-size (p .vertices) (p .edges) in
         let ix-length : length (indexItems vs ks) ≡ n = length-indices vs ks ∙ long in
         let es-length : length (edgeItems areas ks) ≡ n = length-edges areas ks ∙ long in
         let ix-run : read.runOf b indices ≡ indexItems vs ks =
@@ -187,21 +188,21 @@ module _ (h : Head) where
 
     pub polygons-back : (k start before : ℕ) (ps : List NavPoly) (indices edges : List (List ℕ)) (links : List ℕ)
         → All WordPolygon ps → AllChecked start ps → k + length ps ≤ 16383 → before ≤ 7 * k
-        → All (Known vs areas) (corners lo extent ps)
-        → Holds indices start (indexItems vs (corners lo extent ps))
-        → Holds edges start (edgeItems areas (corners lo extent ps))
+        → All (Known vs areas) (corners bb-min bb-size ps)
+        → Holds indices start (indexItems vs (corners bb-min bb-size ps))
+        → Holds edges start (edgeItems areas (corners bb-min bb-size ps))
         → Holds links before (linksOf ps)
-        → Each (PolygonOf (vertexItems vs) indices edges links area (backOf h)) (polygonItems own k start before ps) (map (polygonAgain lo extent) ps)
+        → Each (PolygonOf (vertexItems vs) indices edges links area (backOf h)) (polygonItems own k start before ps) (map (polygonAgain bb-min bb-size) ps)
     unfolding gather indexItems edgeItems polygonItems
     polygons-back k start before [] indices edges links word fine few low-before known ix es ls = none
     polygons-back k start before (p ∷ ps) indices edges links word fine few low-before known ix es ls =
-        let here = cornersIn lo extent p in
-        let rest = corners lo extent ps in
+        let here = cornersIn bb-min bb-size p in
+        let rest = corners bb-min bb-size ps in
         let ki : Corner → List ℕ = λ k. rowBytes (indexRow vs k) in
         let ke : Corner → List ℕ = λ k. rowBytes (edgeRow areas k) in
         let ix′ = subst (λ (l : List (List ℕ)). Holds indices start l) (map-append ki here rest) ix in
         let es′ = subst (λ (l : List (List ℕ)). Holds edges start l) (map-append ke here rest) es in
-        let long : length here ≡ length (p .vertices) = length-corners lo extent (p .vertices) (p .edges) in
+        let long : length here ≡ length (p .vertices) = length-corners bb-min bb-size (p .vertices) (p .edges) in
         let il : length (map ki here) ≡ length (p .vertices) = length-map here ki ∙ long in
         let el : length (map ke here) ≡ length (p .vertices) = length-map here ke ∙ long in
         let known′ = all-apart (Known vs areas) here rest known in

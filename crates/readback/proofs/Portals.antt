@@ -28,26 +28,26 @@ use Rattle.write_pages.specs.Reread.{positionAgain, portalAgain, pointAgain}
 use Rattle.readback.proofs.Formed.{FinePortal}
 use Rattle.write_blocks.proofs.Optional.{address-some}
 use Rattle.readback.proofs.Lists.{good, block-held}
-use Rattle.readback.proofs.Polygons.{lo, extent, position-back}
+use Rattle.readback.proofs.Polygons.{bb-min, bb-size, position-back}
 
 module _ (h : Head) where
   -- three shorts of a position in a row
-  back-at : (v : Vec3) (x y z : ℕ) → x ≡ shorts (floats v) (lo h) (extent h) .x % 256 ^ 2 → y ≡ shorts (floats v) (lo h) (extent h) .y % 256 ^ 2
-      → z ≡ shorts (floats v) (lo h) (extent h) .z % 256 ^ 2 → backOf h x y z ≡ positionAgain (lo h) (extent h) v
+  back-at : (v : Vec3) (x y z : ℕ) → x ≡ shorts (floats v) (bb-min h) (bb-size h) .x % 256 ^ 2 → y ≡ shorts (floats v) (bb-min h) (bb-size h) .y % 256 ^ 2
+      → z ≡ shorts (floats v) (bb-min h) (bb-size h) .z % 256 ^ 2 → backOf h x y z ≡ positionAgain (bb-min h) (bb-size h) v
   back-at v x y z ex ey ez =
-      let q = shorts (floats v) (lo h) (extent h) in
-      let fx : x ≡ q .x = ex ∙ mod-eq-of-lt (short-lt (floats v .x) (lo h .x) (extent h .x)) in
-      let fy : y ≡ q .y = ey ∙ mod-eq-of-lt (short-lt (floats v .y) (lo h .y) (extent h .y)) in
-      let fz : z ≡ q .z = ez ∙ mod-eq-of-lt (short-lt (floats v .z) (lo h .z) (extent h .z)) in
+      let q = shorts (floats v) (bb-min h) (bb-size h) in
+      let fx : x ≡ q .x = ex ∙ mod-eq-of-lt (short-lt (floats v .x) (bb-min h .x) (bb-size h .x)) in
+      let fy : y ≡ q .y = ey ∙ mod-eq-of-lt (short-lt (floats v .y) (bb-min h .y) (bb-size h .y)) in
+      let fz : z ≡ q .z = ez ∙ mod-eq-of-lt (short-lt (floats v .z) (bb-min h .z) (bb-size h .z)) in
       rw (fx, fy, fz) (position-back h v)
 
-  portal-back : (p : NavPortal) → FinePortal p → portalOf (backOf h) (rowBytes (portalRow (lo h) (extent h) p)) ≡ portalAgain (lo h) (extent h) p
+  portal-back : (p : NavPortal) → FinePortal p → portalOf (backOf h) (rowBytes (portalRow (bb-min h) (bb-size h) p)) ≡ portalAgain (bb-min h) (bb-size h) p
   unfolding portalOf portalAgain
   portal-back p f =
-      let row = portalRow (lo h) (extent h) p in
+      let row = portalRow (bb-min h) (bb-size h) p in
       let b = rowBytes row in
-      let q = shorts (floats (p .from)) (lo h) (extent h) in
-      let r = shorts (floats (p .to)) (lo h) (extent h) in
+      let q = shorts (floats (p .from)) (bb-min h) (bb-size h) in
+      let r = shorts (floats (p .to)) (bb-min h) (bb-size h) in
       let areas : List (ℕ × ℕ) = (14, p .area-from) ∷ (14, p .area-to) ∷ (4, p .area-unk) ∷ [] in
       let e24 : leAt 4 b 24 ≡ pack areas = field-back row 24 4 (pack areas) (omega arith) refl ∙ mod-eq-of-lt (pack-lt areas) in
       let e0 : leAt 1 b 0 ≡ p .kind = field-back row 0 1 (p .kind) (omega arith) refl ∙ mod-eq-of-lt (f .kind) in
@@ -55,30 +55,30 @@ module _ (h : Head) where
       let e2 : leAt 2 b 2 ≡ p .flags-unk = field-back row 2 2 (p .flags-unk) (omega arith) refl ∙ mod-eq-of-lt (f .flags-unk) in
       let e16 : leAt 2 b 16 ≡ p .poly-from = field-back row 16 2 (p .poly-from) (omega arith) refl ∙ mod-eq-of-lt (f .poly-from) in
       let e20 : leAt 2 b 20 ≡ p .poly-to = field-back row 20 2 (p .poly-to) (omega arith) refl ∙ mod-eq-of-lt (f .poly-to) in
-      let from : backOf h (leAt 2 b 4) (leAt 2 b 6) (leAt 2 b 8) ≡ positionAgain (lo h) (extent h) (p .from) =
+      let from : backOf h (leAt 2 b 4) (leAt 2 b 6) (leAt 2 b 8) ≡ positionAgain (bb-min h) (bb-size h) (p .from) =
       back-at (p .from) (leAt 2 b 4) (leAt 2 b 6) (leAt 2 b 8) (field-back row 4 2 (q .x) (omega arith) refl) (field-back row 6 2 (q .y) (omega arith) refl) (field-back row 8 2 (q .z) (omega arith) refl) in
-      let to : backOf h (leAt 2 b 10) (leAt 2 b 12) (leAt 2 b 14) ≡ positionAgain (lo h) (extent h) (p .to) =
+      let to : backOf h (leAt 2 b 10) (leAt 2 b 12) (leAt 2 b 14) ≡ positionAgain (bb-min h) (bb-size h) (p .to) =
       back-at (p .to) (leAt 2 b 10) (leAt 2 b 12) (leAt 2 b 14) (field-back row 10 2 (r .x) (omega arith) refl) (field-back row 12 2 (r .y) (omega arith) refl) (field-back row 14 2 (r .z) (omega arith) refl) in
       rw (e0, e1, e2, e16, e20, from, to, e24, bits-back areas 0 14 (p .area-from) refl, bits-back areas 14 14 (p .area-to) refl, bits-back areas 28 4 (p .area-unk) refl)
 
-  pub portals-back : (ps : List NavPortal) → All FinePortal ps → map (portalOf (backOf h)) (portalItems (lo h) (extent h) ps) ≡ map (portalAgain (lo h) (extent h)) ps
+  pub portals-back : (ps : List NavPortal) → All FinePortal ps → map (portalOf (backOf h)) (portalItems (bb-min h) (bb-size h) ps) ≡ map (portalAgain (bb-min h) (bb-size h)) ps
   unfolding portalItems
   portals-back [] f = refl
   portals-back (p ∷ ps) f = rw (portal-back p (f .0), portals-back ps (f .1))
 
-  point-back : (t : NavPoint) → PointFits t → pointOf (backOf h) (rowBytes (pointRow (lo h) (extent h) t)) ≡ pointAgain (lo h) (extent h) t
+  point-back : (t : NavPoint) → PointFits t → pointOf (backOf h) (rowBytes (pointRow (bb-min h) (bb-size h) t)) ≡ pointAgain (bb-min h) (bb-size h) t
   unfolding pointOf pointAgain
   point-back t f =
-      let row = pointRow (lo h) (extent h) t in
+      let row = pointRow (bb-min h) (bb-size h) t in
       let b = rowBytes row in
-      let q = shorts (floats (t .position)) (lo h) (extent h) in
+      let q = shorts (floats (t .position)) (bb-min h) (bb-size h) in
       let e6 : leAt 1 b 6 ≡ t .angle = field-back row 6 1 (t .angle) (omega arith) refl ∙ mod-eq-of-lt (f .angle) in
       let e7 : leAt 1 b 7 ≡ t .kind = field-back row 7 1 (t .kind) (omega arith) refl ∙ mod-eq-of-lt (f .kind) in
-      let position : backOf h (leAt 2 b 0) (leAt 2 b 2) (leAt 2 b 4) ≡ positionAgain (lo h) (extent h) (t .position) =
+      let position : backOf h (leAt 2 b 0) (leAt 2 b 2) (leAt 2 b 4) ≡ positionAgain (bb-min h) (bb-size h) (t .position) =
       back-at (t .position) (leAt 2 b 0) (leAt 2 b 2) (leAt 2 b 4) (field-back row 0 2 (q .x) (omega arith) refl) (field-back row 2 2 (q .y) (omega arith) refl) (field-back row 4 2 (q .z) (omega arith) refl) in
       rw (e6, e7, position)
 
-  pub points-back : (ts : List NavPoint) → All PointFits ts → map (pointOf (backOf h)) (pointItems (lo h) (extent h) ts) ≡ map (pointAgain (lo h) (extent h)) ts
+  pub points-back : (ts : List NavPoint) → All PointFits ts → map (pointOf (backOf h)) (pointItems (bb-min h) (bb-size h) ts) ≡ map (pointAgain (bb-min h) (bb-size h)) ts
   unfolding pointItems
   points-back [] f = refl
   points-back (t ∷ ts) f = rw (point-back t (f .0), points-back ts (f .1))

@@ -1,20 +1,18 @@
 -- The root of a written tree: the first of its blocks, with the cell's box as it stands in the strip; and how many sectors a tree has. Assumes nothing.
 use mathlib.Core.Path.{_≡_, refl, sym, ap, _∙_}
-use mathlib.Core.Bool.{Bool, true, false, not, cond, _||_, true≢false}
+use mathlib.Core.Bool.{Bool, true, false, cond, _||_}
 use mathlib.Core.List.{List, [], _∷_, _++_}
 use Prim.Native.Nat.{ℕ, zero, suc, _+_, _*_, _/_, _%_, _^_, _≤_, _<_}
 use native.Mathlib.Nat.{mod-eq-of-lt}
 use native.Mathlib.Omega.{arith}
 use lib.ListN.{length}
-use lib.Dec.{T, ltb, eqb}
-use lib.Ieee.{Float, nan, inf, fin, binary32, ofBits, toBits, isNan}
-use lib.Ieee.Scale.{finite}
-use lib.Ieee.Bits.{toBits-ofBits}
+use lib.Dec.{ltb, eqb}
+use lib.Ieee.{Float, binary32, ofBits, toBits}
 use Rattle.fields.specs.Rows.{rowBytes}
 use Rattle.fields.proofs.Holds.{Holds}
 use Rattle.fields.proofs.Rows.{length-rows, field-back}
 use Rattle.math.specs.declared.vec3.Vec3.{Vec3 as Floats}
-use Rattle.math.proofs.Finite.{finite-bits}
+use Rattle.math.proofs.Finite.{float-back}
 use Rattle.quarters.specs.declared.quarter.QuarterBox.{QuarterBox}
 use Rattle.quarters.specs.declared.bounds.Aabb.{Aabb}
 use Rattle.strip.specs.Cell.{Vec3, NavPoint, Head, Cell}
@@ -30,22 +28,12 @@ use Rattle.write_pages.specs.Sectors.{Sector, sub0, sub1, sub2, sub3, depthBy, 
 use Rattle.write_pages.specs.Preorder.{sectorCount, preorder}
 use Rattle.write_pages.specs.Sectors.Sector.{leaf, node}
 use Rattle.write_pages.specs.Pages.{sectors}
-use Rattle.readback.proofs.Formed.{WordVec}
+use Rattle.cell_record.specs.Words.{WordVec}
 use Rattle.readback.proofs.Trees.{first-held}
 
--- ---- a box that is finite
-
-finite-number : (x : Float) → finite x ≡ true → T (not (isNan x))
-unfolding isNan
-finite-number nan e = absurd (true≢false (sym e))
-finite-number (inf s) e = tt
-finite-number (fin s m k) e = tt
-
--- the bits of a finite float pass
-float-back : (w : ℕ) → w < 2 ^ 32 → Box.finiteBits w ≡ true → toBits binary32 (ofBits binary32 w) % 256 ^ 4 ≡ w
-float-back w h f =
-    let number : T (not (isNan (ofBits binary32 w))) = finite-number (ofBits binary32 w) (finite-bits w ∙ f) in
-    ap (λ (x : ℕ). x % 256 ^ 4) (toBits-ofBits binary32 w h number) ∙ mod-eq-of-lt h
+-- the bits of a finite float pass through four bytes
+float-passes : (w : ℕ) → w < 2 ^ 32 → Box.finiteBits w ≡ true → toBits binary32 (ofBits binary32 w) % 256 ^ 4 ≡ w
+float-passes w h f = ap (λ (x : ℕ). x % 256 ^ 4) (float-back w h f) ∙ mod-eq-of-lt h
 
 -- ---- the root
 
@@ -94,7 +82,7 @@ tree-root P bb-min bb-size end first (node b t0 t1 t2 t3) h =
     sector-root P end b 0 (sectorAddress (from0 end)) (sectorAddress (from1 end t0)) (sectorAddress (from2 end t0 t1)) (sectorAddress (from3 end t0 t1 t2)) (h .0)
 
 vec-back : (v : Vec3) → WordVec v → FiniteVec v → words (floats v) ≡ v
-vec-back v w f = rw (float-back (v .x) (w .x) (f .x), float-back (v .y) (w .y) (f .y), float-back (v .z) (w .z) (f .z))
+vec-back v w f = rw (float-passes (v .x) (w .x) (f .x), float-passes (v .y) (w .y) (f .y), float-passes (v .z) (w .z) (f .z))
 
 -- ---- a grown tree
 
@@ -143,21 +131,21 @@ few-full (suc n) = omega arith
 module _ (c : Cell) where
   pub sectors-box : boxAt (sectors c) ≡ rootBox (c .head)
   unfolding sectors treeOf
-  sectors-box = grown-box _ _ (depthOf (c .head)) 0 (rootBox (c .head))
+  sectors-box = grown-box _ _ (depthOf (c .head .content)) 0 (rootBox (c .head))
 
   pub sectors-count : sectorCount (sectors c) ≤ 21
   unfolding sectors treeOf
   sectors-count =
-      let e : sectorCount (sectors c) ≡ full (depthOf (c .head)) = grown-count _ _ (depthOf (c .head)) 0 (rootBox (c .head)) in
+      let e : sectorCount (sectors c) ≡ full (depthOf (c .head .content)) = grown-count _ _ (depthOf (c .head .content)) 0 (rootBox (c .head)) in
       omega (arith, few-full (c .head .content / 2 ^ 2 % 2))
 
   pub sectors-points : (P : NavPoint → Type 0) → All P (c .points) → All P (preorder (sectors c))
   unfolding sectors treeOf
-  sectors-points P h = grown-points _ _ P (λ k. leaf-points P (leaves (depthOf (c .head)) (rootBox (c .head))) k (c .points) h) (depthOf (c .head)) 0 (rootBox (c .head))
+  sectors-points P h = grown-points _ _ P (λ k. leaf-points P (leaves (depthOf (c .head .content)) (rootBox (c .head))) k (c .points) h) (depthOf (c .head .content)) 0 (rootBox (c .head))
 
   module _ (P : List ℕ) (end : ℕ) (r : Root P end (boxAt (sectors c))) (f : FiniteBox (c .head)) where
     pub root-min : WordVec (c .head .bb-min) → vecOf (r .bytes) 0 ≡ c .head .bb-min
-    root-min w = r .min ∙ ap (λ (b : Aabb). words (b .min)) sectors-box ∙ vec-back (c .head .bb-min) w (f .min)
+    root-min w = r .min ∙ ap (λ (b : Aabb). words (b .min)) sectors-box ∙ vec-back (c .head .bb-min) w (f .bb-min)
 
     pub root-max : WordVec (c .head .bb-max) → vecOf (r .bytes) 16 ≡ c .head .bb-max
-    root-max w = r .max ∙ ap (λ (b : Aabb). words (b .max)) sectors-box ∙ vec-back (c .head .bb-max) w (f .max)
+    root-max w = r .max ∙ ap (λ (b : Aabb). words (b .max)) sectors-box ∙ vec-back (c .head .bb-max) w (f .bb-max)

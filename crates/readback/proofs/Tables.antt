@@ -8,7 +8,8 @@ use Rattle.strip.specs.Cell.{NavEdge, NavPoly}
 use Rattle.strip.specs.Fits.{All}
 use Rattle.distinct.specs.Distinct.{isIn, withNew, distinctFrom}
 use Rattle.distinct.proofs.Laws.{with-old, with-fresh}
-use Rattle.distinct.proofs.Final.{In, with-in, still-in}
+use Rattle.distinct.specs.Members.{In}
+use Rattle.distinct.proofs.Final.{with-in, still-in}
 use Rattle.areas.specs.Areas.{seeds, seeded}
 use Rattle.math.specs.declared.vec3.Vec3.{Vec3 as Floats}
 use Rattle.strip.specs.Cell.{Vec3}

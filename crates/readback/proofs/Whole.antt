@@ -22,7 +22,7 @@ use Rattle.write_blocks.specs.Optional.{blockOf, sizeOf, addressOf}
 use Rattle.write_pages.specs.Sectors as Sectors
 use Rattle.write_pages.specs.Sectors.{treeBlocks, pointItems}
 use Rattle.write_pages.specs.Preorder.{sectorCount, preorder}
-use Rattle.write_pages.specs.Pages.{Places, Counts, portalItems, allCorners, loOf, extentOf, vertices, areas, links, sectors, counts, endHeader, endVertices, endIndices, endEdges, endPolygons, endSectors, endPortals, placesOf, headerBytes, header, blocks, pages}
+use Rattle.write_pages.specs.Pages.{Places, HeaderCounts, portalItems, allCorners, bbMin, bbSize, vertices, areas, links, sectors, counts, endHeader, endVertices, endIndices, endEdges, endPolygons, endSectors, endPortals, placesOf, headerBytes, header, blocks, pages}
 use Rattle.write_pages.specs.Reread.{reread}
 use Rattle.write_pages.specs.Accepted.{Accepted}
 use Rattle.write_pages.proofs.Sizes as Sizes
@@ -39,7 +39,7 @@ use Rattle.readback.proofs.Root.{boxAt, Root, tree-root, sectors-count,
 use Rattle.fields.specs.Sizes.{LIST-VFT-EDGES, LIST-VFT-INDICES, LIST-VFT-POLYS, LIST-VFT-VERTICES}
 
 module _ (c : Cell) where
-  abbrev N : Counts
+  abbrev N : HeaderCounts
   N = counts c
 
   abbrev T : Sectors.Sector
@@ -61,7 +61,7 @@ module _ (c : Cell) where
   polygonPart = polygonItems (c .head .area) 0 0 0 (c .polys)
 
   abbrev portalPart : List (List ℕ)
-  portalPart = portalItems (loOf c) (extentOf c) (c .portals)
+  portalPart = portalItems (bbMin c) (bbSize c) (c .portals)
 
   -- every block stands where the layout puts it
   record Standing : Type 0 where
@@ -70,7 +70,7 @@ module _ (c : Cell) where
     index-blocks : Stand P (endVertices N T) (listBlocks (endVertices N T) LIST-VFT-INDICES 2 indexPart)
     edge-blocks : Stand P (endIndices N T) (listBlocks (endIndices N T) LIST-VFT-EDGES 8 edgePart)
     polygon-blocks : Stand P (endEdges N T) (listBlocks (endEdges N T) LIST-VFT-POLYS 48 polygonPart)
-    sector-blocks : Stand P (endPolygons N T) (treeBlocks (loOf c) (extentOf c) (endPolygons N T) 0 T)
+    sector-blocks : Stand P (endPolygons N T) (treeBlocks (bbMin c) (bbSize c) (endPolygons N T) 0 T)
     portal-blocks : Stand P (endSectors N T) (blockOf (cat portalPart))
     link-blocks : Stand P (endPortals N T) (blockOf (les 2 (links c)))
 
@@ -81,7 +81,7 @@ module _ (c : Cell) where
       let ib = listBlocks (endVertices N T) LIST-VFT-INDICES 2 indexPart in
       let eb = listBlocks (endIndices N T) LIST-VFT-EDGES 8 edgePart in
       let qb = listBlocks (endEdges N T) LIST-VFT-POLYS 48 polygonPart in
-      let tb = treeBlocks (loOf c) (extentOf c) (endPolygons N T) 0 T in
+      let tb = treeBlocks (bbMin c) (bbSize c) (endPolygons N T) 0 T in
       let rb = blockOf (cat portalPart) in
       let lb = blockOf (les 2 (links c)) in
       let all = stand (blocks c) in
@@ -91,8 +91,8 @@ module _ (c : Cell) where
       let s₃ = stand-behind P (endVertices N T) ib (eb ++ (qb ++ (tb ++ (rb ++ lb)))) (listSizes 2 (N .indices)) (list-size (endVertices N T) LIST-VFT-INDICES 2 (N .indices) indexPart (wide-indices (vertices c) (allCorners c)) (length-indices (vertices c) (allCorners c))) s₂ in
       let s₄ = stand-behind P (endIndices N T) eb (qb ++ (tb ++ (rb ++ lb))) (listSizes 8 (N .indices)) (list-size (endIndices N T) LIST-VFT-EDGES 8 (N .indices) edgePart (wide-edges (areas c) (allCorners c)) (length-edges (areas c) (allCorners c))) s₃ in
       let s₅ = stand-behind P (endEdges N T) qb (tb ++ (rb ++ lb)) (listSizes 48 (N .polygons)) (list-size (endEdges N T) LIST-VFT-POLYS 48 (N .polygons) polygonPart (wide-polygons (c .head .area) 0 0 0 (c .polys)) (length-polygons (c .head .area) 0 0 0 (c .polys))) s₄ in
-      let s₆ = stand-behind P (endPolygons N T) tb (rb ++ lb) (Sectors.sizes T) (tree-lengths (loOf c) (extentOf c) (endPolygons N T) 0 T) s₅ in
-      let s₇ = stand-behind P (endSectors N T) rb lb (sizeOf (28 * N .portals)) (block-size (28 * N .portals) (cat portalPart) (length-portals (loOf c) (extentOf c) (c .portals))) s₆ in
+      let s₆ = stand-behind P (endPolygons N T) tb (rb ++ lb) (Sectors.sizes T) (tree-lengths (bbMin c) (bbSize c) (endPolygons N T) 0 T) s₅ in
+      let s₇ = stand-behind P (endSectors N T) rb lb (sizeOf (28 * N .portals)) (block-size (28 * N .portals) (cat portalPart) (length-portals (bbMin c) (bbSize c) (c .portals))) s₆ in
       record {
         header-block = first-held P 0 368 (header c) long (all .0);
         vertex-blocks = stand-first P (endHeader N T) vb (ib ++ (eb ++ (qb ++ (tb ++ (rb ++ lb))))) s₁;
@@ -118,7 +118,7 @@ module _ (c : Cell) where
     form = formed c range
 
     box : FiniteBox (c .head)
-    box = box-finite (c .head) (acc .finite)
+    box = box-finite (c .head) (acc .finite-box)
 
     st : Standing
     st = standing
@@ -145,7 +145,7 @@ module _ (c : Cell) where
     polygons-va = back.polygons-back (c .head) A N (areas c) (omega (arith, few, list-place P (endEdges N T) LIST-VFT-POLYS 48 polygonPart (st .polygon-blocks)))
 
     root : Root P (endPolygons N T) (boxAt T)
-    root = tree-root P (loOf c) (extentOf c) (endPolygons N T) 0 T (st .sector-blocks)
+    root = tree-root P (bbMin c) (bbSize c) (endPolygons N T) 0 T (st .sector-blocks)
 
     root-va : leAt 8 H 0x120 ≡ address (placeOf (endPolygons N T) 96)
     unfolding placesOf
@@ -155,7 +155,7 @@ module _ (c : Cell) where
     unfolding placesOf counts
     portals-va =
         back.portals-back (c .head) A N (areas c)
-        (address-small P (endSectors N T) (28 * length (c .portals)) (cat portalPart) few (length-portals (loOf c) (extentOf c) (c .portals)) (st .portal-blocks))
+        (address-small P (endSectors N T) (28 * length (c .portals)) (cat portalPart) few (length-portals (bbMin c) (bbSize c) (c .portals)) (st .portal-blocks))
 
     links-va : leAt 8 H 0x130 ≡ addressOf (endPortals N T) (2 * length (links c))
     unfolding placesOf counts
@@ -177,7 +177,7 @@ module _ (c : Cell) where
 
     small-areas : All (λ x. x < 2 ^ 32) (areas c)
     unfolding areas
-    small-areas = area-words (loOf c) (extentOf c) (c .head .area) (c .polys) (form .head .area) (form .polys)
+    small-areas = area-words (bbMin c) (bbSize c) (c .head .area) (c .polys) (form .head .area) (form .polys)
 
     known : All (Known (vertices c) (areas c)) (allCorners c)
     unfolding vertices areas
@@ -189,8 +189,8 @@ module _ (c : Cell) where
 
     portal-array : Array S graphics 28 (addressOf (endSectors N T) (28 * length (c .portals))) (length (c .portals)) portalPart
     portal-array =
-        subst (λ (j : ℕ). Array S graphics 28 (addressOf (endSectors N T) (28 * j)) j portalPart) (Sizes.portal-count (loOf c) (extentOf c) (c .portals))
-        (array-back P tail graphics few 28 (endSectors N T) portalPart (omega arith) (wide-portals (loOf c) (extentOf c) (c .portals)) (st .portal-blocks))
+        subst (λ (j : ℕ). Array S graphics 28 (addressOf (endSectors N T) (28 * j)) j portalPart) (Sizes.portal-count (bbMin c) (bbSize c) (c .portals))
+        (array-back P tail graphics few 28 (endSectors N T) portalPart (omega arith) (wide-portals (bbMin c) (bbSize c) (c .portals)) (st .portal-blocks))
 
     link-run : Holds (links c) 0 (linksOf (c .polys))
     unfolding links
@@ -227,12 +227,12 @@ module _ (c : Cell) where
       edges = edgePart;
       polygons = polygonPart;
       portals = portalPart;
-      points = pointItems (loOf c) (extentOf c) (preorder T);
+      points = pointItems (bbMin c) (bbSize c) (preorder T);
       header-good = good P tail graphics few 368 (header-length (c .head) A N (areas c)) (omega arith) (st .header-block);
       root-good = rw root-va (good P tail graphics few 96 (root .long) (omega arith) (root .held));
       head-is = head-back;
-      finite-box = acc .finite;
-      tree = rw root-va (tree-back P tail graphics few (loOf c) (extentOf c) (endPolygons N T) 0 T (acc .leaves) (st .sector-blocks));
+      finite-box = acc .finite-box;
+      tree = rw root-va (tree-back P tail graphics few (bbMin c) (bbSize c) (endPolygons N T) 0 T (acc .leaves) (st .sector-blocks));
       few-sectors = omega (arith, sectors-count c);
       vertex-list = rw vertices-va (items-back P tail graphics few 6 (omega arith) (omega arith) (endHeader N T) LIST-VFT-VERTICES vertexPart (wide-vertices (vertices c)) (omega (arith, length-vertices (vertices c), acc .few-vertices)) (st .vertex-blocks));
       index-list = rw indices-va (items-back P tail graphics few 2 (omega arith) (omega arith) (endVertices N T) LIST-VFT-INDICES indexPart (wide-indices (vertices c) (allCorners c)) (omega (arith, length-indices (vertices c) (allCorners c), few-corners c acc)) (st .index-blocks));

@@ -10,7 +10,9 @@ use strip::Refusal;
 // Where `count` bytes from `from` on end, of n in all. What the list lacks is left out.
 pub fn end_of(n: usize, from: usize, count: usize) -> usize
     requires { ⌜ from ≤ n ⌝ }
-    ensures { λ r. ⌜ (r ≡ recordEnd n from count) × (from ≤ r) × (r ≤ n) ⌝ }
+    ensures end { λ r. ⌜ r ≡ recordEnd n from count ⌝ }
+    ensures start { λ r. ⌜ from ≤ r ⌝ }
+    ensures bound { λ r. ⌜ r ≤ n ⌝ }
 {
     from + least(count, n - from)
 }
@@ -32,7 +34,8 @@ pub struct Tally {
 // With the record at a place of n.
 pub fn tallied(t: Tally, n: usize, at: usize, agreed: bool) -> Tally
     requires { ⌜ Tallied n at t × (at < n) ⌝ }
-    ensures { λ r. ⌜ (r ≡ counting t at agreed) × Tallied n (at + 1) r ⌝ }
+    ensures tally { λ r. ⌜ r ≡ counting t at agreed ⌝ }
+    ensures bound { λ r. ⌜ Tallied n (at + 1) r ⌝ }
 {
     if agreed {
         return Tally {
@@ -50,7 +53,8 @@ pub fn tallied(t: Tally, n: usize, at: usize, agreed: bool) -> Tally
 
 // Whether a number is from low to high.
 pub fn asked(number: u32, low: u32, high: u32) -> bool
-    ensures { λ r. ⌜ (r ≡ true → Within low high number) × (r ≡ false → Within low high number → ⊥) ⌝ }
+    ensures within { λ r. ⌜ (r ≡ true → Within low high number) ⌝ }
+    ensures outside { λ r. ⌜ (r ≡ false → Within low high number → ⊥) ⌝ }
 {
     if number < low {
         return false;

@@ -35,7 +35,8 @@ pub fn pointer_to<'a>(system: &'a [u8], graphics: &'a [u8], va: u64, len: usize)
 
 impl<'a> ResReader<'a> {
     pub fn new(system: &'a [u8], graphics: &'a [u8]) -> Self
-        ensures { λ r. ⌜ (r .system ≡ system .entry) × (r .graphics ≡ graphics .entry) ⌝ }
+        ensures system { λ r. ⌜ r .system ≡ system .entry ⌝ }
+        ensures graphics { λ r. ⌜ r .graphics ≡ graphics .entry ⌝ }
     {
         ResReader { system, graphics }
     }
@@ -49,7 +50,8 @@ impl<'a> ResReader<'a> {
 
     // The same beside what va is, which tells a null address from one that isn't good.
     pub fn resolve_optional(self, va: u64, len: usize) -> OptionalPart<'a>
-        ensures { λ r. ⌜ (r .pointer ≡ pointerTo (now (self .entry .system)) (now (self .entry .graphics)) va len) × Looked (self .entry .system) (self .entry .graphics) va len (r .part) ⌝ }
+        ensures pointer { λ r. ⌜ r .pointer ≡ pointerTo (now (self .entry .system)) (now (self .entry .graphics)) va len ⌝ }
+        ensures part { λ r. ⌜ Looked (self .entry .system) (self .entry .graphics) va len (r .part) ⌝ }
     {
         let pointer = pointer_to(self.system, self.graphics, va, len);
         let part = self.resolve(va, len);

@@ -27,16 +27,16 @@ good-by system graphics va len = by (inGraphics va) (inSystem va)
 
 module _ (system graphics : RefT (List ℕ)) (va len : ℕ) (bs : List ℕ) (at : ℕ × ℕ) where
   -- bs, which stand at a place in memory, are the part there
-  abbrev pub Found : Located → Type 0
-  Found (Graphics off) = (bs ≡ part (now graphics) off len) × (within (now graphics) off len ≡ true → at ≡ placeIn graphics off)
-  Found (System off) = (bs ≡ part (now system) off len) × (within (now system) off len ≡ true → at ≡ placeIn system off)
-  Found Nowhere = bs ≡ []
+  abbrev pub FoundAt : Located → Type 0
+  FoundAt (Graphics off) = (bs ≡ part (now graphics) off len) × (within (now graphics) off len ≡ true → at ≡ placeIn graphics off)
+  FoundAt (System off) = (bs ≡ part (now system) off len) × (within (now system) off len ≡ true → at ≡ placeIn system off)
+  FoundAt Nowhere = bs ≡ []
 
-  pub found : Found (located va) → (bs ≡ resolved (now system) (now graphics) va len) × (good (now system) (now graphics) va len ≡ true → at ≡ resolvedAt system graphics va)
+  pub found : FoundAt (located va) → (bs ≡ resolved (now system) (now graphics) va len) × (good (now system) (now graphics) va len ≡ true → at ≡ resolvedAt system graphics va)
   unfolding located good resolved resolvedAt
   found = by (inGraphics va) (inSystem va)
     where
-      by : (g s : Bool) → Found (cond g (Graphics (va - 0x60000000)) (cond s (System (va - 0x50000000)) Nowhere))
+      by : (g s : Bool) → FoundAt (cond g (Graphics (va - 0x60000000)) (cond s (System (va - 0x50000000)) Nowhere))
           → (bs ≡ cond g (part (now graphics) (va - 0x60000000) len) (cond s (part (now system) (va - 0x50000000) len) []))
           × (cond g (within (now graphics) (va - 0x60000000) len) (cond s (within (now system) (va - 0x50000000) len) false) ≡ true
           → at ≡ cond g (placeIn graphics (va - 0x60000000)) (placeIn system (va - 0x50000000)))

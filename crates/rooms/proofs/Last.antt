@@ -15,7 +15,7 @@ use Rattle.distinct.specs.Distinct.{withNew, distinctFrom}
 use Rattle.areas.specs.Areas.{seeded}
 use Rattle.write_pages.specs.Items.{Corner, cornersIn, triples, named}
 use Rattle.write_pages.specs.Sectors.{leafCounts}
-use Rattle.write_pages.specs.Pages.{loOf, extentOf, links, sectors, pages}
+use Rattle.write_pages.specs.Pages.{bbMin, bbSize, links, sectors, pages}
 use Rattle.write_pages.specs.Checks.{Verdict, fine, refused, faultIf, firstFault, at, cornerFault, cornersFault, polygonFault, polygonsVerdict, leafFault, leavesVerdict, cellVerdict}
 use Rattle.write_pages.specs.Accepted.{Accepted}
 use Rattle.write_pages.proofs.Accepted.{accepted}
@@ -111,7 +111,7 @@ module _ (words work out : ℕ) (c : Cell) (enough : words ≤ work / 4) where
   unfolding cellVerdict
   cell-twin =
       twin-at 0 _ _ _ (first-three (ltb (work / 4) words) (not (finiteBox (c .head))) (ltb 16383 (length (c .polys))) (le-ltb (work / 4) words enough))
-      (polygons-twin (loOf c) (extentOf c) [] (seeded (c .head .area)) 0 0 (c .polys) _ _
+      (polygons-twin (bbMin c) (bbSize c) [] (seeded (c .head .area)) 0 0 (c .polys) _ _
       (leaves-twin 0 (leafCounts (sectors c)) _ _
       (last-twin (ltb 585 (length (c .portals))) (ltb 8192 (length (links c))) (ltb out (length (pages c))) (ltb (length (pages c)) (length (pages c)))
       (le-ltb (length (pages c)) (length (pages c)) (omega arith)))))

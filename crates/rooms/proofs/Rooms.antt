@@ -13,7 +13,7 @@ use Rattle.write_blocks.specs.Optional.{sizeOf}
 use Rattle.write_pages.specs.Sectors as Sectors
 use Rattle.write_pages.specs.Sectors.{leafIds, treeOf, pointCount, depthBy, depthOf, rootBox}
 use Rattle.write_pages.specs.Pages as Pages
-use Rattle.write_pages.specs.Pages.{allCorners, loOf, extentOf, vertices, links, sectors, sizesOf, sizes, pages}
+use Rattle.write_pages.specs.Pages.{allCorners, bbMin, bbSize, vertices, links, sectors, sizesOf, sizes, pages}
 use Rattle.write_pages.specs.Reread.{reread}
 use Rattle.write_pages.specs.Accepted.{Accepted}
 use Rattle.write_pages.proofs.Placed.{few-corners, at-most-200, pages-placed}
@@ -40,7 +40,7 @@ sectors-most c =
     let h = c .head in
     let p : ℕ = length (c .polys) in
     let few : (q : QuarterBox) → length (leafIds q 0 (map boxOf (c .polys))) ≤ p = λ q. omega (arith, ids-few q 0 (map boxOf (c .polys)), length-map (c .polys) boxOf) in
-    let b : most (Sectors.sizes (sectors c)) ≤ treeMost p (depthOf h) + 16 * pointCount (sectors c) = tree-most _ _ p few (depthOf h) 0 (rootBox h) in
+    let b : most (Sectors.sizes (sectors c)) ≤ treeMost p (depthOf (h .content)) + 16 * pointCount (sectors c) = tree-most _ _ p few (depthOf (h .content)) 0 (rootBox h) in
     omega (arith, tree-deep p (h .content / 2 ^ 2 % 2))
 
 -- ---- all blocks
@@ -131,7 +131,7 @@ module _ (c : Cell) where
     unfolding pages
     pages-room =
         let least = words-least c in
-        let corners = three-corners (loOf c) (extentOf c) 0 (c .polys) (acc .checked) in
+        let corners = three-corners (bbMin c) (bbSize c) 0 (c .polys) (acc .checked) in
         let few = few-distinct in
         let stored = stored-at-most c in
         let whole : length (pages c) ≤ 6553600 = omega (arith, pages-placed c acc .short, at-most-200 c acc) in

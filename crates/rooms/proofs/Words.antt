@@ -12,7 +12,7 @@ use Rattle.read_edge_words.proofs.Edges.{edge-six}
 use Rattle.write_pages.specs.Items.{gather, cornersIn, corners, linksOf}
 use Rattle.write_pages.specs.Sectors.{pointCount}
 use Rattle.write_pages.specs.Preorder.{preorder}
-use Rattle.write_pages.specs.Pages.{allCorners, loOf, extentOf, links, sectors}
+use Rattle.write_pages.specs.Pages.{allCorners, bbMin, bbSize, links, sectors}
 use Rattle.write_pages.specs.Reread.{edgeAgain, positionAgain, polygonAgain, portalAgain, pointAgain, reread}
 use Rattle.write_pages.specs.Accepted.{AllChecked}
 use Rattle.write_pages.proofs.Placed.{length-corners}
@@ -68,15 +68,15 @@ module _ (c : Cell) where
   -- edges may be missing
   pub words-least : 15 + 4 * length (c .polys) + length (links c) + 3 * length (allCorners c) + 11 * length (c .portals) + 4 * length (c .points) ≤ length (encode c)
   unfolding links
-  words-least = omega (arith, length-encode c, polygons-words (loOf c) (extentOf c) (c .polys))
+  words-least = omega (arith, length-encode c, polygons-words (bbMin c) (bbSize c) (c .polys))
 
   -- and are there when the cell is read again; points that were dropped are not
   pub words-again : length (encode (reread c))
       ≡ 15 + 4 * length (c .polys) + length (links c) + 9 * length (allCorners c) + 11 * length (c .portals) + 4 * pointCount (sectors c)
   unfolding reread links polygonAgain
   words-again =
-      let bb-min = loOf c in
-      let bb-size = extentOf c in
+      let bb-min = bbMin c in
+      let bb-size = bbSize c in
       let again = polygonAgain bb-min bb-size in
       let ls : length (linksOf (map again (c .polys))) ≡ length (linksOf (c .polys)) = gather-made (λ p. p .links) (λ p. p .links) again (λ p. refl) (c .polys) in
       let ks : length (corners bb-min bb-size (map again (c .polys))) ≡ length (corners bb-min bb-size (c .polys)) =

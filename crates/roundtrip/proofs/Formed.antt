@@ -10,7 +10,7 @@ use Rattle.strip.proofs.Readback.{scan-encode}
 use Rattle.strip.proofs.Alls.{all-map, all-images}
 use Rattle.write_pages.specs.Items.{cornersIn}
 use Rattle.write_pages.specs.Preorder.{preorder}
-use Rattle.write_pages.specs.Pages.{loOf, extentOf, sectors}
+use Rattle.write_pages.specs.Pages.{bbMin, bbSize, sectors}
 use Rattle.write_pages.specs.Reread.{halfAgain, edgeAgain, positionAgain, polygonAgain, portalAgain, pointAgain, reread}
 use Rattle.write_pages.proofs.Placed.{length-corners}
 use Rattle.readback.proofs.Root.{sectors-points}
@@ -57,9 +57,9 @@ module _ (bb-min bb-size : Floats) where
 reread-fits : (c : Cell) → Fits c → Fits (reread c)
 unfolding reread
 reread-fits c f = record {
-  polys = all-map PolygonFits PolygonFits (polygonAgain (loOf c) (extentOf c)) (polygon-fits (loOf c) (extentOf c)) (c .polys) (f .polys);
-  portals = all-map PortalFits PortalFits (portalAgain (loOf c) (extentOf c)) (portal-fits (loOf c) (extentOf c)) (c .portals) (f .portals);
-  points = all-map PointFits PointFits (pointAgain (loOf c) (extentOf c)) (point-fits (loOf c) (extentOf c)) (preorder (sectors c)) (sectors-points c PointFits (f .points));
+  polys = all-map PolygonFits PolygonFits (polygonAgain (bbMin c) (bbSize c)) (polygon-fits (bbMin c) (bbSize c)) (c .polys) (f .polys);
+  portals = all-map PortalFits PortalFits (portalAgain (bbMin c) (bbSize c)) (portal-fits (bbMin c) (bbSize c)) (c .portals) (f .portals);
+  points = all-map PointFits PointFits (pointAgain (bbMin c) (bbSize c)) (point-fits (bbMin c) (bbSize c)) (preorder (sectors c)) (sectors-points c PointFits (f .points));
 }
 
 pub reread-scans : (c : Cell) → Fits c → scan (encode (reread c)) ≡ Scanned.ok (reread c)

@@ -31,4 +31,4 @@ module _ (strip : List ℕ) (work : ℕ) (old : List ℕ) (words : Words strip) 
   points-read graphics lent p told =
       let s = saved strip work old words v said in
       let r = returned strip work old words v said graphics lent p told in
-      ap (λ (q : Parsed). q .points) (r .counts) ∙ ap (λ c. length (c .points)) (r .whole) ∙ read-count (s .cell) ∙ stored-told
+      ap (λ (q : Parsed). q .points) (r .counts-are) ∙ ap (λ c. length (c .points)) (r .cell-is) ∙ read-count (s .cell) ∙ stored-told

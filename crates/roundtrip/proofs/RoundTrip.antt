@@ -23,7 +23,7 @@ use Rattle.read_decide.specs.declared.Parsed.{Parsed}
 use Rattle.read_decide.specs.Answer.{countsOf}
 use Rattle.ynv_read.proofs.Theorems.{accepted-exactly as read-exactly, too-short-exactly}
 use Rattle.write_pages.specs.Preorder.{sectorCount, preorder}
-use Rattle.write_pages.specs.Pages.{loOf, extentOf, sectors, pages}
+use Rattle.write_pages.specs.Pages.{bbMin, bbSize, sectors, pages}
 use Rattle.write_pages.specs.Checks.{refused}
 use Rattle.write_pages.specs.Reread.{portalAgain, pointAgain, reread}
 use Rattle.write_pages.specs.Accepted.{Accepted}
@@ -44,9 +44,9 @@ each-image R f good (a ∷ l) = more (good a) (each-image R f good l)
 
 portals-kept : (c : Cell) → Each KeptPortal (c .portals) (reread c .portals)
 unfolding reread portalAgain
-portals-kept c = each-image KeptPortal (portalAgain (loOf c) (extentOf c)) one (c .portals)
+portals-kept c = each-image KeptPortal (portalAgain (bbMin c) (bbSize c)) one (c .portals)
   where
-    one : (p : NavPortal) → KeptPortal p (portalAgain (loOf c) (extentOf c) p)
+    one : (p : NavPortal) → KeptPortal p (portalAgain (bbMin c) (bbSize c) p)
     one p = record {
       kind = refl;
       angle = refl;
@@ -60,7 +60,7 @@ portals-kept c = each-image KeptPortal (portalAgain (loOf c) (extentOf c)) one (
 
 points-kept : (c : Cell) → Each KeptPoint (preorder (sectors c)) (reread c .points)
 unfolding reread pointAgain
-points-kept c = each-image KeptPoint (pointAgain (loOf c) (extentOf c)) (λ t. record { angle = refl; kind = refl }) (preorder (sectors c))
+points-kept c = each-image KeptPoint (pointAgain (bbMin c) (bbSize c)) (λ t. record { angle = refl; kind = refl }) (preorder (sectors c))
 
 head-kept : (c : Cell) → reread c .head ≡ c .head
 unfolding reread
@@ -80,7 +80,7 @@ module _ (c : Cell) (range : InRange c) (acc : Accepted c) (tail graphics lent :
 
   pub enough : length (encode (reread c)) ≤ length lent → opening S graphics lent ≡ Outcome.done P (encode (reread c))
   unfolding derived
-  enough h = read-exactly S graphics (length lent) P (encode (reread c)) .1 (record { derived = derived; fits = h; counts = refl })
+  enough h = read-exactly S graphics (length lent) P (encode (reread c)) .1 (record { derived = derived; fits = h; counts-are = refl })
 
   lacking : length lent < length (encode (reread c)) → opening S graphics lent ≡ Outcome.refused 2 0
   lacking h = too-short-exactly S graphics (length lent) .1 (encode (reread c), derived, h)
@@ -96,7 +96,7 @@ module _ (c : Cell) (range : InRange c) (acc : Accepted c) (tail graphics lent :
 
   opens : Opened c S graphics lent
   opens = record {
-    counts = λ h. ap shown (enough h);
+    counts-shown = λ h. ap shown (enough h);
     words = λ h. ap (λ (o : Outcome Parsed). left o lent) (enough h);
     too-short = λ h. ap shown (lacking h);
     no-other = λ number place said.
@@ -110,12 +110,12 @@ module _ (c : Cell) (range : InRange c) (acc : Accepted c) (tail graphics lent :
   again = record {
     cell = reread c;
     formed = reread-scans c (range .fits);
-    counts = refl;
+    counts-are = refl;
     head = head-kept c;
     polygons = reread-kept c;
     portals = portals-kept c;
     points = points-kept c;
-    whole = refl;
+    cell-is = refl;
   }
 
   returns : (p : Parsed) → shown (opening S graphics lent) ≡ values p → Returned c p (take (p .words) (openedStrip S graphics lent))

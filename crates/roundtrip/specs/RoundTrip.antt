@@ -50,7 +50,7 @@ withPages c old = pages c ++ drop (length (pages c)) old
 -- Reading the pages that c was saved in, into a lent strip: one with room for the cell as it is read again gets its words and keeps the rest; a shorter
 -- one is refused with 2; nothing else is ever said.
 pub record Opened (c : Cell) (saved graphics lent : List ℕ) : Type 0 where
-  pub counts : length (encode (reread c)) ≤ length lent → shown (opening saved graphics lent) ≡ values (countsOf (reread c) (sectorCount (sectors c)))
+  pub counts-shown : length (encode (reread c)) ≤ length lent → shown (opening saved graphics lent) ≡ values (countsOf (reread c) (sectorCount (sectors c)))
   pub words : length (encode (reread c)) ≤ length lent → openedStrip saved graphics lent ≡ encode (reread c) ++ drop (length (encode (reread c))) lent
   pub too-short : length lent < length (encode (reread c)) → shown (opening saved graphics lent) ≡ refusal 2 0
   pub no-other : (number place : ℕ) → shown (opening saved graphics lent) ≡ refusal number place → (number ≡ 2) × (place ≡ 0)
@@ -74,7 +74,7 @@ pub record KeptPoint (p q : NavPoint) : Type 0 where
 pub record Returned (c : Cell) (p : Parsed) (w : List ℕ) : Type 0 where
   pub cell : Cell
   pub formed : scan w ≡ Scanned.ok cell
-  pub counts : p ≡ countsOf cell (sectorCount (sectors c))
+  pub counts-are : p ≡ countsOf cell (sectorCount (sectors c))
   -- content flags, area id, version, vft and box
   pub head : cell .head ≡ c .head
   -- every polygon in order, with flags, vertex count, links and edges
@@ -83,4 +83,4 @@ pub record Returned (c : Cell) (p : Parsed) (w : List ℕ) : Type 0 where
   -- points leaf by leaf; one in no leaf is gone
   pub points : Each KeptPoint (preorder (sectors c)) (cell .points)
   -- and nothing is left open: positions are those of the grid of shorts
-  pub whole : cell ≡ reread c
+  pub cell-is : cell ≡ reread c

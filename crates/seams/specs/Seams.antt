@@ -4,7 +4,7 @@ use mathlib.Core.List.{List, [], _∷_}
 use mathlib.Core.Bool.{Bool, _||_}
 use lib.Dec.{eqb}
 use Rattle.strip.specs.Cell.{Cell, NavEdgeEnd, NavEdge, NavPoly}
-use Rattle.strip.specs.Tests.{one}
+use Rattle.strip.specs.Tests.{oneIf}
 use Rattle.strip.specs.Scan.{scan}
 use Rattle.strip.specs.Outcome.{Outcome, done, Paper, values, refusalOf}
 use Rattle.strip.specs.Check.{onCell}
@@ -26,7 +26,7 @@ counted own h = touch own (h .area)
 -- how many halves pass a test, of edges and of polygons
 unfoldable pub edgeCount : (NavEdgeEnd → Bool) → List NavEdge → ℕ
 edgeCount test [] = 0
-edgeCount test (e ∷ es) = one (test (e .a)) + one (test (e .b)) + edgeCount test es
+edgeCount test (e ∷ es) = oneIf (test (e .a)) + oneIf (test (e .b)) + edgeCount test es
 
 unfoldable pub halfCount : (NavEdgeEnd → Bool) → List NavPoly → ℕ
 halfCount test [] = 0

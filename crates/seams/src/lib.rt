@@ -6,7 +6,7 @@ ghost use Rattle.fields.specs.Bytes.{over};
 ghost use Rattle.answers.specs.Words.{numberOf, answerWords};
 ghost use Rattle.strip.specs.Reading.{halfAt, edgesAt};
 ghost use Rattle.strip.specs.Rows.{polygonsAt, afterPolygons};
-ghost use Rattle.strip.specs.Tests.{one};
+ghost use Rattle.strip.specs.Tests.{oneIf};
 ghost use Rattle.strip.specs.Outcome.{shown};
 ghost use Rattle.seams.specs.Seams as Seams;
 ghost use Rattle.seams.specs.Seams.{counted, edgeCount, halfCount, paper, seamOutcome};
@@ -35,7 +35,7 @@ fn touch(own: u32, area: u32) -> bool
 // 1 if the half at `at` is counted, otherwise 0.
 fn half_seams(strip: &[u32], at: usize, own: u32) -> u64
     requires { ⌜ at + 3 ≤ length (now strip) ⌝ }
-    ensures { λ r. ⌜ (r ≡ one (counted own (halfAt (now (strip .entry)) at))) × (r ≤ 1) ⌝ }
+    ensures { λ r. ⌜ (r ≡ oneIf (counted own (halfAt (now (strip .entry)) at))) × (r ≤ 1) ⌝ }
 {
     if touch(own, strip[at]) { 1 } else { 0 }
 }

@@ -17,7 +17,7 @@ unfolding finiteBox
 box-finite h e =
     let (f, g) = and-eq-true-iff (finiteVec (h .bb-min)) (finiteVec (h .bb-max) && finiteVec (h .bb-size)) .0 e in
     let (i, j) = and-eq-true-iff (finiteVec (h .bb-max)) (finiteVec (h .bb-size)) .0 g in
-    record { min = vec-finite (h .bb-min) f; max = vec-finite (h .bb-max) i; size = vec-finite (h .bb-size) j }
+    record { bb-min = vec-finite (h .bb-min) f; bb-max = vec-finite (h .bb-max) i; bb-size = vec-finite (h .bb-size) j }
 
 -- a test by what it answered
 pub failed : {x a : Bool} → x ≡ a → not x ≡ true → a ≡ false

@@ -26,7 +26,7 @@ pub record Laid (s : List ℕ) (at rank : ℕ) (ps : List NavPoly) (qs : List Na
   pub polys : ps ≡ polygonsAt s at (length ps)
   pub portals : qs ≡ portalsAt s (afterPolygons s at (length ps)) (length qs)
   pub points : ts ≡ pointsAt s (afterPolygons s at (length ps) + 11 * length qs) (length ts)
-  pub whole : length s ≡ afterPolygons s at (length ps) + 11 * length qs + 4 * length ts + 1
+  pub length-is : length s ≡ afterPolygons s at (length ps) + 11 * length qs + 4 * length ts + 1
   pub no-polys : portalRank ≤ rank → length ps ≡ 0
   pub no-portals : pointRank ≤ rank → length qs ≡ 0
 
@@ -42,7 +42,7 @@ module _ (s : List ℕ) (at rank : ℕ) where
         polys = ap (λ (l : List NavPoly). polygonAt s at ∷ l) (h .polys);
         portals = h .portals;
         points = h .points;
-        whole = h .whole;
+        length-is = h .length-is;
         no-polys = λ k. absurd (omega arith);
         no-portals = λ k. absurd (omega arith);
       }
@@ -55,7 +55,7 @@ module _ (s : List ℕ) (at rank : ℕ) where
         polys = refl;
         portals = ap (λ (l : List NavPortal). portalAt s at ∷ l) (h .portals);
         points = h .points ∙ ap (λ n. pointsAt s n (length ts)) (omega arith);
-        whole = h .whole ∙ omega arith;
+        length-is = h .length-is ∙ omega arith;
         no-polys = λ k. refl;
         no-portals = λ k. absurd (omega arith);
       }
@@ -69,7 +69,7 @@ module _ (s : List ℕ) (at rank : ℕ) where
         polys = refl;
         portals = refl;
         points = ap (λ (l : List NavPoint). pointAt s at ∷ l) (h .points ∙ ap (λ n. pointsAt s n (length ts)) (omega arith)) ∙ ap (λ n. pointsAt s n (suc (length ts))) (omega arith);
-        whole = h .whole ∙ omega arith;
+        length-is = h .length-is ∙ omega arith;
         no-polys = λ k. refl;
         no-portals = λ k. refl;
       }
@@ -80,7 +80,7 @@ module _ (s : List ℕ) (at rank : ℕ) where
   laid-end : at < length s → length s ≤ at + 1 → LaidRest s at rank (Rest.good [] [] [])
   unfolding itemsAt after
   laid-end h k =
-      record { polys = refl; portals = refl; points = refl; whole = omega arith; no-polys = λ k. refl; no-portals = λ k. refl }
+      record { polys = refl; portals = refl; points = refl; length-is = omega arith; no-polys = λ k. refl; no-portals = λ k. refl }
 
   laid-on : (go : ℕ → ℕ → Rest) → ((n l : ℕ) → 1 ≤ l → LaidRest s n l (go n l)) → 1 ≤ rank
       → {r : Record} → Judged s at rank r → LaidRest s at rank (onRecord r go s at)
@@ -130,7 +130,7 @@ cell-at s c l = rw (← l .head, ← l .body .polys, ← l .body .portals, ← l
 well-on : (s : List ℕ) (n : Counts) (d : Scanned) → scan s ≡ d → LaidCell s d → values n ≡ shown (onCell countsOf d) → Well s n
 well-on s n (Scanned.ok c) e l k =
     let same : cellCounts c ≡ n = cc in
-    rw (← same) (record { is = e ∙ ap Scanned.ok (cell-at s c l); whole = l .body .whole; long = l .long })
+    rw (← same) (record { is = e ∙ ap Scanned.ok (cell-at s c l); length-is = l .body .length-is; long = l .long })
 well-on s n (Scanned.fault number place) e l k = let z : _≡_ {A = ℕ} 0 1 = cc in absurd (omega arith)
 
 -- the answer's promise, and which case it is

@@ -2,6 +2,7 @@ pub mod Box
 pub mod Alls
 pub mod Steps
 pub mod Lengths
+pub mod Papers
 pub mod Judged
 pub mod Laid
 pub mod Bits

@@ -11,6 +11,6 @@ pub record FiniteVec (v : Vec3) : Type 0 where
   pub z : finiteBits (v .z) ≡ true
 
 pub record FiniteBox (h : Head) : Type 0 where
-  pub min : FiniteVec (h .bb-min)
-  pub max : FiniteVec (h .bb-max)
-  pub size : FiniteVec (h .bb-size)
+  pub bb-min : FiniteVec (h .bb-min)
+  pub bb-max : FiniteVec (h .bb-max)
+  pub bb-size : FiniteVec (h .bb-size)

@@ -37,5 +37,5 @@ cellAt s n =
 -- what a pass knows of a strip that `check_strip` takes with these counts
 pub record Well (s : List ℕ) (n : Counts) : Type 0 where
   pub is : scan s ≡ Scanned.ok (cellAt s n)
-  pub whole : Whole s n
+  pub length-is : Whole s n
   pub long : 14 ≤ length s

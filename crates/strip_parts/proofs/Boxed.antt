@@ -34,7 +34,7 @@ module _ (s : List ℕ) where
       by false b h = let z : _≡_ {A = ℕ} 0 1 = cc in absurd (omega arith)
       by true b h =
           let w : Well s n = well-cell s c e n (cc h) in
-          record { formed = w; finite = rw (cell-is s w c e) at b }
+          record { formed = w; finite-box = rw (cell-is s w c e) at b }
 
   -- the answer's promise, and which case it is
   pub boxed : (n : Counts) (r : StripAnswer) → paper r ≡ shown (cellOutcome s) → r ≡ WellFormed n → Boxed s n
@@ -42,7 +42,7 @@ module _ (s : List ℕ) where
 
   -- then any call decides what it decides of the cell
   pub on-box : {A : Type 0} (f : Cell → Outcome A) {n : Counts} → Boxed s n → boxOutcome f s ≡ f (cellAt s n)
-  on-box f b = rw (b .formed .is, b .finite)
+  on-box f b = rw (b .formed .is, b .finite-box)
 
   not-on : {A : Type 0} (f : Cell → Outcome A) (q : Refusal) (d : Scanned) → refusalOf q ≡ shown (onCell (onBox countsOf) d) → onCell (onBox f) d ≡ refused (q .number) (q .place)
   not-on f q (fault number place) k = cc

@@ -18,4 +18,4 @@ cellOutcome s = boxOutcome countsOf s
 -- what a pass knows of a strip that `check_cell` takes with these counts
 pub record Boxed (s : List ℕ) (n : Counts) : Type 0 where
   pub formed : Well s n
-  pub finite : finiteBox (headAt s 0) ≡ true
+  pub finite-box : finiteBox (headAt s 0) ≡ true

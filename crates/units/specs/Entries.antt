@@ -29,12 +29,12 @@ indexOr32 (refusal number place) = 32
 abbrev pub indexOrFull : (ℕ → Paper ℕ) → ℕ
 indexOrFull at = indexOr32 (at 0)
 
--- the shorts of the first n vertices, three to a vertex, in the box of lo and size
+-- the shorts of the first n vertices, three to a vertex, in the box of bb_min and bb_size
 unfoldable pub shortsTo : List ℕ → Vec3 → Vec3 → ℕ → List ℕ
-shortsTo ws lo size zero = []
-shortsTo ws lo size (suc n) =
-    shortsTo ws lo size n
-    ++ (short (floatsAt ws (3 * n) .x) (lo .x) (size .x) ∷ short (floatsAt ws (3 * n) .y) (lo .y) (size .y) ∷ short (floatsAt ws (3 * n) .z) (lo .z) (size .z) ∷ [])
+shortsTo ws bb-min bb-size zero = []
+shortsTo ws bb-min bb-size (suc n) =
+    shortsTo ws bb-min bb-size n
+    ++ (short (floatsAt ws (3 * n) .x) (bb-min .x) (bb-size .x) ∷ short (floatsAt ws (3 * n) .y) (bb-min .y) (bb-size .y) ∷ short (floatsAt ws (3 * n) .z) (bb-min .z) (bb-size .z) ∷ [])
 
 -- how many vertices there are; 65537 where there are too many (14), 65538 where there is too little work (1)
 abbrev pub countOrWhy : Paper ℕ → ℕ

@@ -108,18 +108,18 @@ fn store(out: &mut [u32], at: usize, q: Shorts)
     out[at + 2] = q.z as u32;
 }
 
-// The shorts of each vertex, three words to a vertex, in a box given by lo and extent; as many as both slices hold, which is the answer.
+// The shorts of each vertex, three words to a vertex, in a box given by bb_min and bb_size; as many as both slices hold, which is the answer.
 #[no_mangle]
 pub extern "C" fn leaf_quantise_all(vertices: &[u32], bounds: &[u32; 6], out: &mut [u32]) -> usize
     ensures count { λ r. ⌜ r ≡ min (length (now (vertices .entry)) / 3) (length (now (out .entry)) / 3) ⌝ }
     ensures content { λ r. ⌜ now (out .exit) ≡ over (shortsTo (now (vertices .entry)) (floatsAt (now (bounds .entry)) 0) (floatsAt (now (bounds .entry)) 3) r) (now (out .entry)) ⌝ }
 {
-    let lo = floats_at(bounds, 0);
-    let size = floats_at(bounds, 3);
+    let bb_min = floats_at(bounds, 0);
+    let bb_size = floats_at(bounds, 3);
     let n = fields::least(vertices.len() / 3, out.len() / 3);
     let mut i = 0;
     while i < n {
-        let q = quantise::short::quantise(floats_at(vertices, 3 * i), lo, size);
+        let q = quantise::short::quantise(floats_at(vertices, 3 * i), bb_min, bb_size);
         store(out, 3 * i, q);
         i += 1;
     }

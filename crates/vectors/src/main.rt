@@ -5,7 +5,7 @@ ghost use Prim.Native.Nat.{ℕ, _+_, _*_, _≤_, _<_};
 ghost use lib.ListN.{length, getD};
 ghost use Rattle.fields.specs.Bytes.{leAt};
 ghost use Rattle.replay.specs.Tallies.{Tallied, Step};
-ghost use Rattle.leaf_replay.specs.Agreement.{AgreesAt, Asked, TallyOf, Stands};
+ghost use Rattle.leaf_replay.specs.Agreement.{AgreesAt, Asked, TallyOf, LeafRecordInside};
 use leaf_replay::Record;
 use leaf_replay::agrees;
 use leaf_replay::record_at;
@@ -18,8 +18,9 @@ use replay::tallied;
 
 // The tally with the record at a place, where the record's tag is from low to high.
 fn with_record(words: &[u32], at: usize, r: Record, t: Tally, low: u32, high: u32) -> Tally
-    requires { ⌜ Stands at r (length (now words)) × Tallied (length (now words)) at t ⌝ }
-    ensures { λ s. ⌜ Step (Asked (now (words .entry)) low high at) (AgreesAt (now (words .entry)) at r) t at s × Tallied (length (now (words .entry))) (at + 1) s ⌝ }
+    requires { ⌜ LeafRecordInside at r (length (now words)) × Tallied (length (now words)) at t ⌝ }
+    ensures step { λ s. ⌜ Step (Asked (now (words .entry)) low high at) (AgreesAt (now (words .entry)) at r) t at s ⌝ }
+    ensures bound { λ s. ⌜ Tallied (length (now (words .entry))) (at + 1) s ⌝ }
 {
     let tag = words[at];
     let input = r.input;

@@ -185,7 +185,7 @@ pub record Ends (end w n : ℕ) : Type 0 where
   pub table : behind end 48 ≤ tableAt end (partCount w n)
   pub parts : partsFrom end (partCount w n) ≤ itemsEnd end w n
   pub offsets : itemsEnd end w n ≤ endOf end (listSizes w n)
-  pub whole : endOf end (listSizes w n) ≡ endOf (itemsEnd end w n) (offsetSizes (partCount w n))
+  pub end-is : endOf end (listSizes w n) ≡ endOf (itemsEnd end w n) (offsetSizes (partCount w n))
 
 pub list-ends : (end w n : ℕ) → Ends end w n
 list-ends end w n =
@@ -196,7 +196,7 @@ list-ends end w n =
       table = place-ge (behind end 48) (16 * k);
       parts = end-ge (partsFrom end k) (partSizes w n);
       offsets = omega (arith, e, end-ge (itemsEnd end w n) (offsetSizes k));
-      whole = e;
+      end-is = e;
     }
 
 -- the layout behind its items ends there
@@ -208,7 +208,7 @@ pub room-parts : {end w n : ℕ} → ListRoom end w n (listSizes w n) → ListRo
 room-parts {end} {w} {n} r = record { some = r .some; page = r .page; table = r .table; below = omega (arith, list-ends end w n, r .below) }
 
 pub room-offsets : {end w n : ℕ} → ListRoom end w n (listSizes w n) → ListRoom (itemsEnd end w n) w n (offsetSizes (partCount w n))
-room-offsets {end} {w} {n} r = record { some = r .some; page = r .page; table = r .table; below = rw (list-ends end w n .whole) at (r .below) }
+room-offsets {end} {w} {n} r = record { some = r .some; page = r .page; table = r .table; below = rw (list-ends end w n .end-is) at (r .below) }
 
 -- the offsets' block, where there is a part
 pub offsets-below : {end w n : ℕ} (k : ℕ) → ListRoom end w n (offsetSizes (partCount w n)) → k ≡ partCount w n → (k ≡ 0 → ⊥) → behind end (4 * k) < 2 ^ 28

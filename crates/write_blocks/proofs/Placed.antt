@@ -13,13 +13,13 @@ use Rattle.fields.specs.Bytes.{zeros}
 use Rattle.fields.proofs.Holds.{Holds, held-end}
 use Rattle.write_blocks.specs.Layout.{placeOf, behind, layBlock, layBlocks, pagesOf}
 use Rattle.write_blocks.specs.Laid.{startAt, lengths}
-use Rattle.write_blocks.specs.Placed.{Small, start, size, Placed}
+use Rattle.write_blocks.specs.Placed.{Small, start, blockSize, Placed}
 use Rattle.write_blocks.proofs.Layouts.{place-ge, place-aligned, place-in-page, end-near, length-lay, length-blocks, length-lengths}
 use Rattle.write_blocks.proofs.Standing.{stand, stand-at}
 
 -- a byte of what stands at a place
 held-byte : {s : List ℕ} {at : ℕ} {b : List ℕ} → Holds s at b → (k : ℕ) → k < length b → getD s (at + k) 0 ≡ getD b k 0
-held-byte {s} {at} {b} h k l = rw (h .whole, ← (h .place), getD-append-add (h .before) (b ++ h .behind) k 0) (List·getD-append b (h .behind) 0 k l)
+held-byte {s} {at} {b} h k l = rw (h .joined, ← (h .place), getD-append-add (h .before) (b ++ h .following) k 0) (List·getD-append b (h .following) 0 k l)
 
 -- ---- blocks behind any end
 
@@ -28,7 +28,7 @@ starts-aligned end [] i h = absurd (omega arith)
 starts-aligned end (b ∷ bs) zero h = place-aligned end (length b)
 starts-aligned end (b ∷ bs) (suc i) h = starts-aligned (behind end (length b)) bs i (omega arith)
 
-starts-in-page : (end : ℕ) (bs : List (List ℕ)) (i : ℕ) → Small (lengths bs) → i < length bs → startAt end (lengths bs) i % 16384 + size bs i ≤ 16384
+starts-in-page : (end : ℕ) (bs : List (List ℕ)) (i : ℕ) → Small (lengths bs) → i < length bs → startAt end (lengths bs) i % 16384 + blockSize bs i ≤ 16384
 starts-in-page end [] i few h = absurd (omega arith)
 starts-in-page end (b ∷ bs) zero few h = place-in-page end (length b) (few .0)
 starts-in-page end (b ∷ bs) (suc i) few h = starts-in-page (behind end (length b)) bs i (few .1) (omega arith)
@@ -38,7 +38,7 @@ starts-ge end [] i h = absurd (omega arith)
 starts-ge end (b ∷ bs) zero h = place-ge end (length b)
 starts-ge end (b ∷ bs) (suc i) h = omega (arith, place-ge end (length b), starts-ge (behind end (length b)) bs i (omega arith))
 
-starts-ascend : (end : ℕ) (bs : List (List ℕ)) (i j : ℕ) → i < j → j < length bs → startAt end (lengths bs) i + size bs i ≤ startAt end (lengths bs) j
+starts-ascend : (end : ℕ) (bs : List (List ℕ)) (i j : ℕ) → i < j → j < length bs → startAt end (lengths bs) i + blockSize bs i ≤ startAt end (lengths bs) j
 starts-ascend end [] i j l h = absurd (omega arith)
 starts-ascend end (b ∷ bs) i zero l h = absurd (omega arith)
 starts-ascend end (b ∷ bs) zero (suc j) l h = starts-ge (behind end (length b)) bs j (omega arith)
@@ -46,7 +46,7 @@ starts-ascend end (b ∷ bs) (suc i) (suc j) l h = starts-ascend (behind end (le
 
 -- byte p of them, counted from `end`, is in one of them or zero
 skipped-from : (end : ℕ) (bs : List (List ℕ)) (p : ℕ) → p < length (layBlocks end bs)
-    → ((i : ℕ) → i < length bs → startAt end (lengths bs) i ≤ end + p → end + p < startAt end (lengths bs) i + size bs i → ⊥)
+    → ((i : ℕ) → i < length bs → startAt end (lengths bs) i ≤ end + p → end + p < startAt end (lengths bs) i + blockSize bs i → ⊥)
     → getD (layBlocks end bs) p 0 ≡ 0
 skipped-from end [] p h f = absurd (omega arith)
 skipped-from end (b ∷ bs) p h f = by (leb (suc p) gap) (leb (suc p) long) refl refl (skipped-from next bs (p - long))
@@ -65,7 +65,7 @@ skipped-from end (b ∷ bs) p h f = by (leb (suc p) gap) (leb (suc p) long) refl
 
     by : (s t : Bool) → leb (suc p) gap ≡ s → leb (suc p) long ≡ t
         → (p - long < length rest
-        → ((i : ℕ) → i < length bs → startAt next (lengths bs) i ≤ next + (p - long) → next + (p - long) < startAt next (lengths bs) i + size bs i → ⊥)
+        → ((i : ℕ) → i < length bs → startAt next (lengths bs) i ≤ next + (p - long) → next + (p - long) < startAt next (lengths bs) i + blockSize bs i → ⊥)
         → getD rest (p - long) 0 ≡ 0)
         → getD (layBlock end b ++ rest) p 0 ≡ 0
     -- before the block
@@ -105,5 +105,5 @@ blocks-placed bs few =
     held : (i : ℕ) → i < length bs → Holds (pagesOf bs) (start bs i) (getD bs i [])
     held i h = stand-at (pagesOf bs) 0 bs i h (stand bs)
 
-    byte : (i k : ℕ) → i < length bs → k < size bs i → getD (pagesOf bs) (start bs i + k) 0 ≡ getD (getD bs i []) k 0
+    byte : (i k : ℕ) → i < length bs → k < blockSize bs i → getD (pagesOf bs) (start bs i + k) 0 ≡ getD (getD bs i []) k 0
     byte i k h l = held-byte (held i h) k l

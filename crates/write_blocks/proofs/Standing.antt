@@ -27,8 +27,8 @@ stand-from end (b ∷ bs) p t e =
     let w : p ++ ((layBlock end b ++ rest) ++ t) ≡ (p ++ layBlock end b) ++ (rest ++ t) = simp append-assoc in
     let first : Holds (p ++ ((layBlock end b ++ rest) ++ t)) (placeOf end (length b)) b = record {
       before = p ++ z;
-      behind = rest ++ t;
-      whole = simp append-assoc;
+      following = rest ++ t;
+      joined = simp append-assoc;
       place = rw (length-append p z, length-replicate {A = ℕ} (placeOf end (length b) - end) 0) (omega (arith, place-ge end (length b)));
     } in
     (first, subst (λ (s : List ℕ). Stand s (behind end (length b)) bs) (sym w) (stand-from (behind end (length b)) bs (p ++ layBlock end b) t l))

@@ -10,9 +10,12 @@ use Rattle.fields.specs.Bytes.{zeros}
 abbrev pub aligned : ℕ → ℕ
 aligned end = (end + 15) / 16 * 16
 
+abbrev pub PAGE-SIZE : ℕ
+PAGE-SIZE = 16384
+
 -- where a block of `size` bytes starts: there, or at the next page if it wouldn't fit
 unfoldable pub placeOf : ℕ → ℕ → ℕ
-placeOf end size = cond (leb (aligned end % 16384 + size) 16384) (aligned end) ((aligned end / 16384 + 1) * 16384)
+placeOf end size = cond (leb (aligned end % PAGE-SIZE + size) PAGE-SIZE) (aligned end) ((aligned end / PAGE-SIZE + 1) * PAGE-SIZE)
 
 -- the end behind a block
 abbrev pub behind : ℕ → ℕ → ℕ

@@ -3,7 +3,7 @@ use Prim.Native.Nat.{ℕ, _^_, _≤_, _<_}
 use mathlib.Core.Path.{_≡_}
 use mathlib.Core.List.{List, [], _∷_}
 use lib.ListN.{length}
-use Rattle.write_blocks.specs.Layout.{endOf}
+use Rattle.write_blocks.specs.Layout.{PAGE-SIZE, endOf}
 use Rattle.write_blocks.specs.Lists.{partCount}
 
 -- items of w bytes each
@@ -15,6 +15,6 @@ Wide w (b ∷ items) = (length b ≡ w) × Wide w items
 -- on, stay below 2^28, where an address is the system section's
 pub record ListRoom (end w n : ℕ) (ns : List ℕ) : Type 0 where
   pub some : 1 ≤ w
-  pub page : w ≤ 16384
+  pub page : w ≤ PAGE-SIZE
   pub table : partCount w n ≤ 1024
   pub below : endOf end ns < 2 ^ 28

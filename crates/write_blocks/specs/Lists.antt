@@ -5,12 +5,16 @@ use mathlib.Core.List.{List, [], _∷_, _++_, map}
 use lib.ListN.{length, take, drop}
 use Rattle.fields.specs.Bytes.{les, cat}
 use Rattle.fields.specs.Rows.{rowBytes}
-use Rattle.write_blocks.specs.Layout.{placeOf, behind, endOf, address}
+use Rattle.write_blocks.specs.Layout.{PAGE-SIZE, placeOf, behind, endOf, address}
 use Rattle.fields.specs.Sizes.{LIST-PART-SIZE, LIST-SIZE}
+
+-- a part's items take at most a page
+abbrev pub PART-SIZE : ℕ
+PART-SIZE = PAGE-SIZE
 
 -- how many items of w bytes a part takes
 abbrev pub perPart : ℕ → ℕ
-perPart w = 16384 / w
+perPart w = PART-SIZE / w
 
 -- how many parts n items of w bytes take
 abbrev pub partCount : ℕ → ℕ → ℕ

@@ -50,7 +50,7 @@ module _ (ids : List ℕ) (long : length ids ≡ 32) (len x : ℕ) (e : Entry) (
     fits = leb-true (length (withNew (take len ids) x)) 32 has-room
 
     after : take (e .len) ids' ≡ withNew (take len ids) x
-    after = rw (has .size, left) (ids-after ids long len x ∙ rw has-room)
+    after = rw (has .len-is, left) (ids-after ids long len x ∙ rw has-room)
 
 -- ---- an edge
 

@@ -16,11 +16,11 @@ use Rattle.strip.proofs.Steps.{items-turn, items-done}
 use Rattle.distinct.specs.Distinct.{distinctFrom}
 use Rattle.distinct.specs.Numbers.{numbersFrom}
 use Rattle.distinct.proofs.Left.{drop-more}
-use Rattle.areas.specs.EdgeHalf.{none}
+use Rattle.areas.specs.EdgeHalf.{ADJACENT-NONE}
 use Rattle.write_pages.specs.Items.{Corner, noEdge, tripleIn, cornersOf, named}
 use Rattle.write_pages.specs.Checks.{at, cornerFault, cornersFault}
 use Rattle.write_pages.proofs.Firsts.{first-none, first-some, first-last}
-use Rattle.write_corner_checks.specs.Steps.{TablesReady, Added, CornerDone, CornersDone, behindTable}
+use Rattle.write_corner_checks.specs.Steps.{areaOr, TablesReady, Added, CornerDone, CornersDone, behindTable}
 use Rattle.write_corner_checks.proofs.Faults.{not-passed, passes, passed-none, refused-some}
 use Rattle.write_corner_checks.specs.declared.Check.the-variants as Check
 use Rattle.write_corner_checks.specs.declared.Tables.{Tables}
@@ -96,19 +96,25 @@ module _ (s : List ℕ) (bb-min bb-size : Floats) (v e i n m : ℕ) (h : i < n) 
       ≡ record { vertex = tripleIn bb-min bb-size (vecAt s v); edge = edgeOr s e i m } ∷ cornersOf bb-min bb-size (vecsAt s (v + 3) (n - (i + 1))) (edgesAt s (e + 6) (m - (i + 1)))
   corners-turn = rw (items-turn (vecAt s) (λ x. x + 3) v i n h) (edge-on _ _)
 
-  area-a : edgeOr s e i m .a .area ≡ cond (ltb i m) (word s e) none
+  area-a : edgeOr s e i m .a .area ≡ areaOr s e i m
+  unfolding areaOr
   area-a = by-case (ltb i m)
     where
-      by-case : (q : Bool) → (cond q (edgeAt s e) noEdge) .a .area ≡ cond q (word s e) none
+      by-case : (q : Bool) → (cond q (edgeAt s e) noEdge) .a .area ≡ cond q (word s e) ADJACENT-NONE
       by-case true = refl
       by-case false = refl
 
-  area-b : edgeOr s e i m .b .area ≡ cond (ltb i m) (word s (e + 3)) none
+  area-b : edgeOr s e i m .b .area ≡ areaOr s (e + 3) i m
+  unfolding areaOr
   area-b = by-case (ltb i m)
     where
-      by-case : (q : Bool) → (cond q (edgeAt s e) noEdge) .b .area ≡ cond q (word s (e + 3)) none
+      by-case : (q : Bool) → (cond q (edgeAt s e) noEdge) .b .area ≡ cond q (word s (e + 3)) ADJACENT-NONE
       by-case true = refl
       by-case false = refl
+
+-- an area by the place and the edge that are meant, however they were computed
+pub area-of : (s : List ℕ) (k : ℕ) {to j : ℕ} (place i : ℕ) {r : ℕ} → r ≡ areaOr s place i k → place ≡ to → i ≡ j → r ≡ areaOr s to j k
+area-of s k place i h p q = rw (← p, ← q) h
 
 -- before corner i of a polygon with n vertices at v₀ and k edges at e₀: what is done with the corners that are left is done with all
 pub record Going (s : List ℕ) (bb-min bb-size : Floats) (n k v₀ e₀ b m start : ℕ) (t₀ : Tables) (w₀ ids₀ w ids : List ℕ) (t : Tables) (v e i : ℕ) : Type 0 where
@@ -132,7 +138,7 @@ module _ (s : List ℕ) (bb-min bb-size : Floats) (n k v₀ e₀ b m start : ℕ
   }
 
   module _ (w w' ids ids' : List ℕ) (t : Tables) (v e i x y z : ℕ) (g : Going s bb-min bb-size n k v₀ e₀ b m start t₀ w₀ ids₀ w ids t v e i) (h : i < n)
-      (ex : x ≡ tripleIn bb-min bb-size (vecAt s v)) (ey : y ≡ cond (ltb i k) (word s e) none) (ez : z ≡ cond (ltb i k) (word s (e + 3)) none)
+      (ex : x ≡ tripleIn bb-min bb-size (vecAt s v)) (ey : y ≡ areaOr s e i k) (ez : z ≡ areaOr s (e + 3) i k)
       (r : TablesAfter) (d : CornerDone w w' ids ids' b m t (start + i) x y z r) where
     here : Corner
     here = record { vertex = tripleIn bb-min bb-size (vecAt s v); edge = edgeOr s e i k }

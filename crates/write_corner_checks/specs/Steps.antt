@@ -2,9 +2,12 @@
 -- behind it the corners' numbers; ids holds the areas. Definitions only.
 use Prim.Native.Nat.{ℕ, zero, suc, _+_, _*_, _≤_, min}
 use mathlib.Core.Path.{_≡_}
+use mathlib.Core.Bool.{cond}
 use mathlib.Core.List.{List, [], _∷_, _++_}
 use lib.ListN.{length, take, drop}
 use lib.Dec.{ltb}
+use Rattle.strip.specs.Reading.{word}
+use Rattle.areas.specs.EdgeHalf.{ADJACENT-NONE}
 use Rattle.distinct.specs.Distinct.{withNew, indexOf, distinctFrom}
 use Rattle.distinct.specs.Numbers.{numbersFrom}
 use Rattle.write_vertices.specs.Table.{Table, met}
@@ -15,6 +18,10 @@ use Rattle.write_corner_checks.specs.declared.Check.the-variants as Chec
 use Rattle.write_corner_checks.specs.declared.EdgeAreas.{EdgeAreas}
 use Rattle.write_corner_checks.specs.declared.Tables.{Tables}
 use Rattle.write_corner_checks.specs.declared.TablesAfter.{TablesAfter}
+
+-- the area that stands at a place for a half of edge i, and that of no neighbour where there are only so many edges
+unfoldable pub areaOr : (strip : List ℕ) → (place i edges : ℕ) → ℕ
+areaOr strip place i edges = cond (ltb i edges) (word strip place) ADJACENT-NONE
 
 -- ---- what a check says
 

@@ -1,14 +1,11 @@
 // The corners of a polygon in order: per vertex 14, then 15 for half a and b. On the way the vertex table, each corner's index and the area table
 // are made.
-ghost use mathlib.Core.Bool.{cond};
 ghost use mathlib.Core.Path.{_≡_};
 ghost use Prim.Native.Nat.{_+_, _*_, _≤_, _<_, _^_};
 ghost use lib.ListN.{length};
-ghost use lib.Dec.{ltb};
-ghost use Rattle.strip.specs.Reading.{word, vecAt, polygonOf};
-ghost use Rattle.areas.specs.EdgeHalf.{none};
+ghost use Rattle.strip.specs.Reading.{vecAt, polygonOf};
 ghost use Rattle.write_pages.specs.Items.{tripleIn, cornersIn};
-ghost use Rattle.write_corner_checks.specs.Steps.{EdgeHas, TablesReady, CornerDone, CornersDone};
+ghost use Rattle.write_corner_checks.specs.Steps.{areaOr, EdgeHas, TablesReady, CornerDone, CornersDone};
 use areas::AreaAnswer;
 use math::vec3::Vec3;
 use math::vec3::floats_at;
@@ -83,7 +80,7 @@ fn triple_of(strip: &[u32], at: usize, bb_min: Vec3, bb_size: Vec3) -> u64
 // The area that stands at `at` for a half of edge i, or that of no neighbour where there are only `edges`.
 fn area_at(strip: &[u32], at: usize, i: usize, edges: usize) -> u32
     requires { ⌜ (i < edges → at < length (now strip)) ⌝ }
-    ensures { λ r. ⌜ r ≡ cond (ltb i edges) (word (now (strip .entry)) at) none ⌝ }
+    ensures { λ r. ⌜ r ≡ areaOr (now (strip .entry)) at i edges ⌝ }
 {
     if i < edges {
         return strip[at];

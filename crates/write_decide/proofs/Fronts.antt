@@ -117,7 +117,7 @@ module _ (s : List ℕ) (n : Counts) (h : Head) (cell : CellRecord) (same-cell :
         verdict = λ rest. p .verdict rest ∙ rw (empty, ea);
         long = p .long ∙ cleared-long s w wc l14 l4 ec;
         beyond = same ∙ same-behind s w wc l14 l4 ec;
-        counts = refl;
+        counts-are = refl;
         tabled = λ z. tables-done z;
       }
 
@@ -129,7 +129,7 @@ not-formed s w q k r e = record {
   long = refl;
   beyond = refl;
   tabled = λ z. never-both (r .verdict) q e z;
-  counts = λ z. never-both (r .verdict) q e z;
+  counts-are = λ z. never-both (r .verdict) q e z;
 }
 
 -- ---- 1, 10, 11
@@ -155,7 +155,7 @@ module _ (s w : List ℕ) (n : Counts) (W : Well s n) where
       long = refl;
       beyond = refl;
       tabled = λ z. never-both (r .verdict) q e z;
-      counts = λ z. never-both (r .verdict) q e z;
+      counts-are = λ z. never-both (r .verdict) q e z;
     }
 
     pub good-front : v ≡ Fine → (w' : List ℕ) (r : Decision) → WellDone s (headAt s 0) n w w' r → DecideDone s w w' r
@@ -165,6 +165,6 @@ module _ (s w : List ℕ) (n : Counts) (W : Well s n) where
       beyond = drop-more (tablesEnd (length s)) (2 * length s) (omega (arith, trees-in (length s) (W .long) .2)) w' w (d .beyond);
       tabled = λ z c e.
           rw (cell-is s W c e) (d .tabled z);
-      counts = λ z c e.
-          d .counts ∙ sym (ap cellCounts (cell-is s W c e) ∙ counts-back s n);
+      counts-are = λ z c e.
+          d .counts-are ∙ sym (ap cellCounts (cell-is s W c e) ∙ counts-back s n);
     }

@@ -89,7 +89,7 @@ pub record WellDone (s : List ℕ) (h : Head) (n : Counts) (w w' : List ℕ) (r 
   pub verdict : (rest : Verdict) → decisionThen r rest ≡ onPolygons h (polygonsAt s 14 (n .polys)) rest
   pub long : length w' ≡ length w
   pub beyond : drop (tablesEnd (length s)) w' ≡ drop (tablesEnd (length s)) w
-  pub counts : r .counts ≡ n
+  pub counts-are : r .counts ≡ n
   pub tabled : r .verdict ≡ Fine → Tabled (length s) h (polygonsAt s 14 (n .polys)) w' r
 
 -- of `decide`
@@ -98,4 +98,4 @@ pub record DecideDone (s w w' : List ℕ) (r : Decision) : Type 0 where
   pub long : length w' ≡ length w
   pub beyond : drop (2 * length s) w' ≡ drop (2 * length s) w
   pub tabled : r .verdict ≡ Fine → (c : Cell) → scan s ≡ ok c → Tabled (length s) (c .head) (c .polys) w' r
-  pub counts : r .verdict ≡ Fine → (c : Cell) → scan s ≡ ok c → r .counts ≡ cellCounts c
+  pub counts-are : r .verdict ≡ Fine → (c : Cell) → scan s ≡ ok c → r .counts ≡ cellCounts c

@@ -78,7 +78,8 @@ pub struct WorkPlaces {
     pub end: usize,
 }
 
-// The places for a strip of so many words, with these counts: work is cut by them and nowhere else.
+// The places for a strip of so many words, with these counts. `decide_well` fills the tables, which lie at the first two: it hands them on as how many
+// trees there are and how many vertices there is room for.
 pub fn work_places(words: usize, counts: Counts) -> WorkPlaces
     requires { ⌜ workPlaces words counts .end < 2 ^ 64 ⌝ }
     ensures { λ r. ⌜ r ≡ workPlaces words counts ⌝ }

@@ -20,7 +20,7 @@ fn index_bits(ids: &[u32], len: usize, id: u32) -> u32
 }
 
 // The half of edge i whose three words stand at `at`, or that of NONE where there are only `edges`.
-fn half_at(strip: &[u32], at: usize, i: usize, edges: usize, ids: &[u32], len: usize) -> u32
+fn half_item(strip: &[u32], at: usize, i: usize, edges: usize, ids: &[u32], len: usize) -> u32
     requires { ⌜ (i < edges → at + 3 ≤ length (now strip)) ⌝ }
     ensures { λ r. ⌜ r ≡ halfOf (take len (now (ids .entry))) (cond (ltb i edges) (halfAt (now (strip .entry)) at) noHalf) ⌝ }
 {
@@ -45,8 +45,8 @@ fn put_run(strip: &[u32], p: Poly, ids: &[u32], len: usize, work: &mut [u32], ba
     let mut place = base;
     let mut i: usize = 0;
     while i < vertices {
-        let a = half_at(strip, e, i, edges, ids, len);
-        let b = half_at(strip, e + 3, i, edges, ids, len);
+        let a = half_item(strip, e, i, edges, ids, len);
+        let b = half_item(strip, e + 3, i, edges, ids, len);
         work[place] = a;
         work[place + 1] = b;
         e += 6;

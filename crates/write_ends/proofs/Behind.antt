@@ -8,15 +8,17 @@ use mir.Syntax.{w64}
 use mir.Val.{Fits}
 use borrow.Author.Tests.{leb-true, leb-false}
 use lib.Dec.{leb}
-use Rattle.quarters.specs.declared.bounds.Aabb.{Aabb}
 use Rattle.write_blocks.specs.Layout.{aligned, placeOf, behind, endOf}
 use Rattle.write_blocks.specs.Laid.{empty, allocated, reached, sumOf, Within}
 use Rattle.write_blocks.specs.declared.Layout.{Layout}
 use Rattle.write_blocks.specs.Lists.{partCount, listSizes}
 use Rattle.write_blocks.specs.ListRoom.{ListRoom}
-use Rattle.write_blocks.proofs.Layouts.{place-ge, end-ge, end-sum, sum-append, reached-asked, joined, begins}
+use Rattle.write_blocks.proofs.Layouts.{by-cond, place-ge, end-ge, end-sum, sum-append, reached-asked, joined, begins}
 use Rattle.write_blocks.specs.Optional.{sizeOf}
-use Rattle.write_pages.specs.Sectors.{sub0, sub1, sub2, sub3}
+use Rattle.write_quadtree.specs.Subtrees.{divided}
+use Rattle.write_quadtree.specs.declared.subtrees.Subtree.{Subtree}
+use Rattle.write_quadtree.specs.declared.subtrees.Subtrees.{Subtrees}
+use Rattle.write_quadtree.proofs.Dividing.{on, of-subs}
 use Rattle.write_ends.specs.Ends.{sizesBy, listsEnd}
 
 -- a size that is laid out below 2^28
@@ -25,10 +27,6 @@ within-some zero h = omega arith
 within-some {l} (suc n) h = omega (arith, h .below, place-ge (l .at) (suc n))
 
 -- ---- one block, whose size the code words in its own way
-
-by-cond : (P : ℕ → Type 0) (b : Bool) (x y : ℕ) → (b ≡ true → P x) → (b ≡ false → P y) → P (cond b x y)
-by-cond P true x y f g = f refl
-by-cond P false x y f g = g refl
 
 -- a smaller block starts no later
 place-grows : (end m n : ℕ) → m ≤ n → placeOf end m ≤ placeOf end n
@@ -59,20 +57,11 @@ end-some l m n h e = h ∙ ap (λ (k : ℕ). reached l (sizeOf k)) e
 
 -- ---- a tree
 
-module _ (boxes numbers : List ℕ) (d : ℕ) where
-  pub same-sizes : {j k : ℕ} {a b : Aabb} → j ≡ k → a ≡ b → sizesBy boxes numbers d j a ≡ sizesBy boxes numbers d k b
-  same-sizes f g = rw (f, g)
-
-  -- a sector's block, then its subs'
-  pub sizes-node : (k : ℕ) (b : Aabb)
-      → sizesBy boxes numbers (suc d) k b
-      ≡ 96
-      ∷ (sizesBy boxes numbers d k (sub0 b)
-      ++ (sizesBy boxes numbers d (k + 4 ^ d) (sub1 b)
-      ++ (sizesBy boxes numbers d (k + 2 * 4 ^ d) (sub2 b)
-      ++ sizesBy boxes numbers d (k + 3 * 4 ^ d) (sub3 b))))
-  unfolding sizesBy
-  sizes-node k b = refl
+-- a sector's block, then its subs'
+pub sizes-subs : (boxes numbers : List ℕ) (t : Subtree) → (t .depth ≡ 0 → ⊥) → {s : Subtrees} → s ≡ divided t → let sizes = on (sizesBy boxes numbers) in
+    sizes t ≡ 96 ∷ (sizes (s .s0) ++ (sizes (s .s1) ++ (sizes (s .s2) ++ sizes (s .s3))))
+unfolding sizesBy
+sizes-subs boxes numbers t splits e = of-subs t splits e (sizesBy boxes numbers) (λ _ n0 n1 n2 n3. 96 ∷ (n0 ++ (n1 ++ (n2 ++ n3)))) (λ d k b. refl)
 
 -- ---- the lists
 

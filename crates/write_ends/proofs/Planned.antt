@@ -1,5 +1,5 @@
 -- How long the pages of a planned strip are, by its decision and the words behind its tables. Assumes nothing.
-use Prim.Native.Nat.{ℕ, _+_, _/_, _%_, _^_, _≤_}
+use Prim.Native.Nat.{ℕ, _+_, _≤_}
 use mathlib.Core.Path.{_≡_, sym, ap, _∙_}
 use mathlib.Core.List.{List}
 use native.Mathlib.Omega.{arith}
@@ -14,7 +14,7 @@ use Rattle.cell_record.specs.Record.{rootIn}
 use Rattle.cell_record.proofs.Fields.{flags-are, root-is}
 use Rattle.write_vertices.proofs.Triples.{length-met}
 use Rattle.write_pages.specs.Sectors as Sectors
-use Rattle.write_pages.specs.Sectors.{byteCount, depthBy, rootBox}
+use Rattle.write_pages.specs.Sectors.{byteCount, depthOf, rootBox}
 use Rattle.write_pages.specs.Pages.{vertices, links, sectors, sizes, pages}
 use Rattle.write_blocks.specs.Laid.{empty, reached, sumOf, Within}
 use Rattle.write_blocks.specs.declared.Layout.{Layout}
@@ -66,7 +66,7 @@ module _ (s w : List ℕ) (d : Decision) (R : Ready s w d) where
 
   module _ (places : WorkPlaces) (here : places ≡ workPlaces (length s) (d .counts)) (b : Aabb) (root : b ≡ rootIn (d .cell)) where
     abbrev sizesIn : List ℕ
-    sizesIn = sizesBy (boxPart s w (d .counts) (R .held) places here) (leafPart s w (d .counts) (R .held) places here) (depthBy (d .cell .«content_flags» / 2 ^ 2 % 2)) 0 b
+    sizesIn = sizesBy (boxPart s w (d .counts) (R .held) places here) (leafPart s w (d .counts) (R .held) places here) (depthOf (d .cell .«content_flags»)) 0 b
 
     sizes-are : sizesIn ≡ Sectors.sizes (sectors cell)
     unfolding sectors headAt
@@ -74,7 +74,7 @@ module _ (s w : List ℕ) (d : Decision) (R : Ready s w d) where
         let flags = flags-are (headAt s 0) (d .cell) (R .tabled .cell) in
         let whole : b ≡ rootBox (headAt s 0) = root ∙ root-is (headAt s 0) (d .cell) (R .tabled .cell) in
         rw flags
-        (sym (sizes-tree (boxPart s w (d .counts) (R .held) places here) (leafPart s w (d .counts) (R .held) places here) (pointsIn s (d .counts)) (part-long s w (d .counts) (R .held) places here) (depthBy (word s 1 / 2 ^ 2 % 2)) 0 b)
+        (sym (sizes-tree (boxPart s w (d .counts) (R .held) places here) (leafPart s w (d .counts) (R .held) places here) (pointsIn s (d .counts)) (part-long s w (d .counts) (R .held) places here) (depthOf (word s 1)) 0 b)
         ∙ ap Sectors.sizes (part-tree s w (d .counts) (R .held) places here b whole))
 
     abbrev allSizes : List ℕ

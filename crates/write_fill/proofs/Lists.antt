@@ -98,7 +98,7 @@ module _ (s w : List ℕ) (d : Decision) (R : Ready s w d) where
   many-polys = poly-count s (d .counts .polys)
 
   pub polys-inside : afterPolygons s 14 (d .counts .polys) ≤ length s
-  polys-inside = omega (arith, R .whole)
+  polys-inside = omega (arith, R .length-is)
 
   pub vertices-ask : (q : ℕ) → q ≡ endHeader (counts cell) (sectors cell)
       → (at : ℕ) → at ≡ trees (length s) → (at + 2 * d .vertices ≤ length w) × ListRoom q 6 (d .vertices) (listSizes 6 (d .vertices))
@@ -174,7 +174,7 @@ module _ (s w : List ℕ) (d : Decision) (R : Ready s w d) where
           boxes-held = rw (behind-edges (tablesEnd (length s)) (omega arith)) (R .held .boxes-held);
           leaves-held = rw (behind-edges (tablesEnd (length s) + 3 * d .counts .polys) (omega arith)) (R .held .leaves-held);
         };
-        whole = R .whole;
+        length-is = R .length-is;
         long = R .long;
       };
       long = same;

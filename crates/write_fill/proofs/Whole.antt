@@ -88,14 +88,14 @@ module _ (s w : List ℕ) (d : Decision) (R : Ready s w d) where
         rw (← (vertex-count s w d R), ← (R .tabled .corner-count), areas-are, ← (polygon-count s w d R), ← (portal-count s w d R), ← (link-count s w d R), g .points, e)
 
     -- the blocks behind the header, and the header stored before them
-    header-is : ((k : ℕ) → word s k < 2 ^ 32) → (p : Places) (n : Pages.Counts) → p ≡ placesBy a b (d .counts .portals) (d .links) → (t : ℕ) → t ≡ byteCount (sectors (cellAt s (d .counts))) → n ≡ countsBy d (b .points) t
+    header-is : ((k : ℕ) → word s k < 2 ^ 32) → (p : Places) (n : Pages.HeaderCounts) → p ≡ placesBy a b (d .counts .portals) (d .links) → (t : ℕ) → t ≡ byteCount (sectors (cellAt s (d .counts))) → n ≡ countsBy d (b .points) t
         → headerBytes (headBy (d .cell)) p n (areaIds (d .areas)) ≡ header (cellAt s (d .counts))
     unfolding header
     header-is words p n ep t et en =
-        rw (head-is (headAt s 0) (d .cell) (R .tabled .cell) (word-box s words) (R .accepted .finite), ep, en, places-are, counts-are t et, areas-are)
+        rw (head-is (headAt s 0) (d .cell) (R .tabled .cell) (word-box s words) (R .accepted .finite-box), ep, en, places-are, counts-are t et, areas-are)
 
     pub filled : ((k : ℕ) → word s k < 2 ^ 32) → {w' : List ℕ} → Left s (d .counts) w w' → (p : Places) → p ≡ placesBy a b (d .counts .portals) (d .links)
-        → (t : ℕ) → t ≡ byteCount (sectors (cellAt s (d .counts))) → (n : Pages.Counts) → n ≡ countsBy d (b .points) t
+        → (t : ℕ) → t ≡ byteCount (sectors (cellAt s (d .counts))) → (n : Pages.HeaderCounts) → n ≡ countsBy d (b .points) t
         → {x3 : List ℕ} → x3 ≡ put 0 (headerBytes (headBy (d .cell)) p n (areaIds (d .areas))) x2 → Filled s (d .counts) w w' x0 x3
     filled words k p ep t et n en e3 = record {
       bytes = e3 ∙ ap (λ (h : List ℕ). put 0 h x2) (header-is words p n ep t et en) ∙ header-last (cellAt s (d .counts)) (f .header) (laid-then (f .laid) (g .laid));

@@ -16,22 +16,22 @@ use Rattle.write_decide.specs.declared.Decision.{Decision}
 use Rattle.strip.specs.Laid.{cellAt}
 use Rattle.write_rest.specs.declared.ListEnds.{ListEnds}
 use Rattle.write_rest.specs.Rest.{WorkKept}
-use Rattle.fields.specs.Sizes.{LIST-VFT-EDGES, LIST-VFT-INDICES, LIST-VFT-POLYS, LIST-VFT-VERTICES}
+use Rattle.fields.specs.Sizes.{EDGE-SIZE, INDEX-SIZE, LIST-VFT-EDGES, LIST-VFT-INDICES, LIST-VFT-POLYS, LIST-VFT-VERTICES, NAVMESH-SIZE, POLY-SIZE, PORTAL-SIZE, VERTEX-SIZE}
 
 -- ---- the blocks of the four lists
 
 module _ (c : Cell) where
   unfoldable pub listsOf : List (List ℕ)
   listsOf =
-      listBlocks (endHeader (counts c) (sectors c)) LIST-VFT-VERTICES 6 (vertexItems (vertices c))
-      ++ (listBlocks (endVertices (counts c) (sectors c)) LIST-VFT-INDICES 2 (indexItems (vertices c) (allCorners c))
-      ++ (listBlocks (endIndices (counts c) (sectors c)) LIST-VFT-EDGES 8 (edgeItems (areas c) (allCorners c))
-      ++ listBlocks (endEdges (counts c) (sectors c)) LIST-VFT-POLYS 48 (polygonItems (c .head .area) 0 0 0 (c .polys))))
+      listBlocks (endHeader (counts c) (sectors c)) LIST-VFT-VERTICES VERTEX-SIZE (vertexItems (vertices c))
+      ++ (listBlocks (endVertices (counts c) (sectors c)) LIST-VFT-INDICES INDEX-SIZE (indexItems (vertices c) (allCorners c))
+      ++ (listBlocks (endIndices (counts c) (sectors c)) LIST-VFT-EDGES EDGE-SIZE (edgeItems (areas c) (allCorners c))
+      ++ listBlocks (endEdges (counts c) (sectors c)) LIST-VFT-POLYS POLY-SIZE (polygonItems (c .head .area) 0 0 0 (c .polys))))
 
 -- ---- the lists, from the pages xs to ys. c is the cell of the strip s, with the counts n
 
 pub record ListsFilled (c : Cell) (xs ys : List ℕ) (r : ListEnds) : Type 0 where
-  pub header : r .header ≡ allocated empty 368
+  pub header : r .header ≡ allocated empty NAVMESH-SIZE
   pub vertices : r .vertices .at ≡ endVertices (counts c) (sectors c)
   pub indices : r .indices .at ≡ endIndices (counts c) (sectors c)
   pub edges : r .edges .at ≡ endEdges (counts c) (sectors c)
@@ -46,7 +46,7 @@ pub record Left (s : List ℕ) (n : Counts) (w w' : List ℕ) : Type 0 where
 
 -- ---- the header's counts, by the decision
 
-abbrev pub countsBy : Decision → (points bytes : ℕ) → Pages.Counts
+abbrev pub countsBy : Decision → (points bytes : ℕ) → Pages.HeaderCounts
 countsBy d points bytes = record {
   vertices = d .vertices;
   indices = d .corners;
@@ -55,7 +55,7 @@ countsBy d points bytes = record {
   points = points;
   portals = d .counts .portals;
   links = d .links;
-  total = bytes + 28 * d .counts .portals + 6 * d .vertices + 2 * d .corners + 8 * d .corners + 48 * d .counts .polys;
+  total = bytes + PORTAL-SIZE * d .counts .portals + VERTEX-SIZE * d .vertices + INDEX-SIZE * d .corners + EDGE-SIZE * d .corners + POLY-SIZE * d .counts .polys;
 }
 
 -- numbers that a word holds, with room to add them up

@@ -10,7 +10,12 @@ ghost use Rattle.strip.specs.Laid.{cellAt};
 ghost use Rattle.write_plan.specs.Ready.{Ready};
 ghost use Rattle.write_fill.specs.Filled.{Left, ListsFilled, countsBy, Few, Filled};
 use areas::Areas;
+use fields::sizes::EDGE_SIZE;
+use fields::sizes::INDEX_SIZE;
 use fields::sizes::NAVMESH_SIZE;
+use fields::sizes::POLY_SIZE;
+use fields::sizes::PORTAL_SIZE;
+use fields::sizes::VERTEX_SIZE;
 use write_blocks::Layout;
 use write_decide::Decision;
 use write_header::Totals;
@@ -72,7 +77,10 @@ fn totals(d: Decision, points: u32, bytes: u32) -> Totals
     ensures { λ r. ⌜ countsIn r ≡ countsBy d points bytes ⌝ }
 {
     let counts = d.counts;
-    let items = 6 * d.vertices + 10 * d.corners + 48 * counts.polys + 28 * counts.portals;
+    let items = VERTEX_SIZE * d.vertices
+        + (INDEX_SIZE + EDGE_SIZE) * d.corners
+        + POLY_SIZE * counts.polys
+        + PORTAL_SIZE * counts.portals;
     Totals {
         vertices: d.vertices as u32,
         indices: d.corners as u32,

@@ -15,12 +15,12 @@ use Rattle.fields.proofs.Puts.{put-next}
 use Rattle.fields.proofs.Rows.{length-rows}
 use Rattle.strip.specs.Cell.{Head}
 use Rattle.write_pages.specs.Sectors.{nanWord}
-use Rattle.write_pages.specs.Pages.{Places, Counts, oneBits, headerFirst, headerLast, headerBytes, padded}
+use Rattle.write_pages.specs.Pages.{Places, HeaderCounts, oneBits, headerFirst, headerLast, headerBytes, padded}
 use Rattle.write_pages.proofs.Sizes.{length-padded}
 
 -- ---- the header
 
-module _ (h : Head) (a : Places) (n : Counts) where
+module _ (h : Head) (a : Places) (n : HeaderCounts) where
   pub first-words : a .vertices < 2 ^ 32 → a .indices < 2 ^ 32 → a .edges < 2 ^ 32
       → les 4
       (h .vft ∷ 1 ∷ 0 ∷ 0 ∷ h .content ∷ 0x10011 ∷ 0 ∷ 0

@@ -1,5 +1,5 @@
 -- The code's addresses and counts as the definition's. Definitions only.
-use Rattle.write_pages.specs.Pages.{Places, Counts}
+use Rattle.write_pages.specs.Pages.{Places, HeaderCounts}
 use Rattle.write_header.specs.declared.Addresses.{Addresses}
 use Rattle.write_header.specs.declared.Totals.{Totals}
 
@@ -14,7 +14,7 @@ placesIn a = record {
   links = a .links;
 }
 
-abbrev pub countsIn : Totals → Counts
+abbrev pub countsIn : Totals → HeaderCounts
 countsIn n = record {
   vertices = n .vertices;
   indices = n .indices;

@@ -11,6 +11,10 @@ abbrev pub passedThen : LeafCheck → Verdict → Verdict
 passedThen LeafCheck.Passed rest = rest
 passedThen (LeafCheck.Refused r) rest = refused (r .number) (r .place)
 
+-- r is p where that is a refusal, and otherwise the first refusal of the leaves from number k on, by their counts of ids and points, if there is one
+pub record RefusedNext (p r : LeafCheck) (k : ℕ) (ns : List (ℕ × ℕ)) : Type 0 where
+  pub told : (rest : Verdict) → passedThen r rest ≡ passedThen p (leavesVerdict k ns rest)
+
 -- r is the first refusal of the leaves from number k on, by their counts of ids and points, if there is one
 abbrev pub FirstRefused : LeafCheck → ℕ → List (ℕ × ℕ) → Type 0
 FirstRefused r k ns = (rest : Verdict) → passedThen r rest ≡ leavesVerdict k ns rest

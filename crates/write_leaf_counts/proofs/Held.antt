@@ -77,11 +77,11 @@ module _ (ids : QuarterBox → List ℕ) (stored also : ℕ → List NavPoint) (
       )
 
 pub tree-held : (h : Head) (ps : List NavPoly) (ts : List NavPoint) (boxes numbers : List ℕ) → length boxes ≡ 3 * length ps → BoxesHeld boxes 0 ps
-    → LeavesHeld (leaves (depthOf h) (rootBox h)) numbers 0 ts → treeBy boxes numbers ts (depthOf h) 0 (rootBox h) ≡ treeOf h ps ts
+    → LeavesHeld (leaves (depthOf (h .content)) (rootBox h)) numbers 0 ts → treeBy boxes numbers ts (depthOf (h .content)) 0 (rootBox h) ≡ treeOf h ps ts
 unfolding treeOf
 tree-held h ps ts boxes numbers l b v =
     let n : length boxes / 3 ≡ length ps = omega arith in
     let e : boxesIn boxes ≡ map boxOf ps = ap (boxesAt boxes 0) n ∙ boxes-held boxes 0 ps b in
-    grown-same (λ (q : QuarterBox). leafIds q 0 (boxesIn boxes)) (λ (k : ℕ). pickedFrom numbers k 0 ts) (λ (k : ℕ). pointsOf (leaves (depthOf h) (rootBox h)) k ts)
-    (λ k. points-held (leaves (depthOf h) (rootBox h)) numbers k 0 ts v) (depthOf h) 0 (rootBox h)
-    ∙ ap (λ (qs : List QuarterBox). grown (λ (q : QuarterBox). leafIds q 0 qs) (λ (k : ℕ). pointsOf (leaves (depthOf h) (rootBox h)) k ts) (depthOf h) 0 (rootBox h)) e
+    grown-same (λ (q : QuarterBox). leafIds q 0 (boxesIn boxes)) (λ (k : ℕ). pickedFrom numbers k 0 ts) (λ (k : ℕ). pointsOf (leaves (depthOf (h .content)) (rootBox h)) k ts)
+    (λ k. points-held (leaves (depthOf (h .content)) (rootBox h)) numbers k 0 ts v) (depthOf (h .content)) 0 (rootBox h)
+    ∙ ap (λ (qs : List QuarterBox). grown (λ (q : QuarterBox). leafIds q 0 qs) (λ (k : ℕ). pointsOf (leaves (depthOf (h .content)) (rootBox h)) k ts) (depthOf (h .content)) 0 (rootBox h)) e

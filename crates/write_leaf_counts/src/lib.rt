@@ -15,7 +15,8 @@ use quarters::quarter::quarter_box;
 
 // One axis of a quarter box as a word: min below, max above.
 pub fn quarter_pair(min: i16, max: i16) -> u32
-    ensures { λ r. ⌜ (r ≡ bits16 min + 65536 * bits16 max) × (bits16 min < 65536) ⌝ }
+    ensures word { λ r. ⌜ r ≡ bits16 min + 65536 * bits16 max ⌝ }
+    ensures bound { λ _. ⌜ bits16 min < 65536 ⌝ }
 {
     bits16_of(min) + 65536 * bits16_of(max)
 }
@@ -44,7 +45,8 @@ pub fn meets_at(boxes: &[u32], at: usize, q: QuarterBox) -> bool
 }
 
 fn one_if(test: bool) -> u32
-    ensures { λ r. ⌜ (r ≡ cond test 1 0) × (r ≤ 1) ⌝ }
+    ensures value { λ r. ⌜ r ≡ cond test 1 0 ⌝ }
+    ensures bound { λ r. ⌜ r ≤ 1 ⌝ }
 {
     if test {
         return 1;
@@ -93,7 +95,9 @@ fn count_part(leaf_numbers: &[u32], k: u32, from: usize, to: usize) -> u32
 // Where a part ends that begins at `from`.
 fn part_end(from: usize, end: usize) -> usize
     requires { ⌜ from < end ⌝ }
-    ensures { λ r. ⌜ (from < r) × (r ≤ from + 65536) × (r ≤ end) ⌝ }
+    ensures progress { λ r. ⌜ from < r ⌝ }
+    ensures size { λ r. ⌜ r ≤ from + 65536 ⌝ }
+    ensures bound { λ r. ⌜ r ≤ end ⌝ }
 {
     if end - from < 65536 {
         return end;

@@ -7,6 +7,7 @@ ghost use lib.ListN.{length};
 ghost use Rattle.fields.specs.Bytes.{les, cat};
 ghost use Rattle.fields.specs.Put.{put};
 ghost use Rattle.fields.specs.Rows.{rowBytes};
+ghost use Rattle.fields.specs.Sizes.{POINT-SIZE, SECTOR-DATA-SIZE};
 ghost use Rattle.strip.specs.Reading.{pointAt};
 ghost use Rattle.strip.specs.Rows.{pointsAt};
 ghost use Rattle.write_blocks.specs.Layout.{behind, endOf};
@@ -41,7 +42,7 @@ pub fn lay_data(
     id_count: u16,
     point_count: u16,
 ) -> Layout
-    requires { ⌜ behind (l .at) 32 < 2 ^ 28 ⌝ }
+    requires { ⌜ behind (l .at) SECTOR-DATA-SIZE < 2 ^ 28 ⌝ }
     ensures { λ r. ⌜ Laid l (rowBytes (dataRow first ids points «id_count» «point_count») ∷ []) r (now (out .entry)) (now (out .exit)) ⌝ }
 {
     let at = write_blocks::pad(out, l, SECTOR_DATA_SIZE);
@@ -123,12 +124,12 @@ fn put_point_if(
     bb_size: Vec3,
 ) -> usize
     requires { ⌜ (p < 2 ^ 32) × (at + 4 ≤ length (now strip)) ⌝ }
-    ensures next { λ r. ⌜ r ≡ p + 8 * cond test 1 0 ⌝ }
+    ensures next { λ r. ⌜ r ≡ p + POINT-SIZE * cond test 1 0 ⌝ }
     ensures content { λ _. ⌜ now (out .exit) ≡ put p (cat (pointItems «bb_min» «bb_size» (cond test (pointAt (now (strip .entry)) at ∷ []) []))) (now (out .entry)) ⌝ }
 {
     if test {
         put_point(out, p, strip, at, bb_min, bb_size);
-        return p + 8;
+        return p + POINT_SIZE;
     }
     p
 }
@@ -143,7 +144,7 @@ fn put_points<'a>(
     k: u32,
 )
     requires { ⌜ (points .at + 4 * length (now «leaf_numbers») ≤ length (now strip))
-        × (at + 8 * length (pickedFrom (now «leaf_numbers») k 0 (pointsAt (now strip) (points .at) (length (now «leaf_numbers»)))) < 2 ^ 32) ⌝ }
+        × (at + POINT-SIZE * length (pickedFrom (now «leaf_numbers») k 0 (pointsAt (now strip) (points .at) (length (now «leaf_numbers»)))) < 2 ^ 32) ⌝ }
     ensures { λ _. ⌜ now (out .exit) ≡ put at (cat (pointItems (points .«bb_min») (points .«bb_size») (pickedFrom (now («leaf_numbers» .entry)) k 0 (pointsAt (now (strip .entry)) (points .at) (length (now («leaf_numbers» .entry))))))) (now (out .entry)) ⌝ }
 {
     let bb_min = points.bb_min;
@@ -169,7 +170,7 @@ pub fn lay_points<'a>(
     n: usize,
 ) -> Layout
     requires { ⌜ (points .at + 4 * length (now «leaf_numbers») ≤ length (now strip))
-        × (n ≡ length (pickedFrom (now «leaf_numbers») k 0 (pointsAt (now strip) (points .at) (length (now «leaf_numbers»))))) × (n ≤ 2048) × (endOf (l .at) (sizeOf (8 * n)) < 2 ^ 28) ⌝ }
+        × (n ≡ length (pickedFrom (now «leaf_numbers») k 0 (pointsAt (now strip) (points .at) (length (now «leaf_numbers»))))) × (n ≤ 2048) × (endOf (l .at) (sizeOf (POINT-SIZE * n)) < 2 ^ 28) ⌝ }
     ensures { λ r. ⌜ Laid l (blockOf (cat (pointItems (points .«bb_min») (points .«bb_size») (pickedFrom (now («leaf_numbers» .entry)) k 0 (pointsAt (now (strip .entry)) (points .at) (length (now («leaf_numbers» .entry)))))))) r (now (out .entry)) (now (out .exit)) ⌝ }
 {
     if n == 0 {

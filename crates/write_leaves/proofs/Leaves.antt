@@ -65,19 +65,19 @@ module _ (bb-min bb-size : Floats) where
   points-ends ts {l} h = laid-end h ∙ ap (endOf (l .at)) (block-size (8 * length ts) (cat (pointItems bb-min bb-size ts)) (length-points bb-min bb-size ts))
 
   -- the blocks, from what each step of the writer was given and left: its own names of the places, addresses and counts with what they are
-  pub leaf-wrote : (b : Aabb) (is : List ℕ) (ts : List NavPoint) {spot r : SectorCursor} {l1 l2 l3 : Layout} {at d ia pa m n : ℕ} {xs y0 y1 y2 y3 ys : List ℕ}
-      → l1 ≡ allocated (spot .layout) 96 → y0 ≡ put (spot .layout .at) (zeros (placeOf (spot .layout .at) 96 - spot .layout .at)) xs
+  pub leaf-wrote : (b : Aabb) (is : List ℕ) (ts : List NavPoint) {cursor r : SectorCursor} {l1 l2 l3 : Layout} {at d ia pa m n : ℕ} {xs y0 y1 y2 y3 ys : List ℕ}
+      → l1 ≡ allocated (cursor .layout) 96 → y0 ≡ put (cursor .layout .at) (zeros (placeOf (cursor .layout .at) 96 - cursor .layout .at)) xs
       → Laid l1 (blockOf (les 2 is)) l2 y0 y1
       → Laid l2 (blockOf (cat (pointItems bb-min bb-size ts))) l3 y1 y2
       → ia ≡ addressOf (l1 .at) (2 * m) → pa ≡ addressOf (l2 .at) (8 * n) → m ≡ length is → n ≡ length ts
-      → Laid l3 (rowBytes (dataRow (spot .first) ia pa m n) ∷ []) (r .layout) y2 y3
+      → Laid l3 (rowBytes (dataRow (cursor .first) ia pa m n) ∷ []) (r .layout) y2 y3
       → d ≡ address (placeOf (l3 .at) 32)
-      → at ≡ placeOf (spot .layout .at) 96 → ys ≡ put at (rowBytes (sectorRow b d 0 0 0 0)) y3
-      → r .leaf ≡ spot .leaf + 1 → r .first ≡ spot .first + n
-      → Wrote bb-min bb-size (leaf b is ts) 1 spot r xs ys
+      → at ≡ placeOf (cursor .layout .at) 96 → ys ≡ put at (rowBytes (sectorRow b d 0 0 0 0)) y3
+      → r .leaf ≡ cursor .leaf + 1 → r .first ≡ cursor .first + n
+      → Wrote bb-min bb-size (leaf b is ts) 1 cursor r xs ys
   unfolding treeBlocks leafBlocks pointCount
-  leaf-wrote b is ts {spot} {r} {l1} {l2} {l3} {at} {d} {ia} {pa} {m} {n} {xs} {y0} {y1} {y2} {y3} {ys} p1 p0 h1 h2 ei ep em en h3 ed ea ey rl rf =
-      let end : ℕ = spot .layout .at in
+  leaf-wrote b is ts {cursor} {r} {l1} {l2} {l3} {at} {d} {ia} {pa} {m} {n} {xs} {y0} {y1} {y2} {y3} {ys} p1 p0 h1 h2 ei ep em en h3 ed ea ey rl rf =
+      let end : ℕ = cursor .layout .at in
       let q2 : l2 .at ≡ pointsFrom end (length is) = ids-ends is h1 ∙ ap (λ (j : ℕ). endOf j (sizeOf (2 * length is))) (at-of p1) in
       let q3 : l3 .at ≡ dataFrom end (length is) (length ts) = points-ends ts h2 ∙ ap (λ (j : ℕ). endOf j (sizeOf (8 * length ts))) q2 in
       let fi : ia ≡ addressOf (idsFrom end) (2 * length is) = ei ∙ ap (λ (j : ℕ). addressOf j (2 * m)) (at-of p1) ∙ ap (λ (j : ℕ). addressOf (idsFrom end) (2 * j)) em in
@@ -85,5 +85,5 @@ module _ (bb-min bb-size : Floats) where
       let fd : d ≡ address (placeOf (dataFrom end (length is) (length ts)) 32) = ed ∙ ap (λ (j : ℕ). address (placeOf j 32)) q3 in
       let z3 = rw (fi, fp, em, en) at h3 in
       let z1 = rw p0 at h1 in
-      let z = laid-before {l = spot .layout} (length-rows (sectorRow b (address (placeOf (dataFrom end (length is) (length ts)) 32)) 0 0 0 0)) p1 (laid-then z1 (laid-then h2 z3)) in
-      record { laid = rw (ey, ea, fd) z; next = rl; points = rf ∙ ap (λ (j : ℕ). spot .first + j) en }
+      let z = laid-before {l = cursor .layout} (length-rows (sectorRow b (address (placeOf (dataFrom end (length is) (length ts)) 32)) 0 0 0 0)) p1 (laid-then z1 (laid-then h2 z3)) in
+      record { laid = rw (ey, ea, fd) z; next = rl; points = rf ∙ ap (λ (j : ℕ). cursor .first + j) en }

@@ -71,20 +71,20 @@ pub fn put_sector(out: &mut [u8], at: usize, b: Aabb, data: u32, s0: u32, s1: u3
 // A leaf: its sector, ids, points, data.
 pub fn write_leaf<'a>(
     out: &mut [u8],
-    spot: SectorCursor,
+    cursor: SectorCursor,
     b: Aabb,
     boxes: &'a [u32],
     leaf_numbers: &'a [u32],
     strip: &'a [u32],
     points: Points,
 ) -> SectorCursor
-    requires { ⌜ (spot .leaf + 1 < 2 ^ 32) × (points .at + 4 * length (now «leaf_numbers») ≤ length (now strip)) ⌝ }
-    requires { ⌜ TreeRoom (treeIn (now boxes) (now «leaf_numbers») (now strip) (points .at) 0 (spot .leaf) b) (spot .layout .at) (spot .first) ⌝ }
-    ensures { λ r. ⌜ Wrote (points .«bb_min») (points .«bb_size») (treeIn (now (boxes .entry)) (now («leaf_numbers» .entry)) (now (strip .entry)) (points .at) 0 (spot .leaf) b) 1 spot r (now (out .entry)) (now (out .exit)) ⌝ }
+    requires { ⌜ (cursor .leaf + 1 < 2 ^ 32) × (points .at + 4 * length (now «leaf_numbers») ≤ length (now strip)) ⌝ }
+    requires { ⌜ TreeRoom (treeIn (now boxes) (now «leaf_numbers») (now strip) (points .at) 0 (cursor .leaf) b) (cursor .layout .at) (cursor .first) ⌝ }
+    ensures { λ r. ⌜ Wrote (points .«bb_min») (points .«bb_size») (treeIn (now (boxes .entry)) (now («leaf_numbers» .entry)) (now (strip .entry)) (points .at) 0 (cursor .leaf) b) 1 cursor r (now (out .entry)) (now (out .exit)) ⌝ }
 {
-    let leaf = spot.leaf;
-    let first = spot.first;
-    let l = spot.layout;
+    let leaf = cursor.leaf;
+    let first = cursor.first;
+    let l = cursor.layout;
     let m = leaf_ids(boxes, b);
     let n = count_points(leaf_numbers, leaf);
     let at = write_blocks::pad(out, l, SECTOR_SIZE);

@@ -5,9 +5,10 @@ ghost use Prim.Native.Nat.{_+_, _*_, _^_, _≤_, _<_};
 ghost use Rattle.fields.specs.Bytes.{les};
 ghost use Rattle.fields.specs.Put.{put};
 ghost use Rattle.fields.specs.Rows.{rowBytes};
+ghost use Rattle.fields.specs.Sizes.{LIST-PART-SIZE, LIST-SIZE};
 ghost use Rattle.write_blocks.specs.Layout.{behind, endOf, address};
 ghost use Rattle.write_blocks.specs.Laid.{reached, Laid};
-ghost use Rattle.write_blocks.specs.Lists.{perPart, partCount, partCounts, firsts, sizes, partSizes, offsetSizes, listSizes, tableAt, listRow, partRow, tableBytes, frontBlocks, offsetBlocks};
+ghost use Rattle.write_blocks.specs.Lists.{PART-SIZE, perPart, partCount, partCounts, firsts, sizes, partSizes, offsetSizes, listSizes, tableAt, listRow, partRow, tableBytes, frontBlocks, offsetBlocks};
 ghost use Rattle.write_blocks.specs.ListRoom.{ListRoom};
 use fields::least;
 use fields::sizes::LIST_PART_SIZE;
@@ -18,7 +19,7 @@ use write_blocks::address_of;
 use write_blocks::pad;
 
 // A part's items take at most a page.
-const PART_SIZE: usize = 16384;
+pub const PART_SIZE: usize = 16384;
 
 // How many parts n items of w bytes take. No part takes items of 0 bytes, or of more than a page.
 pub fn part_count(w: usize, n: usize) -> usize
@@ -36,7 +37,7 @@ pub fn part_count(w: usize, n: usize) -> usize
 
 // The layout behind the items of k parts, `per` to a part, of n items of w bytes.
 fn parts_end(l: Layout, w: usize, per: usize, k: usize, n: usize) -> Layout
-    requires { ⌜ (w * per ≤ 16384) × (endOf (l .at) (sizes w (partCounts k per n)) < 2 ^ 28) ⌝ }
+    requires { ⌜ (w * per ≤ PART-SIZE) × (endOf (l .at) (sizes w (partCounts k per n)) < 2 ^ 28) ⌝ }
     ensures { λ r. ⌜ r ≡ reached l (sizes w (partCounts k per n)) ⌝ }
 {
     let mut next = l;
@@ -62,7 +63,7 @@ fn put_part(out: &mut [u8], at: usize, start: usize, m: usize)
 
 // The part table of k parts whose items are laid out from l on.
 fn put_table(out: &mut [u8], at: usize, l: Layout, w: usize, per: usize, k: usize, n: usize)
-    requires { ⌜ (w * per ≤ 16384) × (n < 2 ^ 32) × (endOf (l .at) (sizes w (partCounts k per n)) < 2 ^ 28) × (at + 16 * k < 2 ^ 28) ⌝ }
+    requires { ⌜ (w * per ≤ PART-SIZE) × (n < 2 ^ 32) × (endOf (l .at) (sizes w (partCounts k per n)) < 2 ^ 28) × (at + LIST-PART-SIZE * k < 2 ^ 28) ⌝ }
     ensures { λ _. ⌜ now (out .exit) ≡ put at (tableBytes w (l .at) (partCounts k per n)) (now (out .entry)) ⌝ }
 {
     let mut entry = at;
@@ -108,7 +109,7 @@ fn lay_list_header(
     offsets: u32,
     k: usize,
 ) -> Layout
-    requires { ⌜ (behind (l .at) 48 < 2 ^ 28) × (n < 2 ^ 32) × (table < 2 ^ 28) × (k < 2 ^ 32) ⌝ }
+    requires { ⌜ (behind (l .at) LIST-SIZE < 2 ^ 28) × (n < 2 ^ 32) × (table < 2 ^ 28) × (k < 2 ^ 32) ⌝ }
     ensures { λ r. ⌜ Laid l (rowBytes (listRow vft n (address table) offsets k) ∷ []) r (now (out .entry)) (now (out .exit)) ⌝ }
 {
     let start = pad(out, l, LIST_SIZE);
@@ -133,8 +134,8 @@ fn lay_list_header(
 
 // A part table, and behind it the parts' items.
 fn lay_table(out: &mut [u8], l: Layout, w: usize, per: usize, k: usize, n: usize) -> Layout
-    requires { ⌜ (w * per ≤ 16384) × (n < 2 ^ 32) × (endOf (behind (l .at) (16 * k)) (sizes w (partCounts k per n)) < 2 ^ 28) ⌝ }
-    ensures { λ r. ⌜ Laid l (tableBytes w (behind (l .at) (16 * k)) (partCounts k per n) ∷ []) r (now (out .entry)) (now (out .exit)) ⌝ }
+    requires { ⌜ (w * per ≤ PART-SIZE) × (n < 2 ^ 32) × (endOf (behind (l .at) (LIST-PART-SIZE * k)) (sizes w (partCounts k per n)) < 2 ^ 28) ⌝ }
+    ensures { λ r. ⌜ Laid l (tableBytes w (behind (l .at) (LIST-PART-SIZE * k)) (partCounts k per n) ∷ []) r (now (out .entry)) (now (out .exit)) ⌝ }
 {
     let start = pad(out, l, LIST_PART_SIZE * k);
     let next = l.alloc(LIST_PART_SIZE * k);
@@ -151,7 +152,9 @@ struct Places {
 
 fn list_places(l: Layout, w: usize, n: usize) -> Places
     requires { ⌜ ListRoom (l .at) w n (listSizes w n) ⌝ }
-    ensures { λ r. ⌜ (r .parts ≡ partCount w n) × (r .table ≡ tableAt (l .at) (partCount w n)) × (r .items ≡ reached l (48 ∷ 16 * partCount w n ∷ partSizes w n)) ⌝ }
+    ensures parts { λ r. ⌜ r .parts ≡ partCount w n ⌝ }
+    ensures table { λ r. ⌜ r .table ≡ tableAt (l .at) (partCount w n) ⌝ }
+    ensures items { λ r. ⌜ r .items ≡ reached l (LIST-SIZE ∷ LIST-PART-SIZE * partCount w n ∷ partSizes w n) ⌝ }
 {
     let k = part_count(w, n);
     let header = l.alloc(LIST_SIZE);

@@ -18,7 +18,7 @@ ghost use Rattle.write_pages.specs.Items.{vertexItems, edgeItems, polygonItems}
 ghost use Rattle.strip.specs.Rows.{polygonsAt, afterPolygons};
 ghost use Rattle.write_edges.specs.Made.{edgeWords, cornersAt};
 ghost use Rattle.write_polygons.specs.Parts.{partsOf};
-ghost use Rattle.fields.specs.Sizes.{LIST-VFT-EDGES, LIST-VFT-INDICES, LIST-VFT-POLYS, LIST-VFT-VERTICES};
+ghost use Rattle.fields.specs.Sizes.{EDGE-SIZE, INDEX-SIZE, LIST-VFT-EDGES, LIST-VFT-INDICES, LIST-VFT-POLYS, LIST-VFT-VERTICES, POLY-SIZE, VERTEX-SIZE};
 use areas::Areas;
 use fields::sizes::EDGE_SIZE;
 use fields::sizes::INDEX_SIZE;
@@ -29,9 +29,7 @@ use fields::sizes::LIST_VFT_VERTICES;
 use fields::sizes::POLY_SIZE;
 use fields::sizes::VERTEX_SIZE;
 use write_blocks::Layout;
-
-// A part's items take at most a page.
-const PART_SIZE: usize = 16384;
+use write_list_blocks::PART_SIZE;
 
 // An item of w bytes: `whole` words from `from` on, and what is left of it from the next word.
 fn put_item(words: &[u32], from: usize, whole: usize, w: usize, out: &mut [u8], at: usize)
@@ -135,16 +133,16 @@ pub fn write_list(
 
 // The list of the n vertices of the table in work, behind its `buckets` roots of trees.
 pub fn lay_vertices(out: &mut [u8], l: Layout, work: &[u32], buckets: usize, n: usize) -> Layout
-    requires { ⌜ (buckets + 2 * n ≤ length (now work)) × ListRoom (l .at) 6 n (listSizes 6 n) ⌝ }
-    ensures { λ r. ⌜ Laid l (listBlocks (l .at) LIST-VFT-VERTICES 6 (vertexItems (met (now (work .entry)) buckets n))) r (now (out .entry)) (now (out .exit)) ⌝ }
+    requires { ⌜ (buckets + 2 * n ≤ length (now work)) × ListRoom (l .at) VERTEX-SIZE n (listSizes VERTEX-SIZE n) ⌝ }
+    ensures { λ r. ⌜ Laid l (listBlocks (l .at) LIST-VFT-VERTICES VERTEX-SIZE (vertexItems (met (now (work .entry)) buckets n))) r (now (out .entry)) (now (out .exit)) ⌝ }
 {
     write_list(out, l, LIST_VFT_VERTICES, work, buckets, n, 1, VERTEX_SIZE)
 }
 
 // The list of the n indices that stand in work from `from` on.
 pub fn lay_indices(out: &mut [u8], l: Layout, work: &[u32], from: usize, n: usize) -> Layout
-    requires { ⌜ (from + n ≤ length (now work)) × ListRoom (l .at) 2 n (listSizes 2 n) ⌝ }
-    ensures { λ r. ⌜ Laid l (listBlocks (l .at) LIST-VFT-INDICES 2 (numberItems 2 (take n (drop from (now (work .entry)))))) r (now (out .entry)) (now (out .exit)) ⌝ }
+    requires { ⌜ (from + n ≤ length (now work)) × ListRoom (l .at) INDEX-SIZE n (listSizes INDEX-SIZE n) ⌝ }
+    ensures { λ r. ⌜ Laid l (listBlocks (l .at) LIST-VFT-INDICES INDEX-SIZE (numberItems INDEX-SIZE (take n (drop from (now (work .entry)))))) r (now (out .entry)) (now (out .exit)) ⌝ }
 {
     write_list(out, l, LIST_VFT_INDICES, work, from, n, 0, INDEX_SIZE)
 }
@@ -161,8 +159,8 @@ pub fn lay_edges(
     base: usize,
 ) -> Layout
     requires { ⌜ (afterPolygons (now strip) 14 n ≤ length (now strip)) × (corners ≡ length (cornersAt (now strip) n)) × (base + 2 * corners ≤ length (now work))
-        × ListRoom (l .at) 8 corners (listSizes 8 corners) ⌝ }
-    ensures laid { λ r. ⌜ Laid l (listBlocks (l .at) LIST-VFT-EDGES 8 (edgeItems (areaIds areas) (cornersAt (now (strip .entry)) n))) r (now (out .entry)) (now (out .exit)) ⌝ }
+        × ListRoom (l .at) EDGE-SIZE corners (listSizes EDGE-SIZE corners) ⌝ }
+    ensures laid { λ r. ⌜ Laid l (listBlocks (l .at) LIST-VFT-EDGES EDGE-SIZE (edgeItems (areaIds areas) (cornersAt (now (strip .entry)) n))) r (now (out .entry)) (now (out .exit)) ⌝ }
     ensures made { λ _. ⌜ now (work .exit) ≡ put base (edgeWords (areaIds areas) (cornersAt (now (strip .entry)) n)) (now (work .entry)) ⌝ }
 {
     let ids = areas.ids;
@@ -180,8 +178,8 @@ pub fn lay_polygons(
     sides: &[u32],
 ) -> Layout
     requires { ⌜ (afterPolygons (now strip) 14 n ≤ length (now strip)) × (now sides ≡ boxes (polygonsAt (now strip) 14 n))
-        × ListRoom (l .at) 48 n (listSizes 48 n) ⌝ }
-    ensures { λ r. ⌜ Laid l (listBlocks (l .at) LIST-VFT-POLYS 48 (polygonItems «area_id» 0 0 0 (polygonsAt (now (strip .entry)) 14 n))) r (now (out .entry)) (now (out .exit)) ⌝ }
+        × ListRoom (l .at) POLY-SIZE n (listSizes POLY-SIZE n) ⌝ }
+    ensures { λ r. ⌜ Laid l (listBlocks (l .at) LIST-VFT-POLYS POLY-SIZE (polygonItems «area_id» 0 0 0 (polygonsAt (now (strip .entry)) 14 n))) r (now (out .entry)) (now (out .exit)) ⌝ }
 {
     let parts = write_list_blocks::lay_list_front(out, l, LIST_VFT_POLYS, POLY_SIZE, n);
     let offsets = write_polygons::lay_records(out, parts, strip, area_id, n, sides);

@@ -18,7 +18,7 @@ use Rattle.areas.specs.Areas.{seeded}
 use Rattle.areas.proofs.Seeds.{length-seeded}
 use Rattle.write_pages.specs.Items.{Corner, gather, cornersIn, corners, triples, named}
 use Rattle.write_pages.specs.Sectors.{leafCounts}
-use Rattle.write_pages.specs.Pages.{loOf, extentOf, vertices, areas, links, sectors, pages}
+use Rattle.write_pages.specs.Pages.{bbMin, bbSize, vertices, areas, links, sectors, pages}
 use Rattle.write_pages.specs.Checks.{Verdict, fine, faultIf, firstFault, at, cornerFault, cornersFault, polygonFault, polygonsVerdict, leafFault, leavesVerdict, cellVerdict}
 use Rattle.write_pages.specs.Accepted.{Checked, AllChecked, FewIn, Accepted}
 
@@ -168,7 +168,7 @@ accepted words work out c =
     (λ h. (
       h .0 .0,
       record {
-        finite = h .0 .1 .0;
+        finite-box = h .0 .1 .0;
         few-polygons = h .0 .1 .1;
         checked = h .1 .0;
         few-vertices = h .1 .1 .0 .0;
@@ -180,12 +180,12 @@ accepted words work out c =
       h .1 .1 .1 .1 .0 .1 .1,
     ))
     (λ h. let a = h .1 in (
-      (h .0, (a .finite, a .few-polygons)),
+      (h .0, (a .finite-box, a .few-polygons)),
       (a .checked, ((a .few-vertices, a .few-areas), (a .leaves, ((a .few-portals, (a .few-links, h .2)), refl)))),
     ))
     (at-fine 0 _
     (then-fine _ _ (over-fine (work / 4) words 0) (then-fine _ _ (not-fine (finiteBox (c .head)) 9) (one-fine _ (over-fine 16383 (length (c .polys)) 10))))
-    (polygons-fine (loOf c) (extentOf c) [] (seeded (c .head .area)) 0 0 (c .polys) _ (omega arith) (omega (arith, length-seeded (c .head .area)))
+    (polygons-fine (bbMin c) (bbSize c) [] (seeded (c .head .area)) 0 0 (c .polys) _ (omega arith) (omega (arith, length-seeded (c .head .area)))
     (leaves-fine 0 (leafCounts (sectors c)) _
     (at-fine 0 _
     (then-fine _ _ (over-fine 585 (length (c .portals)) 18) (then-fine _ _ (over-fine 8192 (length (links c)) 19) (one-fine _ (over-fine out (length (pages c)) 1))))

@@ -53,9 +53,9 @@ few-in (node b t0 t1 t2 t3) h =
     (omega (arith, few-in t0 (a .0), few-in t1 (c .0), few-in t2 (d .0), few-in t3 (d .1)))
 
 module _ (c : Cell) where
-  pub cell-leaves : length (leafCounts (sectors c)) ≡ 4 ^ depthOf (c .head)
+  pub cell-leaves : length (leafCounts (sectors c)) ≡ 4 ^ depthOf (c .head .content)
   unfolding sectors treeOf
-  cell-leaves = leaves-length _ _ (depthOf (c .head)) 0 (rootBox (c .head))
+  cell-leaves = leaves-length _ _ (depthOf (c .head .content)) 0 (rootBox (c .head))
 
   -- check 18 lets no leaf store more than 2,048 points, and there are at most 16
   pub few-stored : Accepted c → storedCount c ≤ 32768

@@ -22,7 +22,7 @@ use Rattle.write_pages.specs.Sectors as Sectors
 use Rattle.write_pages.specs.Sectors.{Sector, grown, treeOf, leafCounts, depthBy, depthOf, rootBox, sub0, sub1, sub2, sub3}
 use Rattle.write_pages.specs.Sectors.Sector.{leaf, node}
 use Rattle.write_pages.specs.Pages as Pages
-use Rattle.write_pages.specs.Pages.{allCorners, loOf, extentOf, vertices, links, sectors, sizesOf, sizes, blocks, pages}
+use Rattle.write_pages.specs.Pages.{allCorners, bbMin, bbSize, vertices, links, sectors, sizesOf, sizes, blocks, pages}
 use Rattle.write_pages.specs.Accepted.{AllChecked, FewIn, Accepted}
 use Rattle.strip.proofs.Alls.{all-apart}
 use Rattle.write_pages.proofs.Sizes.{blocks-sizes}
@@ -104,7 +104,7 @@ few-sectors : (c : Cell) → length (Sectors.sizes (sectors c)) ≤ 69
 unfolding sectors treeOf
 few-sectors c =
     let h = c .head in
-    let b : length (Sectors.sizes (sectors c)) ≤ most (depthOf h) = few-blocks _ _ (depthOf h) 0 (rootBox h) in
+    let b : length (Sectors.sizes (sectors c)) ≤ most (depthOf (h .content)) = few-blocks _ _ (depthOf (h .content)) 0 (rootBox h) in
     omega (arith, deep (h .content / 2 ^ 2 % 2))
 
 -- ---- a list's blocks
@@ -128,7 +128,7 @@ few-list w n =
 
 module _ (c : Cell) (acc : Accepted c) where
   pub few-corners : length (allCorners c) ≤ 67582
-  few-corners = omega (arith, runs-end (loOf c) (extentOf c) 0 (c .polys) (omega arith) (acc .checked))
+  few-corners = omega (arith, runs-end (bbMin c) (bbSize c) 0 (c .polys) (omega arith) (acc .checked))
 
   -- parts: 25 of vertices, 9 of indices, 33 of edges and 49 of polygons at most
   record Parts : Type 0 where

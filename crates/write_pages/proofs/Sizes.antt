@@ -23,7 +23,7 @@ use Rattle.write_blocks.specs.Optional.{blockOf, sizeOf}
 use Rattle.write_pages.specs.Sectors as Sectors
 use Rattle.write_pages.specs.Sectors.{Sector, sectorRow, sectorAddress, from0, from1, from2, from3, pointCount, pointRow, pointItems, leafBlocks, treeBlocks}
 use Rattle.write_pages.specs.Sectors.Sector.{leaf, node}
-use Rattle.write_pages.specs.Pages.{Places, Counts, portalRow, portalItems, headerFirst, headerLast, padded, headerBytes, allCorners, loOf, extentOf, vertices, areas, links, sectors, counts, sizesOf, endHeader, endVertices, endIndices, endEdges, endPolygons, placesOf, sizes, header, blocks, pages}
+use Rattle.write_pages.specs.Pages.{Places, HeaderCounts, portalRow, portalItems, headerFirst, headerLast, padded, headerBytes, allCorners, bbMin, bbSize, vertices, areas, links, sectors, counts, sizesOf, endHeader, endVertices, endIndices, endEdges, endPolygons, placesOf, sizes, header, blocks, pages}
 use Rattle.fields.specs.Sizes.{LIST-VFT-EDGES, LIST-VFT-INDICES, LIST-VFT-POLYS, LIST-VFT-VERTICES}
 
 -- ---- items
@@ -141,7 +141,7 @@ length-padded zero l = refl
 length-padded (suc n) [] = ap suc (length-padded n [])
 length-padded (suc n) (x ∷ l) = ap suc (length-padded n l)
 
-pub header-length : (h : Head) (a : Places) (n : Counts) (us : List ℕ) → length (headerBytes h a n us) ≡ 368
+pub header-length : (h : Head) (a : Places) (n : HeaderCounts) (us : List ℕ) → length (headerBytes h a n us) ≡ 368
 unfolding headerBytes
 header-length h a n us =
     rw (length-append, length-rows (headerFirst h a n), length-append, length-les 4 (padded 32 us), length-padded 32 us, length-rows (headerLast h a n))
@@ -159,8 +159,8 @@ blocks-sizes c =
     let is = listBlocks (endVertices n t) LIST-VFT-INDICES 2 (indexItems (vertices c) (allCorners c)) in
     let es = listBlocks (endIndices n t) LIST-VFT-EDGES 8 (edgeItems (areas c) (allCorners c)) in
     let ps = listBlocks (endEdges n t) LIST-VFT-POLYS 48 (polygonItems (c .head .area) 0 0 0 (c .polys)) in
-    let ts = treeBlocks (loOf c) (extentOf c) (endPolygons n t) 0 t in
-    let qs = blockOf (cat (portalItems (loOf c) (extentOf c) (c .portals))) in
+    let ts = treeBlocks (bbMin c) (bbSize c) (endPolygons n t) 0 t in
+    let qs = blockOf (cat (portalItems (bbMin c) (bbSize c) (c .portals))) in
     let ls = blockOf (les 2 (links c)) in
     rw (
       header-length (c .head) (placesOf n t) n (areas c),
@@ -174,8 +174,8 @@ blocks-sizes c =
       list-size (endVertices n t) LIST-VFT-INDICES 2 (length (allCorners c)) (indexItems (vertices c) (allCorners c)) (wide-indices (vertices c) (allCorners c)) (length-indices (vertices c) (allCorners c)),
       list-size (endIndices n t) LIST-VFT-EDGES 8 (length (allCorners c)) (edgeItems (areas c) (allCorners c)) (wide-edges (areas c) (allCorners c)) (length-edges (areas c) (allCorners c)),
       list-size (endEdges n t) LIST-VFT-POLYS 48 (length (c .polys)) (polygonItems (c .head .area) 0 0 0 (c .polys)) (wide-polygons (c .head .area) 0 0 0 (c .polys)) (length-polygons (c .head .area) 0 0 0 (c .polys)),
-      tree-lengths (loOf c) (extentOf c) (endPolygons n t) 0 t,
-      block-size (28 * length (c .portals)) (cat (portalItems (loOf c) (extentOf c) (c .portals))) (length-portals (loOf c) (extentOf c) (c .portals)),
+      tree-lengths (bbMin c) (bbSize c) (endPolygons n t) 0 t,
+      block-size (28 * length (c .portals)) (cat (portalItems (bbMin c) (bbSize c) (c .portals))) (length-portals (bbMin c) (bbSize c) (c .portals)),
       block-size (2 * length (links c)) (les 2 (links c)) (length-les 2 (links c)),
     )
 

@@ -202,7 +202,7 @@ unfolding sectors treeOf dropped
 stored-and-dropped c =
     let boxes = leafBoxes c in
     let f : ℕ → ℕ = λ k. length (pointsOf boxes k (c .points)) in
-    let d : ℕ = depthOf (c .head) in
+    let d : ℕ = depthOf (c .head .content) in
     let stored : pointCount (sectors c) ≡ total f 0 (4 ^ d) = tree-total _ _ d 0 (rootBox (c .head)) in
     let many : length boxes ≡ 4 ^ d = boxes-length d (rootBox (c .head)) in
     let all : total f 0 (length boxes + 1) ≡ length (c .points) = points-total boxes (c .points) in
@@ -220,7 +220,7 @@ stored-at-most c = omega (arith, stored-and-dropped c)
 -- dropped ones in none.
 pub leaves-stored : (c : Cell) → leafList (sectors c) ≡ numbered (λ k. pointsOf (leafBoxes c) k (c .points)) 0 (leafBoxes c)
 unfolding sectors treeOf
-leaves-stored c = leaves-numbered _ _ (depthOf (c .head)) 0 (rootBox (c .head))
+leaves-stored c = leaves-numbered _ _ (depthOf (c .head .content)) 0 (rootBox (c .head))
 
 pub stored-first : (c : Cell) (k : ℕ) → k < length (leafBoxes c) → All (λ t. FirstIn (leafBoxes c) k (floats (t .position))) (pointsOf (leafBoxes c) k (c .points))
 stored-first c k h = points-have (FirstIn (leafBoxes c) k) (leafBoxes c) k (λ p e. first-in (leafBoxes c) p k e h) (c .points)

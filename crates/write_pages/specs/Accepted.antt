@@ -28,7 +28,7 @@ pub record FewIn (n : ℕ × ℕ) : Type 0 where
 
 pub record Accepted (c : Cell) : Type 0 where
   -- 10, 11
-  pub finite : finiteBox (c .head) ≡ true
+  pub finite-box : finiteBox (c .head) ≡ true
   pub few-polygons : length (c .polys) ≤ 16383
   pub checked : AllChecked 0 (c .polys)
   -- 14, 15: of the whole tables, since they only grow

@@ -15,7 +15,7 @@ use Rattle.distinct.specs.Distinct.{withNew, distinctFrom}
 use Rattle.areas.specs.Areas.{seeded}
 use Rattle.write_pages.specs.Items.{Corner, cornersIn, triples, named}
 use Rattle.write_pages.specs.Sectors.{leafCounts}
-use Rattle.write_pages.specs.Pages.{loOf, extentOf, links, sectors, pages}
+use Rattle.write_pages.specs.Pages.{bbMin, bbSize, links, sectors, pages}
 
 -- nothing is refused, or a refusal's number and place
 pub data Verdict : Type 0 where
@@ -92,7 +92,7 @@ leavesVerdict k (n ∷ ns) rest = at k (leafFault n) (leavesVerdict (k + 1) ns r
 unfoldable pub cellVerdict : (words work out : ℕ) → Cell → Verdict
 cellVerdict words work out c =
     at 0 (firstFault (faultIf (ltb (work / 4) words) 1 ∷ faultIf (not (finiteBox (c .head))) 10 ∷ faultIf (ltb 16383 (length (c .polys))) 11 ∷ []))
-    (polygonsVerdict (loOf c) (extentOf c) [] (seeded (c .head .area)) 0 0 (c .polys)
+    (polygonsVerdict (bbMin c) (bbSize c) [] (seeded (c .head .area)) 0 0 (c .polys)
     (leavesVerdict 0 (leafCounts (sectors c))
     (at 0 (firstFault (faultIf (ltb 585 (length (c .portals))) 19 ∷ faultIf (ltb 8192 (length (links c))) 20 ∷ faultIf (ltb out (length (pages c))) 2 ∷ []))
     fine)))

@@ -14,7 +14,7 @@ use Rattle.strip.specs.Cell.{Vec3, NavEdgeEnd, NavEdge, NavPoly}
 pub use Rattle.cell_record.specs.Floats.{floats}
 use Rattle.distinct.specs.Distinct.{indexOf, distinctFrom}
 use Rattle.areas.specs.Areas.{seeded}
-use Rattle.areas.specs.EdgeHalf.{halfWord, none}
+use Rattle.areas.specs.EdgeHalf.{halfWord, ADJACENT-NONE}
 
 -- three shorts as the one number x + 2^16 y + 2^32 z
 abbrev pub triple : Shorts → ℕ
@@ -22,7 +22,7 @@ triple q = q .x + 2 ^ 16 * q .y + 2 ^ 32 * q .z
 
 -- NONE: area and poly 16383, unk2 and unk3 zero
 abbrev pub noHalf : NavEdgeEnd
-noHalf = record { area = none; poly = none; unk3 = 0; unk2 = 0 }
+noHalf = record { area = ADJACENT-NONE; poly = ADJACENT-NONE; unk3 = 0; unk2 = 0 }
 
 abbrev pub noEdge : NavEdge
 noEdge = record { a = noHalf; b = noHalf }
@@ -37,7 +37,7 @@ unfoldable pub gather : {A : Type 0} → (NavPoly → List A) → List NavPoly �
 gather f [] = []
 gather f (p ∷ ps) = f p ++ gather f ps
 
--- lo is bb_min and size bb_size
+-- in the box of bb_min and bb_size
 module _ (bb-min bb-size : Floats) where
   unfoldable pub tripleIn : Vec3 → ℕ
   tripleIn v = triple (shorts (floats v) bb-min bb-size)
@@ -112,9 +112,13 @@ boxOf p = record {
   «z_max» = greatestSide (map (λ v. v .z) (p .vertices));
 }
 
+-- how many polygons stand in a part: as many as take at most a page
+abbrev pub POLYS-PER-PART : ℕ
+POLYS-PER-PART = 341
+
 -- the word at 0x2C of polygon k, with `before` links before its own: (k ÷ 341) × 16, links × 4096, links before it × 32768
 abbrev pub partWord : (k links before : ℕ) → ℕ
-partWord k links before = pack ((4, 0) ∷ (8, k / 341) ∷ (3, links) ∷ (17, before) ∷ [])
+partWord k links before = pack ((4, 0) ∷ (8, k / POLYS-PER-PART) ∷ (3, links) ∷ (17, before) ∷ [])
 
 -- a polygon, 48 bytes. It is number k, `start` indices and `before` links come before its own, and own is the cell's area id
 abbrev pub polygonRow : (own k start before : ℕ) → NavPoly → List (ℕ × ℕ)

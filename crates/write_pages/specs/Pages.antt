@@ -43,7 +43,7 @@ pub record Places : Type 0 where
   pub portals : ℕ
   pub links : ℕ
 
-pub record Counts : Type 0 where
+pub record HeaderCounts : Type 0 where
   pub vertices : ℕ
   pub indices : ℕ
   pub areas : ℕ
@@ -65,7 +65,7 @@ abbrev pub matrix : List (ℕ × ℕ)
 matrix = matrixRow oneBits 0 0 ++ (matrixRow 0 oneBits 0 ++ (matrixRow 0 0 oneBits ++ matrixRow 0 0 0))
 
 -- from 0 to 0x98, where the areas are
-abbrev pub headerFirst : Head → Places → Counts → List (ℕ × ℕ)
+abbrev pub headerFirst : Head → Places → HeaderCounts → List (ℕ × ℕ)
 headerFirst h a n =
     ((4, h .vft) ∷ (4, 1) ∷ (8, 0) ∷ (4, h .content) ∷ (4, 0x10011) ∷ (8, 0) ∷ [])
     ++ (matrix
@@ -79,27 +79,27 @@ padded (suc n) [] = 0 ∷ padded n []
 padded (suc n) (x ∷ l) = x ∷ padded n l
 
 -- from 0x118 on
-abbrev pub headerLast : Head → Places → Counts → List (ℕ × ℕ)
+abbrev pub headerLast : Head → Places → HeaderCounts → List (ℕ × ℕ)
 headerLast h a n =
     (8, a .polygons) ∷ (8, a .root) ∷ (8, a .portals) ∷ (8, a .links) ∷ (4, n .vertices) ∷ (4, n .polygons) ∷ (4, h .area) ∷ (4, n .total)
     ∷ (4, n .points) ∷ (4, n .portals) ∷ (4, n .links) ∷ (12, 0) ∷ (4, h .version) ∷ (12, 0) ∷ []
 
 -- the header, 368 bytes
-unfoldable pub headerBytes : Head → Places → Counts → List ℕ → List ℕ
+unfoldable pub headerBytes : Head → Places → HeaderCounts → List ℕ → List ℕ
 headerBytes h a n areas = rowBytes (headerFirst h a n) ++ (les 4 (padded 32 areas) ++ rowBytes (headerLast h a n))
 
 -- ---- what there is of a cell
 
 module _ (c : Cell) where
   -- bb_min and bb_size
-  abbrev pub loOf : Floats
-  loOf = floats (c .head .bb-min)
+  abbrev pub bbMin : Floats
+  bbMin = floats (c .head .bb-min)
 
-  abbrev pub extentOf : Floats
-  extentOf = floats (c .head .bb-size)
+  abbrev pub bbSize : Floats
+  bbSize = floats (c .head .bb-size)
 
   abbrev pub allCorners : List Corner
-  allCorners = corners loOf extentOf (c .polys)
+  allCorners = corners bbMin bbSize (c .polys)
 
   unfoldable pub vertices : List ℕ
   vertices = vertexTable allCorners
@@ -113,7 +113,7 @@ module _ (c : Cell) where
   unfoldable pub sectors : Sector
   sectors = treeOf (c .head) (c .polys) (c .points)
 
-  unfoldable pub counts : Counts
+  unfoldable pub counts : HeaderCounts
   counts = record {
     vertices = length vertices;
     indices = length allCorners;
@@ -129,7 +129,7 @@ module _ (c : Cell) where
 -- ---- sizes and positions, from the counts and the tree alone
 
 -- the blocks' sizes: header; lists in the order vertices, indices, edges, polygons; sectors; portals; links
-unfoldable pub sizesOf : Counts → Sector → List ℕ
+unfoldable pub sizesOf : HeaderCounts → Sector → List ℕ
 sizesOf n t =
     NAVMESH-SIZE
     ∷ (listSizes VERTEX-SIZE (n .vertices)
@@ -141,7 +141,7 @@ sizesOf n t =
     ++ sizeOf (2 * n .links)))))))
 
 -- the end behind each part
-module _ (n : Counts) (t : Sector) where
+module _ (n : HeaderCounts) (t : Sector) where
   unfoldable pub endHeader : ℕ
   endHeader = behind 0 NAVMESH-SIZE
 
@@ -190,8 +190,8 @@ module _ (c : Cell) where
       ++ (listBlocks (endVertices (counts c) (sectors c)) LIST-VFT-INDICES INDEX-SIZE (indexItems (vertices c) (allCorners c))
       ++ (listBlocks (endIndices (counts c) (sectors c)) LIST-VFT-EDGES EDGE-SIZE (edgeItems (areas c) (allCorners c))
       ++ (listBlocks (endEdges (counts c) (sectors c)) LIST-VFT-POLYS POLY-SIZE (polygonItems (c .head .area) 0 0 0 (c .polys))
-      ++ (treeBlocks (loOf c) (extentOf c) (endPolygons (counts c) (sectors c)) 0 (sectors c)
-      ++ (blockOf (cat (portalItems (loOf c) (extentOf c) (c .portals)))
+      ++ (treeBlocks (bbMin c) (bbSize c) (endPolygons (counts c) (sectors c)) 0 (sectors c)
+      ++ (blockOf (cat (portalItems (bbMin c) (bbSize c) (c .portals)))
       ++ blockOf (les 2 (links c))))))))
 
   unfoldable pub pages : List ℕ

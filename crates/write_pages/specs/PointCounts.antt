@@ -12,7 +12,7 @@ use Rattle.write_pages.specs.Pages.{sectors}
 
 -- the boxes of a cell's leaves, in writing order
 abbrev pub leafBoxes : Cell → List Aabb
-leafBoxes c = leaves (depthOf (c .head)) (rootBox (c .head))
+leafBoxes c = leaves (depthOf (c .head .content)) (rootBox (c .head))
 
 -- "Stored is the sum over leaves": of the points that each stores
 abbrev pub storedCount : Cell → ℕ

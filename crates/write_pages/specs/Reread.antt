@@ -8,7 +8,7 @@ use Rattle.strip.specs.Cell.{Vec3, NavEdgeEnd, NavEdge, NavPoly, NavPortal, Nav
 use Rattle.cell_record.specs.Record.{bits}
 use Rattle.write_pages.specs.Items.{floats, cornersIn}
 use Rattle.write_pages.specs.Preorder.{preorder}
-use Rattle.write_pages.specs.Pages.{loOf, extentOf, sectors}
+use Rattle.write_pages.specs.Pages.{bbMin, bbSize, sectors}
 
 -- areas are kept in full; poly, unk2 and unk3 are cut to their bits
 unfoldable pub halfAgain : NavEdgeEnd → NavEdgeEnd
@@ -55,7 +55,7 @@ module _ (bb-min bb-size : Floats) where
 unfoldable pub reread : Cell → Cell
 reread c = record {
   head = c .head;
-  polys = map (polygonAgain (loOf c) (extentOf c)) (c .polys);
-  portals = map (portalAgain (loOf c) (extentOf c)) (c .portals);
-  points = map (pointAgain (loOf c) (extentOf c)) (preorder (sectors c));
+  polys = map (polygonAgain (bbMin c) (bbSize c)) (c .polys);
+  portals = map (portalAgain (bbMin c) (bbSize c)) (c .portals);
+  points = map (pointAgain (bbMin c) (bbSize c)) (preorder (sectors c));
 }

@@ -65,8 +65,12 @@ abbrev pub depthBy : ℕ → ℕ
 depthBy zero = 2
 depthBy (suc n) = 0
 
-abbrev pub depthOf : Head → ℕ
-depthOf h = depthBy (h .content / 2 ^ 2 % 2)
+-- the content bit of a vehicle cell
+abbrev pub CONTENT-VEHICLE : ℕ
+CONTENT-VEHICLE = 4
+
+abbrev pub depthOf : (content : ℕ) → ℕ
+depthOf content = depthBy (content / CONTENT-VEHICLE % 2)
 
 -- ---- a leaf's points
 
@@ -129,7 +133,7 @@ module _ (ids : QuarterBox → List ℕ) (stored : ℕ → List NavPoint) where
 -- the tree of a cell's box, polygons and points
 unfoldable pub treeOf : Head → List NavPoly → List NavPoint → Sector
 treeOf h ps ts =
-    grown (λ q. leafIds q 0 (map boxOf ps)) (λ k. pointsOf (leaves (depthOf h) (rootBox h)) k ts) (depthOf h) 0 (rootBox h)
+    grown (λ q. leafIds q 0 (map boxOf ps)) (λ k. pointsOf (leaves (depthOf (h .content)) (rootBox h)) k ts) (depthOf (h .content)) 0 (rootBox h)
 
 unfoldable pub pointCount : Sector → ℕ
 pointCount (leaf b is ts) = length ts
@@ -183,7 +187,7 @@ abbrev pub pointsFrom : (end m : ℕ) → ℕ
 pointsFrom end m = endOf (idsFrom end) (sizeOf (2 * m))
 
 abbrev pub dataFrom : (end m n : ℕ) → ℕ
-dataFrom end m n = endOf (pointsFrom end m) (sizeOf (8 * n))
+dataFrom end m n = endOf (pointsFrom end m) (sizeOf (POINT-SIZE * n))
 
 -- before the subs of a sector
 abbrev pub from0 : ℕ → ℕ
@@ -219,7 +223,7 @@ module _ (bb-min bb-size : Floats) where
   leafBlocks end first m n b is ts =
       rowBytes (sectorRow b (address (placeOf (dataFrom end m n) SECTOR-DATA-SIZE)) 0 0 0 0)
       ∷ (blockOf (les 2 is) ++ (blockOf (cat (pointItems ts))
-      ++ (rowBytes (dataRow first (addressOf (idsFrom end) (2 * m)) (addressOf (pointsFrom end m) (8 * n)) m n) ∷ [])))
+      ++ (rowBytes (dataRow first (addressOf (idsFrom end) (2 * m)) (addressOf (pointsFrom end m) (POINT-SIZE * n)) m n) ∷ [])))
 
   -- a tree's, whose first point has the number `first`: a sector's block before its subs'
   unfoldable pub treeBlocks : (end first : ℕ) → Sector → List (List ℕ)

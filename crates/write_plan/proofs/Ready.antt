@@ -41,7 +41,7 @@ module _ (s w w' : List ℕ) (d : Decision) where
   formed : Planned s w w' d → d .verdict ≡ Fine → Well s (d .counts)
   formed P z =
       let f = scanned-cell s d (λ c. beforeLeaves (length s) (length w) (afterPolygonChecks fine c) c) (P .verdict fine) z in
-      well-cell s (f .0) (f .1) (d .counts) (P .counts z (f .0) (f .1))
+      well-cell s (f .0) (f .1) (d .counts) (P .counts-are z (f .0) (f .1))
 
   pub verdict-of : (out : ℕ) → Planned s w w' d → d .verdict ≡ Fine
       → cellVerdict (length s) (length w) out (cellAt s (d .counts)) ≡ at 0 (faultIf (ltb out (length (pages (cellAt s (d .counts))))) 2) fine
@@ -59,7 +59,7 @@ module _ (s w w' : List ℕ) (d : Decision) where
         accepted = a .1;
         tabled = P .tabled z c (formed P z .is);
         held = P .held z;
-        whole = formed P z .whole;
+        length-is = formed P z .length-is;
         long = formed P z .long;
         room = omega (arith, a .0, P .long);
       }

@@ -1,5 +1,5 @@
 -- What stands behind the tables: there is room for it, and the tree by its words is the cell's. Assumes nothing.
-use Prim.Native.Nat.{ℕ, zero, suc, _+_, _-_, _*_, _/_, _%_, _^_, _≤_}
+use Prim.Native.Nat.{ℕ, zero, suc, _+_, _-_, _*_, _≤_}
 use native.Mathlib.Omega.{arith}
 use native.Mathlib.Nat.{add-zero}
 use mathlib.Core.Path.{_≡_, refl, ap, sym, _∙_}
@@ -18,7 +18,7 @@ use Rattle.strip.proofs.Lengths.{poly-count}
 use Rattle.strip.proofs.Steps.{items-length}
 use Rattle.strip.proofs.Judged.{poly-next}
 use Rattle.write_pages.specs.Items.{floats, boxOf, gather}
-use Rattle.write_pages.specs.Sectors.{Sector, leafOf, leaves, depthBy, depthOf, rootBox, leafCounts, treeOf}
+use Rattle.write_pages.specs.Sectors.{Sector, leafOf, leaves, depthOf, rootBox, leafCounts, treeOf}
 use Rattle.write_pages.specs.Checks.{leavesVerdict}
 use Rattle.write_leaf_counts.specs.Work.{treeBy, BoxesHeld, LeavesHeld}
 use Rattle.write_leaf_checks.specs.FirstRefused.{FirstRefused}
@@ -57,7 +57,7 @@ point-count s n = items-length (pointAt s) (λ x. x + 4) (n .points) (firstPoint
 pub rest-stored : (s : List ℕ) (n : Counts) (w w1 w2 : List ℕ) (p : WorkPlaces) (first : ℕ) (b : Aabb)
     → p ≡ workPlaces (length s) n → first ≡ firstPoint s n → b ≡ rootBox (headAt s 0)
     → w1 ≡ put (p .boxes) (boxes (polygonsAt s 14 (n .polys))) w
-    → w2 ≡ put (p .leaves) (leafWords (leaves (depthBy (word s 1 / 2 ^ 2 % 2)) b) (pointsAt s first (n .points))) w1
+    → w2 ≡ put (p .leaves) (leafWords (leaves (depthOf (word s 1)) b) (pointsAt s first (n .points))) w1
     → w2 ≡ put (workPlaces (length s) n .boxes) (restWords s n) w
 unfolding headAt
 rest-stored s n w w1 w2 p first b eb ef er e1 e2 =
@@ -103,7 +103,7 @@ module _ (s w : List ℕ) (n : Counts) (held : WorkHeld s n w) (p : WorkPlaces) 
       let m : p .leaves - p .boxes ≡ 3 * n .polys = omega (arith, c) in
       rw (m, c .boxes) (held .boxes-held)
 
-  pub leaf-part : leafPart ≡ leafWords (leaves (depthOf (headAt s 0)) (rootBox (headAt s 0))) (pointsIn s n)
+  pub leaf-part : leafPart ≡ leafWords (leaves (depthOf (headAt s 0 .content)) (rootBox (headAt s 0))) (pointsIn s n)
   leaf-part =
       let c = cut (length s) n here in
       let m : p .end - p .leaves ≡ n .points = omega (arith, c) in
@@ -111,22 +111,22 @@ module _ (s w : List ℕ) (n : Counts) (held : WorkHeld s n w) (p : WorkPlaces) 
 
   -- a word to a point
   pub part-long : length (pointsIn s n) ≡ length leafPart
-  part-long = rw leaf-part (sym (length-leaves (leaves (depthOf (headAt s 0)) (rootBox (headAt s 0))) (pointsIn s n)))
+  part-long = rw leaf-part (sym (length-leaves (leaves (depthOf (headAt s 0 .content)) (rootBox (headAt s 0))) (pointsIn s n)))
 
   -- the tree by the words is the cell's
   pub part-tree : (b : Aabb) → b ≡ rootBox (headAt s 0)
-      → treeBy boxPart leafPart (pointsIn s n) (depthBy (word s 1 / 2 ^ 2 % 2)) 0 b ≡ treeOf (headAt s 0) (polygonsAt s 14 (n .polys)) (pointsIn s n)
+      → treeBy boxPart leafPart (pointsIn s n) (depthOf (word s 1)) 0 b ≡ treeOf (headAt s 0) (polygonsAt s 14 (n .polys)) (pointsIn s n)
   unfolding headAt
   part-tree b root =
       let ps = polygonsAt s 14 (n .polys) in
       let ts = pointsIn s n in
-      let bs = leaves (depthOf (headAt s 0)) (rootBox (headAt s 0)) in
+      let bs = leaves (depthOf (headAt s 0 .content)) (rootBox (headAt s 0)) in
       let boxes-are : BoxesHeld boxPart 0 ps = rw box-part (boxes-in [] ps) in
       let leaves-are : LeavesHeld bs leafPart 0 ts = rw leaf-part (leaves-in bs [] ts) in
       let size : length boxPart ≡ 3 * length ps = rw box-part (length-boxes ps) in
-      ap (λ (c : Aabb). treeBy boxPart leafPart ts (depthOf (headAt s 0)) 0 c) root ∙ tree-held (headAt s 0) ps ts boxPart leafPart size boxes-are leaves-are
+      ap (λ (c : Aabb). treeBy boxPart leafPart ts (depthOf (headAt s 0 .content)) 0 c) root ∙ tree-held (headAt s 0) ps ts boxPart leafPart size boxes-are leaves-are
 
-  pub leaf-told : (b : Aabb) (d : ℕ) (r : LeafCheck) → b ≡ rootBox (headAt s 0) → d ≡ depthBy (word s 1 / 2 ^ 2 % 2)
+  pub leaf-told : (b : Aabb) (d : ℕ) (r : LeafCheck) → b ≡ rootBox (headAt s 0) → d ≡ depthOf (word s 1)
       → ((ts : List NavPoint) → length ts ≡ length leafPart → FirstRefused r 0 (leafCounts (treeBy boxPart leafPart ts d 0 b)))
       → FirstRefused r 0 (leafCounts (treeOf (headAt s 0) (polygonsAt s 14 (n .polys)) (pointsIn s n)))
   leaf-told b d r root deep tells rest =

@@ -2,7 +2,6 @@
 use Prim.Native.Nat.{ℕ, zero, suc, _+_, _*_, _-_, _≤_, _<_}
 use native.Mathlib.Omega.{arith}
 use native.Mathlib.Nat.{add-zero, sub-zero, min-eq-left}
-use native.Mathlib.Numerals.{add-one}
 use mathlib.Core.Path.{_≡_, refl, ap, sym, _∙_}
 use mathlib.Core.Bool.{true, false}
 use mathlib.Core.List.{List, [], _∷_, map}
@@ -12,7 +11,7 @@ use mir.Syntax.{w16}
 use mir.Val.{toZ, ofZ}
 use Rattle.quarters.proofs.Quarters.{side-read}
 use Rattle.fields.specs.Put.{put}
-use Rattle.fields.proofs.Puts.{length-put, put-nil, put-cons, put-one, put-next}
+use Rattle.fields.proofs.Puts.{length-put, put-nil, put-cons, put-one, put-three, put-next}
 use Rattle.quarters.specs.Bounding.{everyThird, held, quarterBounds}
 use Rattle.quarters.specs.declared.quarter.QuarterBox.{QuarterBox}
 use Rattle.quarters.specs.declared.bounds.Aabb.{Aabb}
@@ -43,12 +42,6 @@ box-read s p h =
     let x : everyThird s v (p .vertices) ≡ map (λ q. q .x) (vecsAt s v (p .vertices)) = ap (λ (at : ℕ). everyThird s at (p .vertices)) (sym (add-zero v)) ∙ axis s 0 (λ q. q .x) (λ at. ap (word s) (sym (add-zero at))) (p .vertices) v in
     rw (all, x, axis s 1 (λ q. q .y) (λ at. refl) (p .vertices) v, axis s 2 (λ q. q .z) (λ at. refl) (p .vertices) v)
 
--- three words one after the other
-three : (w : List ℕ) (at x y z : ℕ) → set (set (set w at x) (at + 1) y) (at + 2) z ≡ put at (x ∷ y ∷ z ∷ []) w
-three w at x y z =
-    let two : at + 2 ≡ suc (suc at) = omega arith in
-    rw (add-one at, two) (sym (put-cons at x (y ∷ z ∷ []) w ∙ put-cons (suc at) y (z ∷ []) (set w at x) ∙ put-one (suc (suc at)) z (set (set w at x) (suc at) y)))
-
 -- a side that went through a machine word is itself, since it has 16 bits
 sides-word : (m n m' n' : ℤ) (r : ℕ) → r ≡ sides m n → m ≡ m' → n ≡ n' → r ≡ sides m' n'
 sides-word m n m' n' r e em en = e ∙ ap (λ (k : ℤ). sides k n) em ∙ ap (λ (k : ℤ). sides m' k) en
@@ -64,7 +57,7 @@ module _ (q : QuarterBox) (p : NavPoly) (e : q ≡ boxOf p) (w : List ℕ) (at x
       let x' = sides-word _ _ _ _ x ex (side-read false _ _ (ap (λ (b : QuarterBox). b .«x_min») e)) (side-read true _ _ (ap (λ (b : QuarterBox). b .«x_max») e)) in
       let y' = sides-word _ _ _ _ y ey (side-read false _ _ (ap (λ (b : QuarterBox). b .«y_min») e)) (side-read true _ _ (ap (λ (b : QuarterBox). b .«y_max») e)) in
       let z' = sides-word _ _ _ _ z ez (side-read false _ _ (ap (λ (b : QuarterBox). b .«z_min») e)) (side-read true _ _ (ap (λ (b : QuarterBox). b .«z_max») e)) in
-      rw (x', y', z') (three w at _ _ _)
+      rw (x', y', z') (put-three at _ _ _ w)
 
 length-box : (q : QuarterBox) → length (boxWords q) ≡ 3
 unfolding boxWords

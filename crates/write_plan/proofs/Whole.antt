@@ -85,7 +85,7 @@ module _ (s w w' : List ℕ) (d : Decision) (D : DecideDone s w w' d) where
     beyond = D .beyond;
     tabled = λ z. never-both (d .verdict) q bad z;
     held = λ z. never-both (d .verdict) q bad z;
-    counts = λ z. never-both (d .verdict) q bad z;
+    counts-are = λ z. never-both (d .verdict) q bad z;
   }
     where
       by : (rest : Verdict) (x : Scanned) → scan s ≡ x → decisionThen d rest ≡ onScan (λ c. beforeLeaves (length s) (length w) (afterPolygonChecks rest c) c) x
@@ -104,7 +104,7 @@ module _ (s w w' : List ℕ) (d : Decision) (D : DecideDone s w w' d) where
     is = found .1
 
     formed : Well s (d .counts)
-    formed = well-cell s cell is (d .counts) (D .counts z cell is)
+    formed = well-cell s cell is (d .counts) (D .counts-are z cell is)
 
     stands : cell ≡ cellAt s (d .counts)
     stands = cell-is s formed cell is
@@ -115,8 +115,8 @@ module _ (s w w' : List ℕ) (d : Decision) (D : DecideDone s w w' d) where
     pub record-is : d .cell ≡ recordOf (headAt s 0)
     record-is = D .tabled z cell is .cell ∙ ap (λ (c : Cell). recordOf (c .head)) stands
 
-    pub whole : Whole s (d .counts)
-    whole = formed .whole
+    pub length-is : Whole s (d .counts)
+    length-is = formed .length-is
 
     pub room : 4 * length s ≤ length w'
     unfolding beforeLeaves
@@ -128,23 +128,23 @@ module _ (s w w' : List ℕ) (d : Decision) (D : DecideDone s w w' d) where
     size : length (restWords s (d .counts)) ≡ 3 * d .counts .polys + d .counts .points
     size =
         let n = d .counts in
-        length-append (boxes (polygonsAt s 14 (n .polys))) (leafWords (leaves (depthOf (headAt s 0)) (rootBox (headAt s 0))) (pointsIn s n))
-        ∙ omega (arith, length-boxes (polygonsAt s 14 (n .polys)), poly-count s (n .polys), length-leaves (leaves (depthOf (headAt s 0)) (rootBox (headAt s 0))) (pointsIn s n), point-count s n)
+        length-append (boxes (polygonsAt s 14 (n .polys))) (leafWords (leaves (depthOf (headAt s 0 .content)) (rootBox (headAt s 0))) (pointsIn s n))
+        ∙ omega (arith, length-boxes (polygonsAt s 14 (n .polys)), poly-count s (n .polys), length-leaves (leaves (depthOf (headAt s 0 .content)) (rootBox (headAt s 0))) (pointsIn s n), point-count s n)
 
     fits : tablesEnd (length s) + length (restWords s (d .counts)) ≤ 2 * length s
     fits =
         let t = D .tabled z cell is in
-        let n : d .counts .polys ≡ length (cell .polys) = ap (λ (k : Counts). k .polys) (D .counts z cell is) in
-        omega (arith, size, whole, trees-in (length s) long .2, t .few-polys, t .few-corners)
+        let n : d .counts .polys ≡ length (cell .polys) = ap (λ (k : Counts). k .polys) (D .counts-are z cell is) in
+        omega (arith, size, length-is, trees-in (length s) long .2, t .few-polys, t .few-corners)
 
     module _ (w2 : List ℕ) (e2 : w2 ≡ put (tablesEnd (length s)) (restWords s (d .counts)) w') where
       pub held : WorkHeld s (d .counts) w2
       held =
           let n = d .counts in
           let A = boxes (polygonsAt s 14 (n .polys)) in
-          let B = leafWords (leaves (depthOf (headAt s 0)) (rootBox (headAt s 0))) (pointsIn s n) in
+          let B = leafWords (leaves (depthOf (headAt s 0 .content)) (rootBox (headAt s 0))) (pointsIn s n) in
           let sa : length A ≡ 3 * n .polys = length-boxes (polygonsAt s 14 (n .polys)) ∙ ap (λ (k : ℕ). 3 * k) (poly-count s (n .polys)) in
-          let sb : length B ≡ n .points = length-leaves (leaves (depthOf (headAt s 0)) (rootBox (headAt s 0))) (pointsIn s n) ∙ point-count s n in
+          let sb : length B ≡ n .points = length-leaves (leaves (depthOf (headAt s 0 .content)) (rootBox (headAt s 0))) (pointsIn s n) ∙ point-count s n in
           let h : Holds w2 (tablesEnd (length s)) (A ++ B) = rw e2 (put-held (tablesEnd (length s)) (restWords s n) w' (omega (arith, fits, room))) in
           record {
             room = omega (arith, fits, room, size, ap length e2 ∙ length-put (tablesEnd (length s)) (restWords s n) w');
@@ -168,7 +168,7 @@ module _ (s w w' : List ℕ) (d : Decision) (D : DecideDone s w w' d) where
         beyond = rw e2 (drop-behind (tablesEnd (length s)) (restWords s (d .counts)) w' (2 * length s) fits) ∙ D .beyond;
         tabled = λ y c e. rw (eq, e2) (tabled-kept (length s) (c .head) (c .polys) w' (restWords s (d .counts)) d v (D .tabled z c e));
         held = λ y. rw eq held;
-        counts = λ y c e. rw eq (D .counts z c e);
+        counts-are = λ y c e. rw eq (D .counts-are z c e);
       }
 
       module _ (r : LeafCheck) (told-leaves : FirstRefused r 0 (leafCounts (treeOf (headAt s 0) (polygonsAt s 14 (d .counts .polys)) (pointsIn s (d .counts))))) where
@@ -185,7 +185,7 @@ module _ (s w w' : List ℕ) (d : Decision) (D : DecideDone s w w' d) where
             → (v : Said) → VerdictHas v f → (q : Decision) → q ≡ judged d v → Planned s w w2 q
         unfolding afterPolygonChecks links
         at-last passed f ef v ev q eq =
-            let n : d .counts .portals ≡ length (cell .portals) = ap (λ (k : Counts). k .portals) (D .counts z cell is) in
+            let n : d .counts .portals ≡ length (cell .portals) = ap (λ (k : Counts). k .portals) (D .counts-are z cell is) in
             let l : d .links ≡ length (links cell) = D .tabled z cell is .link-count in
             let same : f ≡ firstFault (faultIf (ltb 585 (length (cell .portals))) 19 ∷ faultIf (ltb 8192 (length (links cell))) 20 ∷ []) = rw (← n, ← l) ef in
             planned v

@@ -45,13 +45,13 @@ pointsIn s n = pointsAt s (firstPoint s n) (n .points)
 
 -- what stands behind the tables
 abbrev pub restWords : List ℕ → Counts → List ℕ
-restWords s n = boxes (polygonsAt s 14 (n .polys)) ++ leafWords (leaves (depthOf (headAt s 0)) (rootBox (headAt s 0))) (pointsIn s n)
+restWords s n = boxes (polygonsAt s 14 (n .polys)) ++ leafWords (leaves (depthOf (headAt s 0 .content)) (rootBox (headAt s 0))) (pointsIn s n)
 
 -- the words w hold it
 pub record WorkHeld (s : List ℕ) (n : Counts) (w : List ℕ) : Type 0 where
   pub room : workPlaces (length s) n .end ≤ length w
   pub boxes-held : take (3 * n .polys) (drop (workPlaces (length s) n .boxes) w) ≡ boxes (polygonsAt s 14 (n .polys))
-  pub leaves-held : take (n .points) (drop (workPlaces (length s) n .leaves) w) ≡ leafWords (leaves (depthOf (headAt s 0)) (rootBox (headAt s 0))) (pointsIn s n)
+  pub leaves-held : take (n .points) (drop (workPlaces (length s) n .leaves) w) ≡ leafWords (leaves (depthOf (headAt s 0 .content)) (rootBox (headAt s 0))) (pointsIn s n)
 
 -- ---- the verdict
 
@@ -79,4 +79,4 @@ pub record Planned (s w w' : List ℕ) (r : Decision) : Type 0 where
   pub beyond : drop (2 * length s) w' ≡ drop (2 * length s) w
   pub tabled : r .verdict ≡ Fine → (c : Cell) → scan s ≡ ok c → Tabled (length s) (c .head) (c .polys) w' r
   pub held : r .verdict ≡ Fine → WorkHeld s (r .counts) w'
-  pub counts : r .verdict ≡ Fine → (c : Cell) → scan s ≡ ok c → r .counts ≡ cellCounts c
+  pub counts-are : r .verdict ≡ Fine → (c : Cell) → scan s ≡ ok c → r .counts ≡ cellCounts c

@@ -19,7 +19,7 @@ pub record Ready (s w : List ℕ) (d : Decision) : Type 0 where
   pub accepted : Accepted (cellAt s (d .counts))
   pub tabled : Tabled (length s) (headAt s 0) (polygonsAt s 14 (d .counts .polys)) w d
   pub held : WorkHeld s (d .counts) w
-  pub whole : Whole s (d .counts)
+  pub length-is : Whole s (d .counts)
   pub long : 14 ≤ length s
   -- work is lent four times as long as the strip
   pub room : 4 * length s ≤ length w

@@ -5,7 +5,7 @@ ghost use lib.Dec.{ltb};
 ghost use Rattle.write_pages.specs.Checks.{faultIf, firstFault, at};
 ghost use Rattle.write_decide.specs.Decide.{workPlaces};
 ghost use Rattle.write_polygon_checks.specs.Steps.{VerdictHas};
-ghost use Prim.Native.Nat.{_+_, _*_, _/_, _%_, _^_, _≤_};
+ghost use Prim.Native.Nat.{_+_, _*_, _≤_};
 ghost use lib.ListN.{length};
 ghost use Rattle.fields.specs.Put.{put};
 ghost use Rattle.strip.specs.Reading.{headAt, polygonOf};
@@ -13,7 +13,7 @@ ghost use Rattle.strip.specs.Rows.{polygonsAt, afterPolygons, pointsAt};
 ghost use Rattle.strip.specs.Laid.{Whole};
 ghost use Rattle.cell_record.specs.Record.{recordOf};
 ghost use Rattle.write_pages.specs.Items.{boxOf};
-ghost use Rattle.write_pages.specs.Sectors.{leaves, depthBy, leafCounts, treeOf};
+ghost use Rattle.write_pages.specs.Sectors.{leaves, depthOf, leafCounts, treeOf};
 ghost use Rattle.write_leaf_checks.specs.FirstRefused.{FirstRefused};
 ghost use Rattle.write_plan.specs.Plan.{boxWords, boxes, leafWords, pointsIn, restWords, WorkHeld, judged, Planned};
 use cell_record::CellRecord;
@@ -66,7 +66,7 @@ fn put_leaves(
     base: usize,
 )
     requires { ⌜ (first + 4 * n ≤ length (now strip)) × (base + n ≤ length (now work)) ⌝ }
-    ensures { λ _. ⌜ now (work .exit) ≡ put base (leafWords (leaves (depthBy (content / 2 ^ 2 % 2)) b) (pointsAt (now (strip .entry)) first n)) (now (work .entry)) ⌝ }
+    ensures { λ _. ⌜ now (work .exit) ≡ put base (leafWords (leaves (depthOf content) b) (pointsAt (now (strip .entry)) first n)) (now (work .entry)) ⌝ }
 {
     let depth = write_quadtree::boxes::depth_of(content);
     let lines = write_quadtree::boxes::lines_of(b);

@@ -22,11 +22,13 @@ use Rattle.strip.specs.Reading.{word, itemsAt, vecAt, polyAt, polygonOf, polygo
 use Rattle.strip.specs.Rows.{after, polygonsAt, afterPolygons}
 use Rattle.strip.specs.declared.Poly.{Poly}
 use Rattle.strip.proofs.Steps.{items-length, parts, after-ge}
+use Rattle.strip.proofs.Lengths.{poly-count}
 use Rattle.write_blocks.proofs.Lists.{length-cat}
 use Rattle.write_blocks.proofs.Parts.{Filling, filling, filling-room, filling-turn, filled}
-use Rattle.write_pages.specs.Items.{boxOf, gather, partWord, polygonRow, polygonItems}
+use Rattle.write_pages.specs.Items.{POLYS-PER-PART, boxOf, gather, partWord, polygonRow, polygonItems}
 use Rattle.write_pages.proofs.Sizes.{wide-polygons, length-polygons}
 use Rattle.write_plan.specs.Plan.{sides, boxWords, boxes}
+use Rattle.write_plan.proofs.Rest.{length-boxes}
 use Rattle.write_polygons.specs.Made.{pairWord, countBits, polygonWords}
 use Rattle.write_polygons.specs.Records.{start, following, past, recordsAt, Standing}
 use Rattle.write_polygons.specs.declared.PolyCursor.{PolyCursor}
@@ -37,7 +39,7 @@ pub count-bits : (v : ℕ) → v % 2048 * 32 ≡ countBits v
 unfolding pack
 count-bits v = omega arith
 
-pub part-bits : (k links before : ℕ) → k / 341 % 256 * 16 + links % 8 * 4096 + before % 131072 * 32768 ≡ partWord k links before
+pub part-bits : (k links before : ℕ) → k / POLYS-PER-PART % 256 * 16 + links % 8 * 4096 + before % 131072 * 32768 ≡ partWord k links before
 unfolding pack
 part-bits k links before = omega arith
 
@@ -194,16 +196,11 @@ boxes-word s (suc n) (suc i) at h =
     let e : 3 * suc i ≡ suc (suc (suc (3 * i))) = omega arith in
     rw e (boxes-word s n i (polyAt s at .next) (omega arith))
 
-length-boxes : (s : List ℕ) (n at : ℕ) → length (boxes (polygonsAt s at n)) ≡ 3 * n
-unfolding gather itemsAt boxWords
-length-boxes s zero at = refl
-length-boxes s (suc n) at = rw (length-boxes s n (polyAt s at .next)) (omega arith)
-
 pub standing-start : (s ws : List ℕ) (n : ℕ) → afterPolygons s 14 n ≤ length s → ws ≡ boxes (polygonsAt s 14 n) → Standing s ws start n
 standing-start s ws n h e = record {
   inside = h;
   few = omega arith;
-  long = omega (arith, ap length e, length-boxes s n 14);
+  long = omega (arith, ap length e, length-boxes (polygonsAt s 14 n), poly-count s n);
   boxed = λ i k. rw (zero-add i, e) (boxes-word s n i 14 k);
 }
 

@@ -5,6 +5,7 @@ ghost use Prim.Native.Nat.{_+_, _*_, _%_, _^_, _≤_, _<_};
 ghost use lib.ListN.{length, getD};
 ghost use Rattle.fields.specs.Bytes.{les, cat};
 ghost use Rattle.fields.specs.Put.{put};
+ghost use Rattle.fields.specs.Sizes.{POLY-SIZE};
 ghost use Rattle.write_blocks.specs.Layout.{behind};
 ghost use Rattle.write_blocks.specs.Laid.{Laid};
 ghost use Rattle.write_blocks.specs.Lists.{partSizes};
@@ -43,7 +44,7 @@ fn count_bits(vertices: usize) -> u32
 fn part_word(k: usize, links: usize, before: usize) -> u32
     ensures { λ r. ⌜ r ≡ partWord k links before ⌝ }
 {
-    (k / 341 % 256 * 16 + links % 8 * 4096 + before % 131072 * 32768) as u32
+    (k / POLYS_PER_PART % 256 * 16 + links % 8 * 4096 + before % 131072 * 32768) as u32
 }
 
 // Where a polygon stands: its first word in the strip, its number, and how many indices and links come before its own.
@@ -114,7 +115,7 @@ fn put_records(
     out: &mut [u8],
     place: usize,
 ) -> PolyCursor
-    requires { ⌜ Standing (now strip) (now sides) c m × (place + 48 * m < 2 ^ 28) ⌝ }
+    requires { ⌜ Standing (now strip) (now sides) c m × (place + POLY-SIZE * m < 2 ^ 28) ⌝ }
     ensures cursor { λ r. ⌜ r ≡ past (now (strip .entry)) c m ⌝ }
     ensures stored { λ _. ⌜ now (out .exit) ≡ put place (cat (recordsAt own (now (strip .entry)) c m)) (now (out .entry)) ⌝ }
 {
@@ -148,7 +149,7 @@ fn lay_part(
     m: usize,
     sides: &[u32],
 ) -> Part
-    requires { ⌜ Standing (now strip) (now sides) c m × (behind (l .at) (48 * m) < 2 ^ 28) ⌝ }
+    requires { ⌜ Standing (now strip) (now sides) c m × (behind (l .at) (POLY-SIZE * m) < 2 ^ 28) ⌝ }
     ensures cursor { λ r. ⌜ r .cursor ≡ past (now (strip .entry)) c m ⌝ }
     ensures laid { λ r. ⌜ Laid l (cat (recordsAt own (now (strip .entry)) c m) ∷ []) (r .layout) (now (out .entry)) (now (out .exit)) ⌝ }
 {
@@ -170,8 +171,8 @@ pub fn lay_records(
     n: usize,
     sides: &[u32],
 ) -> Layout
-    requires { ⌜ Standing (now strip) (now sides) start n × ListRoom (l .at) 48 n (partSizes 48 n) ⌝ }
-    ensures { λ r. ⌜ Laid l (partsOf 48 n (recordsAt own (now (strip .entry)) start n)) r (now (out .entry)) (now (out .exit)) ⌝ }
+    requires { ⌜ Standing (now strip) (now sides) start n × ListRoom (l .at) POLY-SIZE n (partSizes POLY-SIZE n) ⌝ }
+    ensures { λ r. ⌜ Laid l (partsOf POLY-SIZE n (recordsAt own (now (strip .entry)) start n)) r (now (out .entry)) (now (out .exit)) ⌝ }
 {
     let k = write_list_blocks::part_count(POLY_SIZE, n);
     let mut layout = l;

@@ -6,6 +6,7 @@ ghost use lib.ListN.{length};
 ghost use Rattle.fields.specs.Bytes.{les, cat};
 ghost use Rattle.fields.specs.Put.{put};
 ghost use Rattle.fields.specs.Rows.{rowBytes, pack};
+ghost use Rattle.fields.specs.Sizes.{PORTAL-SIZE};
 ghost use Rattle.strip.specs.Reading.{portalAt, low16, high16};
 ghost use Rattle.strip.specs.Rows.{portalsAt, polygonsAt, afterPolygons};
 ghost use Rattle.write_blocks.specs.Layout.{endOf};
@@ -63,7 +64,7 @@ fn put_portals(
     bb_min: Vec3,
     bb_size: Vec3,
 )
-    requires { ⌜ (first + 11 * n ≤ length (now strip)) × (start + 28 * n < 2 ^ 28) ⌝ }
+    requires { ⌜ (first + 11 * n ≤ length (now strip)) × (start + PORTAL-SIZE * n < 2 ^ 28) ⌝ }
     ensures { λ _. ⌜ now (out .exit) ≡ put start (cat (portalItems «bb_min» «bb_size» (portalsAt (now (strip .entry)) first n))) (now (out .entry)) ⌝ }
 {
     let mut to = start;
@@ -87,7 +88,7 @@ pub fn lay_portals(
     bb_min: Vec3,
     bb_size: Vec3,
 ) -> Layout
-    requires { ⌜ (first + 11 * n ≤ length (now strip)) × (endOf (l .at) (sizeOf (28 * n)) < 2 ^ 28) ⌝ }
+    requires { ⌜ (first + 11 * n ≤ length (now strip)) × (endOf (l .at) (sizeOf (PORTAL-SIZE * n)) < 2 ^ 28) ⌝ }
     ensures { λ r. ⌜ Laid l (blockOf (cat (portalItems «bb_min» «bb_size» (portalsAt (now (strip .entry)) first n)))) r (now (out .entry)) (now (out .exit)) ⌝ }
 {
     if n == 0 {

@@ -5,12 +5,12 @@ use mathlib.Core.List.{List, [], _∷_, _++_}
 use lib.Ieee.{Float}
 use Rattle.quarters.specs.declared.bounds.Aabb.{Aabb}
 use Rattle.write_pages.specs.Sectors.{middle, between}
-use Rattle.write_quadtree.specs.declared.boxes.Axis.{Axis}
+use Rattle.write_quadtree.specs.declared.boxes.AxisLines.{AxisLines}
 use Rattle.write_quadtree.specs.declared.boxes.Lines.{Lines}
 use Rattle.write_quadtree.specs.declared.boxes.Ranges.{Ranges}
 
-abbrev pub axisOf : (lo hi : Float) → Axis
-axisOf lo hi = record {
+abbrev pub axisLines : (lo hi : Float) → AxisLines
+axisLines lo hi = record {
   a0 = lo;
   a1 = middle lo (middle lo hi);
   a2 = middle lo hi;
@@ -19,9 +19,9 @@ axisOf lo hi = record {
 }
 
 abbrev pub linesOf : Aabb → Lines
-linesOf b = record { x = axisOf (b .min .x) (b .max .x); y = axisOf (b .min .y) (b .max .y) }
+linesOf b = record { x = axisLines (b .min .x) (b .max .x); y = axisLines (b .min .y) (b .max .y) }
 
-abbrev pub rangesOf : Axis → Float → Ranges
+abbrev pub rangesOf : AxisLines → Float → Ranges
 rangesOf a x = record {
   r0 = between (a .a0) x (a .a1);
   r1 = between (a .a1) x (a .a2);

@@ -1,9 +1,9 @@
 // How a box splits itself in four, and the leaf that takes a point.
 ghost use mathlib.Core.Path.{_≡_};
 ghost use mathlib.Core.Bool.{_&&_};
-ghost use Prim.Native.Nat.{_+_, _/_, _%_, _^_, _≤_, _<_};
-ghost use Rattle.write_pages.specs.Sectors.{middle, centre, sub0, sub1, sub2, sub3, between, inside, leaves, leafOf, depthBy};
-ghost use Rattle.write_quadtree.specs.Lines.{axisOf, linesOf, rangesOf, firstOf, subsOf, leavesOf};
+ghost use Prim.Native.Nat.{_+_, _%_, _^_, _≤_, _<_};
+ghost use Rattle.write_pages.specs.Sectors.{middle, centre, sub0, sub1, sub2, sub3, between, inside, leaves, leafOf, depthOf};
+ghost use Rattle.write_quadtree.specs.Lines.{axisLines, linesOf, rangesOf, firstOf, subsOf, leavesOf};
 use math::vec3::Vec3;
 use quarters::bounds::Aabb;
 
@@ -36,7 +36,10 @@ pub struct Subs {
 }
 
 pub fn split(b: Aabb) -> Subs
-    ensures { λ r. ⌜ (r .s0 ≡ sub0 b) × (r .s1 ≡ sub1 b) × (r .s2 ≡ sub2 b) × (r .s3 ≡ sub3 b) ⌝ }
+    ensures s0 { λ r. ⌜ r .s0 ≡ sub0 b ⌝ }
+    ensures s1 { λ r. ⌜ r .s1 ≡ sub1 b ⌝ }
+    ensures s2 { λ r. ⌜ r .s2 ≡ sub2 b ⌝ }
+    ensures s3 { λ r. ⌜ r .s3 ≡ sub3 b ⌝ }
 {
     let c = centre_of(b);
     let min = b.min;
@@ -76,7 +79,9 @@ pub fn split(b: Aabb) -> Subs
 
 // How often a cell's box splits, by its content flags: twice, and a vehicle's not at all.
 pub fn depth_of(content: u32) -> u32
-    ensures { λ r. ⌜ (r ≡ depthBy (content / 2 ^ 2 % 2)) × (r ≤ 2) × (r % 2 ≡ 0) ⌝ }
+    ensures depth { λ r. ⌜ r ≡ depthOf content ⌝ }
+    ensures bound { λ r. ⌜ r ≤ 2 ⌝ }
+    ensures even { λ r. ⌜ r % 2 ≡ 0 ⌝ }
 {
     if content / CONTENT_VEHICLE % 2 == 0 {
         return 2;
@@ -87,7 +92,8 @@ pub fn depth_of(content: u32) -> u32
 // How many leaves a box has that splits so often.
 pub fn leaf_count(depth: u32) -> u32
     requires { ⌜ depth ≤ 2 ⌝ }
-    ensures { λ r. ⌜ (r ≡ 4 ^ depth) × (r ≤ 16) ⌝ }
+    ensures count { λ r. ⌜ r ≡ 4 ^ depth ⌝ }
+    ensures bound { λ r. ⌜ r ≤ 16 ⌝ }
 {
     1 << (2 * depth)
 }
@@ -112,7 +118,7 @@ fn is_inside(b: Aabb, p: Vec3) -> bool
 }
 
 // The sides of the 16 leaves of a box on one axis, from its min to its max.
-pub struct Axis {
+pub struct AxisLines {
     pub a0: f32,
     pub a1: f32,
     pub a2: f32,
@@ -122,17 +128,17 @@ pub struct Axis {
 
 // On both.
 pub struct Lines {
-    pub x: Axis,
-    pub y: Axis,
+    pub x: AxisLines,
+    pub y: AxisLines,
 }
 
-fn axis_of(lo: f32, hi: f32) -> Axis
-    ensures { λ r. ⌜ r ≡ axisOf lo hi ⌝ }
+fn axis_lines(lo: f32, hi: f32) -> AxisLines
+    ensures { λ r. ⌜ r ≡ axisLines lo hi ⌝ }
 {
     let mid = middle_of(lo, hi);
     let a1 = middle_of(lo, mid);
     let a3 = middle_of(mid, hi);
-    Axis {
+    AxisLines {
         a0: lo,
         a1,
         a2: mid,
@@ -144,8 +150,8 @@ fn axis_of(lo: f32, hi: f32) -> Axis
 pub fn lines_of(b: Aabb) -> Lines
     ensures { λ r. ⌜ r ≡ linesOf b ⌝ }
 {
-    let x = axis_of(b.min.x, b.max.x);
-    let y = axis_of(b.min.y, b.max.y);
+    let x = axis_lines(b.min.x, b.max.x);
+    let y = axis_lines(b.min.y, b.max.y);
     Lines { x, y }
 }
 
@@ -157,7 +163,7 @@ pub struct Ranges {
     pub r3: bool,
 }
 
-fn ranges_of(a: Axis, x: f32) -> Ranges
+fn ranges_of(a: AxisLines, x: f32) -> Ranges
     ensures { λ r. ⌜ r ≡ rangesOf a x ⌝ }
 {
     let r0 = is_between(a.a0, x, a.a1);
@@ -179,7 +185,8 @@ fn both(a: bool, b: bool) -> bool
 // The first of a sector's four subs that a point is inside, which is in the lower range of an axis, in the upper one, in both or in none; 4 where it
 // is in no sub.
 fn sub_of(x_low: bool, x_high: bool, y_low: bool, y_high: bool) -> u32
-    ensures { λ r. ⌜ (r ≡ firstOf (subsOf «x_low» «x_high» «y_low» «y_high»)) × (r ≤ 4) ⌝ }
+    ensures sub { λ r. ⌜ r ≡ firstOf (subsOf «x_low» «x_high» «y_low» «y_high») ⌝ }
+    ensures bound { λ r. ⌜ r ≤ 4 ⌝ }
 {
     if both(x_high, y_high) {
         return 0;

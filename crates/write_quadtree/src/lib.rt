@@ -1,2 +1,3 @@
-// The quadtree over a cell's box: how a box splits itself, and the leaf of a point.
+// The quadtree over a cell's box: how a box splits itself, the parts of a cell's tree, and the leaf of a point.
 pub mod boxes;
+pub mod subtrees;

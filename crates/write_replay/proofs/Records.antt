@@ -36,4 +36,4 @@ module _ (xs : List ℕ) (k s : ℕ) where
 -- the pages' three tests
 pub pages-agreed : (b : List ℕ) (at : ℕ) (r : Record) (pages : List ℕ) (f : ℕ) → f ≡ min (expectedLength b at) (length pages) → checksum (take f pages) ≡ leAt 4 b (at + 48)
     → SameBytes (between b (r .bytes) (r .«bytes_end»)) pages → Untouched f pages → PagesAgree b at r pages
-pages-agreed b at r pages f e s t u = record { sum = rw (← e) s; bytes = t; rest = rw (← e) u }
+pages-agreed b at r pages f e s t u = record { same-checksum = rw (← e) s; bytes = t; rest = rw (← e) u }

@@ -64,7 +64,7 @@ Untouched from pages = (k : ℕ) → from ≤ k → k < length pages → getD pa
 
 -- the pages have the record's checksum, begin with the bytes that it tells, and are behind its length as they were
 pub record PagesAgree (b : List ℕ) (at : ℕ) (r : Record) (pages : List ℕ) : Type 0 where
-  pub sum : checksum (take (min (expectedLength b at) (length pages)) pages) ≡ leAt 4 b (at + 48)
+  pub same-checksum : checksum (take (min (expectedLength b at) (length pages)) pages) ≡ leAt 4 b (at + 48)
   pub bytes : SameBytes (between b (r .bytes) (r .«bytes_end»)) pages
   pub rest : Untouched (min (expectedLength b at) (length pages)) pages
 
@@ -106,10 +106,10 @@ abbrev pub TallyOf : List ℕ → (low high : ℕ) → Tally → Type 0
 TallyOf b low high = Counted (λ (at : ℕ). Begins b at) (λ (at : ℕ). Asked b low high at) (λ (at : ℕ). Agrees b at (recordOf b at)) (λ (at : ℕ). nextAt b at) (length b)
 
 -- a record at a place of n bytes, which it goes beyond and does not leave
-pub record Stands (at : ℕ) (r : Record) (n : ℕ) : Type 0 where
+pub record WriteRecordInside (at : ℕ) (r : Record) (n : ℕ) : Type 0 where
   pub starts : at < r .runs
-  pub whole : r .runs ≤ r .bytes
+  pub to-bytes : r .runs ≤ r .bytes
   pub expected : r .bytes ≤ r .«bytes_end»
   pub inside : r .«bytes_end» ≤ n
-  pub behind : r .bytes ≤ r .next
+  pub to-next : r .bytes ≤ r .next
   pub within : r .next ≤ n

@@ -12,7 +12,7 @@ ghost use lib.ListN.{length};
 ghost use Rattle.fields.specs.Bytes.{leAt};
 ghost use Rattle.strip.specs.Outcome.{values};
 ghost use Rattle.ynv_write.specs.Serialize.{paper};
-ghost use Rattle.write_replay.specs.Agreement.{expected, expectedLength, checksum, SameBytes, Untouched, PagesAgree, recordOf, Stands};
+ghost use Rattle.write_replay.specs.Agreement.{expected, expectedLength, checksum, SameBytes, Untouched, PagesAgree, recordOf, WriteRecordInside};
 use fields::u32_le;
 use replay::end_of;
 use replay::padded;
@@ -30,7 +30,8 @@ pub struct Record {
 
 pub fn record_at(list: &[u8], at: usize) -> Record
     requires { ⌜ at + 60 ≤ length (now list) ⌝ }
-    ensures { λ r. ⌜ (r ≡ recordOf (now (list .entry)) at) × Stands at r (length (now (list .entry))) ⌝ }
+    ensures places { λ r. ⌜ r ≡ recordOf (now (list .entry)) at ⌝ }
+    ensures bound { λ r. ⌜ WriteRecordInside at r (length (now (list .entry))) ⌝ }
 {
     let n = list.len();
     let runs = at + 60;
@@ -136,7 +137,7 @@ fn stays_from(pages: &[u8], from: usize) -> bool
 
 // Whether the pages have the record's checksum and its bytes, and are behind them as they were.
 pub fn pages_agree<'a>(list: &'a [u8], at: usize, r: Record, pages: &'a [u8]) -> bool
-    requires { ⌜ (at + 60 ≤ length (now list)) × Stands at r (length (now list)) ⌝ }
+    requires { ⌜ (at + 60 ≤ length (now list)) × WriteRecordInside at r (length (now list)) ⌝ }
     ensures { λ s. ⌜ (s ≡ true → PagesAgree (now (list .entry)) at r (now (pages .entry))) ⌝ }
 {
     let bytes = r.bytes;

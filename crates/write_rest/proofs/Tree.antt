@@ -13,8 +13,8 @@ use Rattle.cell_record.specs.Record.{recordOf, rootIn}
 use Rattle.cell_record.specs.declared.CellRecord.{CellRecord}
 use Rattle.cell_record.proofs.Fields.{flags-are, min-is, size-is, root-is}
 use Rattle.write_blocks.proofs.Layouts.{laid-end}
-use Rattle.write_pages.specs.Sectors.{Sector, depthBy, pointCount}
-use Rattle.write_pages.specs.Pages.{loOf, extentOf, counts, sectors, endPolygons, endSectors}
+use Rattle.write_pages.specs.Sectors.{Sector, depthOf, pointCount}
+use Rattle.write_pages.specs.Pages.{bbMin, bbSize, counts, sectors, endPolygons, endSectors}
 use Rattle.write_pages.proofs.Sizes.{tree-lengths}
 use Rattle.write_decide.specs.Decide.{workPlaces}
 use Rattle.write_decide.specs.declared.WorkPlaces.{WorkPlaces}
@@ -29,10 +29,10 @@ use Rattle.write_rest.specs.Rest.{WorkKept, SectorsFilled}
 
 module _ (s w : List ℕ) (n : Counts) (K : WorkKept s w n) (places : WorkPlaces) (here : places ≡ workPlaces (length s) n) where
   module _ (at k : ℕ) (b : Aabb) (first : at ≡ firstPoint s n) (cell : CellRecord) (same-cell : cell ≡ recordOf (headAt s 0))
-      (deep : k ≡ depthBy (cell .«content_flags» / 2 ^ 2 % 2)) (root : b ≡ rootIn cell) where
-    deep-is : k ≡ depthBy (word s 1 / 2 ^ 2 % 2)
+      (deep : k ≡ depthOf (cell .«content_flags»)) (root : b ≡ rootIn cell) where
+    deep-is : k ≡ depthOf (word s 1)
     unfolding headAt
-    deep-is = deep ∙ ap (λ (f : ℕ). depthBy (f / 2 ^ 2 % 2)) (flags-are (headAt s 0) cell same-cell)
+    deep-is = deep ∙ ap depthOf (flags-are (headAt s 0) cell same-cell)
 
     tree : Sector
     tree = treeIn (boxPart s w n (K .held) places here) (leafPart s w n (K .held) places here) s at k 0 b
@@ -45,7 +45,7 @@ module _ (s w : List ℕ) (n : Counts) (K : WorkKept s w n) (places : WorkPlaces
         rw (ts, deep-is) (part-tree s w n (K .held) places here b (root ∙ root-is (headAt s 0) cell same-cell))
 
     pub points-inside : at + 4 * length (leafPart s w n (K .held) places here) ≤ length s
-    points-inside = omega (arith, first, K .whole, part-long s w n (K .held) places here, point-count s n)
+    points-inside = omega (arith, first, K .length-is, part-long s w n (K .held) places here, point-count s n)
 
     pub leaves-few : 0 + 4 ^ k < 2 ^ 32
     leaves-few = rw deep-is (omega (arith, few-leaves (word s 1 / 2 ^ 2 % 2)))
@@ -62,10 +62,10 @@ module _ (s w : List ℕ) (n : Counts) (K : WorkKept s w n) (places : WorkPlaces
     unfolding tree endSectors
     sectors-filled {j} {p} {r} {xs} {ys} e f wrote =
         let c = cellAt s n in
-        let same : Wrote (loOf c) (extentOf c) (sectors c) j p r xs ys = rw (min-is (headAt s 0) cell same-cell, size-is (headAt s 0) cell same-cell, tree-is) at wrote in
+        let same : Wrote (bbMin c) (bbSize c) (sectors c) j p r xs ys = rw (min-is (headAt s 0) cell same-cell, size-is (headAt s 0) cell same-cell, tree-is) at wrote in
         let laid = cell-laid c e f same in
         record {
-          ends = laid-end laid ∙ rw (tree-lengths (loOf c) (extentOf c) (endPolygons (counts c) (sectors c)) 0 (sectors c), e);
+          ends = laid-end laid ∙ rw (tree-lengths (bbMin c) (bbSize c) (endPolygons (counts c) (sectors c)) 0 (sectors c), e);
           points = same .points ∙ rw f (zero-add (pointCount (sectors c)));
           laid = laid;
         }

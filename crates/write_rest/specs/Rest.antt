@@ -5,6 +5,7 @@ use mathlib.Core.Path.{_≡_}
 use mathlib.Core.List.{List, _++_}
 use lib.ListN.{length}
 use Rattle.fields.specs.Bytes.{les, cat}
+use Rattle.fields.specs.Sizes.{LIST-SIZE, PORTAL-SIZE, SECTOR-SIZE}
 use Rattle.strip.specs.Cell.{Cell}
 use Rattle.strip.specs.declared.Counts.{Counts}
 use Rattle.write_blocks.specs.Layout.{endOf}
@@ -12,7 +13,7 @@ use Rattle.write_blocks.specs.Laid.{Laid}
 use Rattle.write_blocks.specs.declared.Layout.{Layout}
 use Rattle.write_blocks.specs.Optional.{blockOf, sizeOf, addressOf}
 use Rattle.write_pages.specs.Sectors.{treeBlocks, pointCount}
-use Rattle.write_pages.specs.Pages.{Places, loOf, extentOf, links, sectors, counts, portalItems, endPolygons, endSectors, endPortals}
+use Rattle.write_pages.specs.Pages.{Places, bbMin, bbSize, links, sectors, counts, portalItems, endPolygons, endSectors, endPortals}
 use Rattle.write_pages.specs.Accepted.{Accepted}
 use Rattle.strip.specs.Laid.{Whole, cellAt}
 use Rattle.write_plan.specs.Plan.{WorkHeld}
@@ -25,8 +26,8 @@ use Rattle.write_rest.specs.declared.RestEnds.{RestEnds}
 module _ (c : Cell) where
   unfoldable pub restOf : List (List ℕ)
   restOf =
-      treeBlocks (loOf c) (extentOf c) (endPolygons (counts c) (sectors c)) 0 (sectors c)
-      ++ (blockOf (cat (portalItems (loOf c) (extentOf c) (c .portals)))
+      treeBlocks (bbMin c) (bbSize c) (endPolygons (counts c) (sectors c)) 0 (sectors c)
+      ++ (blockOf (cat (portalItems (bbMin c) (bbSize c) (c .portals)))
       ++ blockOf (les 2 (links c)))
 
 -- ---- what is known of the strip s, its counts n and the words of work w when the lists are laid out
@@ -34,7 +35,7 @@ module _ (c : Cell) where
 pub record WorkKept (s w : List ℕ) (n : Counts) : Type 0 where
   pub accepted : Accepted (cellAt s n)
   pub held : WorkHeld s n w
-  pub whole : Whole s n
+  pub length-is : Whole s n
   pub long : 14 ≤ length s
 
 -- ---- steps, from the pages xs to ys. c is the strip's cell
@@ -43,7 +44,7 @@ pub record WorkKept (s w : List ℕ) (n : Counts) : Type 0 where
 pub record SectorsFilled (c : Cell) (l : Layout) (xs ys : List ℕ) (r : SectorCursor) : Type 0 where
   pub ends : r .layout .at ≡ endSectors (counts c) (sectors c)
   pub points : r .first ≡ pointCount (sectors c)
-  pub laid : Laid l (treeBlocks (loOf c) (extentOf c) (endPolygons (counts c) (sectors c)) 0 (sectors c)) (r .layout) xs ys
+  pub laid : Laid l (treeBlocks (bbMin c) (bbSize c) (endPolygons (counts c) (sectors c)) 0 (sectors c)) (r .layout) xs ys
 
 -- sectors, portals and links
 pub record RestFilled (c : Cell) (l : Layout) (xs ys : List ℕ) (r : RestEnds) : Type 0 where
@@ -56,23 +57,23 @@ pub record RestFilled (c : Cell) (l : Layout) (xs ys : List ℕ) (r : RestEnds) 
 
 abbrev pub placesBy : ListEnds → RestEnds → (portals links : ℕ) → Places
 placesBy a b portals links = record {
-  vertices = addressOf (a .header .at) 48;
-  indices = addressOf (a .vertices .at) 48;
-  edges = addressOf (a .indices .at) 48;
-  polygons = addressOf (a .edges .at) 48;
-  root = addressOf (a .polygons .at) 96;
-  portals = addressOf (b .sectors .at) (28 * portals);
+  vertices = addressOf (a .header .at) LIST-SIZE;
+  indices = addressOf (a .vertices .at) LIST-SIZE;
+  edges = addressOf (a .indices .at) LIST-SIZE;
+  polygons = addressOf (a .edges .at) LIST-SIZE;
+  root = addressOf (a .polygons .at) SECTOR-SIZE;
+  portals = addressOf (b .sectors .at) (PORTAL-SIZE * portals);
   links = addressOf (b .portals .at) (2 * links);
 }
 
 -- each block that is named stands below 2^28, with q portals and m links
 pub record Near (a : ListEnds) (b : RestEnds) (q m : ℕ) : Type 0 where
-  pub vertices : endOf (a .header .at) (sizeOf 48) < 2 ^ 28
-  pub indices : endOf (a .vertices .at) (sizeOf 48) < 2 ^ 28
-  pub edges : endOf (a .indices .at) (sizeOf 48) < 2 ^ 28
-  pub polygons : endOf (a .edges .at) (sizeOf 48) < 2 ^ 28
-  pub root : endOf (a .polygons .at) (sizeOf 96) < 2 ^ 28
-  pub portals : endOf (b .sectors .at) (sizeOf (28 * q)) < 2 ^ 28
+  pub vertices : endOf (a .header .at) (sizeOf LIST-SIZE) < 2 ^ 28
+  pub indices : endOf (a .vertices .at) (sizeOf LIST-SIZE) < 2 ^ 28
+  pub edges : endOf (a .indices .at) (sizeOf LIST-SIZE) < 2 ^ 28
+  pub polygons : endOf (a .edges .at) (sizeOf LIST-SIZE) < 2 ^ 28
+  pub root : endOf (a .polygons .at) (sizeOf SECTOR-SIZE) < 2 ^ 28
+  pub portals : endOf (b .sectors .at) (sizeOf (PORTAL-SIZE * q)) < 2 ^ 28
   pub links : endOf (b .portals .at) (sizeOf (2 * m)) < 2 ^ 28
   pub few-portals : q ≤ 585
   pub few-links : m ≤ 8192

@@ -62,7 +62,7 @@ fn fill_sectors<'a>(
         bb_min,
         bb_size,
     };
-    let spot = SectorCursor {
+    let cursor = SectorCursor {
         layout: l,
         leaf: 0,
         first: 0,
@@ -70,7 +70,7 @@ fn fill_sectors<'a>(
     let depth = write_quadtree::boxes::depth_of(cell.content_flags);
     write_sectors::write_sector(
         pages,
-        spot,
+        cursor,
         b,
         depth,
         &work[boxes..leaves],
@@ -97,8 +97,8 @@ pub fn fill_rest<'a>(
     let cell = d.cell;
     let bb_min = cell.bb_min;
     let bb_size = cell.bb_size;
-    let spot = fill_sectors(pages, strip, cell, counts, work, l);
-    let sectors = spot.layout;
+    let cursor = fill_sectors(pages, strip, cell, counts, work, l);
+    let sectors = cursor.layout;
     let first = first_portal(strip, counts);
     let portals = write_portals::lay_portals(
         pages,
@@ -114,7 +114,7 @@ pub fn fill_rest<'a>(
         sectors,
         portals,
         links,
-        points: spot.first,
+        points: cursor.first,
     }
 }
 

@@ -82,7 +82,8 @@ fn put_run(runs: &[u8], at: usize, r: Run, strip: &mut [u32], made: usize)
 
 // Makes the strip that runs stand for. The answer is how many words it has.
 pub fn make_strip(runs: &[u8], strip: &mut [u32]) -> usize
-    ensures content { λ r. ⌜ (r ≤ length (now (strip .entry))) × Unrolled (now (runs .entry)) (length (now (strip .entry))) (take r (now (strip .exit))) ⌝ }
+    ensures bound { λ r. ⌜ r ≤ length (now (strip .entry)) ⌝ }
+    ensures content { λ r. ⌜ Unrolled (now (runs .entry)) (length (now (strip .entry))) (take r (now (strip .exit))) ⌝ }
     ensures size { λ _. ⌜ length (now (strip .exit)) ≡ length (now (strip .entry)) ⌝ }
 {
     let mut at = 0;

@@ -13,7 +13,7 @@ use Rattle.write_blocks.specs.Optional.{sizeOf}
 use Rattle.write_pages.specs.Sectors as Sectors
 use Rattle.write_pages.specs.Sectors.{Sector, leaves, treeBlocks}
 use Rattle.write_pages.specs.Accepted.{Accepted}
-use Rattle.write_pages.specs.Pages.{Counts, loOf, extentOf, counts, sectors, sizes, sizesOf, pages, endHeader, endVertices, endIndices, endEdges, endPolygons, endSectors}
+use Rattle.write_pages.specs.Pages.{HeaderCounts, bbMin, bbSize, counts, sectors, sizes, sizesOf, pages, endHeader, endVertices, endIndices, endEdges, endPolygons, endSectors}
 use Rattle.write_pages.proofs.Placed.{pages-short}
 use Rattle.write_pages.proofs.Sizes.{pages-length}
 use Rattle.write_pages.proofs.LeafCounts.{few-stored}
@@ -24,7 +24,7 @@ use Rattle.write_sectors.proofs.Steps.{laid-of}
 -- ---- room
 
 -- what stands behind the sectors ends the pages
-sectors-end : (n : Counts) (t : Sector) → endSectors n t ≤ endOf 0 (sizesOf n t)
+sectors-end : (n : HeaderCounts) (t : Sector) → endSectors n t ≤ endOf 0 (sizesOf n t)
 unfolding sizesOf endSectors endPolygons endEdges endIndices endVertices endHeader
 sectors-end n t =
     let ps : List ℕ = sizeOf (28 * n .portals) in
@@ -59,6 +59,6 @@ cell-room c a =
 
 -- a writer that stands behind the polygons lays out the sectors of the cell's pages
 pub cell-laid : (c : Cell) {k : ℕ} {p r : SectorCursor} {xs ys : List ℕ} → p .layout .at ≡ endPolygons (counts c) (sectors c) → p .first ≡ 0
-    → Wrote (loOf c) (extentOf c) (sectors c) k p r xs ys
-    → Laid (p .layout) (treeBlocks (loOf c) (extentOf c) (endPolygons (counts c) (sectors c)) 0 (sectors c)) (r .layout) xs ys
-cell-laid c e f w = laid-of (loOf c) (extentOf c) (record { ends = e; leaves = refl; points = f }) w
+    → Wrote (bbMin c) (bbSize c) (sectors c) k p r xs ys
+    → Laid (p .layout) (treeBlocks (bbMin c) (bbSize c) (endPolygons (counts c) (sectors c)) 0 (sectors c)) (r .layout) xs ys
+cell-laid c e f w = laid-of (bbMin c) (bbSize c) (record { ends = e; leaves = refl; points = f }) w

@@ -23,6 +23,7 @@ use Rattle.write_pages.specs.Sectors.{Sector, pointCount, leafCounts, sectorRow
 use Rattle.write_pages.specs.Sectors.Sector.{leaf, node}
 use Rattle.strip.proofs.Alls.{all-apart}
 use Rattle.write_pages.proofs.Sizes.{tree-lengths}
+use Rattle.write_quadtree.specs.declared.boxes.Subs.{Subs}
 use Rattle.write_leaves.specs.declared.SectorCursor.{SectorCursor}
 use Rattle.write_leaves.specs.Written.{TreeRoom, Wrote}
 
@@ -100,85 +101,112 @@ module _ (b : Aabb) (t0 t1 t2 t3 : Sector) {end first : ℕ} (room : TreeRoom (n
 
 -- ---- a tree that is grown, its subs written from where the writer stands
 
-module _ (bb-min bb-size : Floats) (ids : QuarterBox → List ℕ) (stored : ℕ → List NavPoint) (d : ℕ) where
-  -- the same by the names of the code
-  moved-room : {p : SectorCursor} {end k first : ℕ} {c b : Aabb} → c ≡ b → Stand p end k first → TreeRoom (grown ids stored d k b) end first
-      → TreeRoom (grown ids stored d (p .leaf) c) (p .layout .at) (p .first)
-  moved-room e s h = rw (e, s .ends, s .leaves, s .points) h
+-- a box that splits, with its subs and room for its tree, before the writer at `spot`
+pub record Splitting : Type 0 where
+  pub bb-min : Floats
+  pub bb-size : Floats
+  pub ids : QuarterBox → List ℕ
+  pub stored : ℕ → List NavPoint
+  pub depth : ℕ
+  pub d : ℕ
+  pub b : Aabb
+  pub cursor : SectorCursor
+  pub subs : Subs
+  pub boxes : (subs .s0 ≡ sub0 b) × (subs .s1 ≡ sub1 b) × (subs .s2 ≡ sub2 b) × (subs .s3 ≡ sub3 b)
+  pub deep : depth ≡ suc d
+  pub numbers : cursor .leaf + 4 * 4 ^ d < 2 ^ 32
+  pub room : TreeRoom (grown ids stored depth (cursor .leaf) b) (cursor .layout .at) (cursor .first)
+
+module _ (f : Splitting) where
+  -- a sub's tree and what was written of it, and what its call asks, by the names of the code
+  abbrev tree : SectorCursor → Aabb → Sector
+  tree p c = grown (f .ids) (f .stored) (f .d) (p .leaf) c
+
+  abbrev WroteSub : (p r : SectorCursor) → Aabb → (xs ys : List ℕ) → Type 0
+  WroteSub p r c xs ys = Wrote (f .bb-min) (f .bb-size) (tree p c) (4 ^ f .d) p r xs ys
+
+  pub record SubRoom (p : SectorCursor) (c : Aabb) : Type 0 where
+    pub numbers : p .leaf + 4 ^ f .d < 2 ^ 32
+    pub room : TreeRoom (tree p c) (p .layout .at) (p .first)
+
+  moved-room : {p : SectorCursor} {end k first : ℕ} {c b : Aabb} → c ≡ b → Stand p end k first → k ≤ f .cursor .leaf + 3 * 4 ^ f .d
+      → TreeRoom (grown (f .ids) (f .stored) (f .d) k b) end first → SubRoom p c
+  moved-room e s h r = record { numbers = omega (arith, s .leaves, f .numbers); room = rw (e, s .ends, s .leaves, s .points) r }
 
   moved : {p r : SectorCursor} {end k first : ℕ} {c b : Aabb} {xs ys : List ℕ} → c ≡ b → Stand p end k first
-      → Wrote bb-min bb-size (grown ids stored d (p .leaf) c) (4 ^ d) p r xs ys → Wrote bb-min bb-size (grown ids stored d k b) (4 ^ d) p r xs ys
+      → WroteSub p r c xs ys → Wrote (f .bb-min) (f .bb-size) (grown (f .ids) (f .stored) (f .d) k b) (4 ^ f .d) p r xs ys
   moved {p} {r} {end} {k} {first} {c} {b} {xs} {ys} e s h =
-      subst (λ (j : ℕ). Wrote bb-min bb-size (grown ids stored d j b) (4 ^ d) p r xs ys) (s .leaves)
-      (subst (λ (a : Aabb). Wrote bb-min bb-size (grown ids stored d (p .leaf) a) (4 ^ d) p r xs ys) e h)
+      subst (λ (j : ℕ). Wrote (f .bb-min) (f .bb-size) (grown (f .ids) (f .stored) (f .d) j b) (4 ^ f .d) p r xs ys) (s .leaves)
+      (subst (λ (a : Aabb). WroteSub p r a xs ys) e h)
 
-  module _ (b : Aabb) (spot : SectorCursor) (room : TreeRoom (grown ids stored (suc d) (spot .leaf) b) (spot .layout .at) (spot .first)) where
-    abbrev g0 : Sector
-    g0 = grown ids stored d (spot .leaf) (sub0 b)
+  abbrev end : ℕ
+  end = f .cursor .layout .at
 
-    abbrev g1 : Sector
-    g1 = grown ids stored d (spot .leaf + 4 ^ d) (sub1 b)
+  abbrev g0 : Sector
+  g0 = grown (f .ids) (f .stored) (f .d) (f .cursor .leaf) (sub0 (f .b))
 
-    abbrev g2 : Sector
-    g2 = grown ids stored d (spot .leaf + 2 * 4 ^ d) (sub2 b)
+  abbrev g1 : Sector
+  g1 = grown (f .ids) (f .stored) (f .d) (f .cursor .leaf + 4 ^ f .d) (sub1 (f .b))
 
-    abbrev g3 : Sector
-    g3 = grown ids stored d (spot .leaf + 3 * 4 ^ d) (sub3 b)
+  abbrev g2 : Sector
+  g2 = grown (f .ids) (f .stored) (f .d) (f .cursor .leaf + 2 * 4 ^ f .d) (sub2 (f .b))
 
-    as-node : TreeRoom (node b g0 g1 g2 g3) (spot .layout .at) (spot .first)
-    unfolding grown
-    as-node = room
+  abbrev g3 : Sector
+  g3 = grown (f .ids) (f .stored) (f .d) (f .cursor .leaf + 3 * 4 ^ f .d) (sub3 (f .b))
 
-    module _ {p0 : SectorCursor} {c0 : Aabb} (e0 : c0 ≡ sub0 b) (s0 : Stand p0 (from0 (spot .layout .at)) (spot .leaf) (spot .first)) where
-      pub next0 : TreeRoom (grown ids stored d (p0 .leaf) c0) (p0 .layout .at) (p0 .first)
-      next0 = moved-room e0 s0 (room0 b g0 g1 g2 g3 as-node)
+  as-node : TreeRoom (node (f .b) g0 g1 g2 g3) end (f .cursor .first)
+  unfolding grown
+  as-node = subst (λ (n : ℕ). TreeRoom (grown (f .ids) (f .stored) n (f .cursor .leaf) (f .b)) end (f .cursor .first)) (f .deep) (f .room)
 
-      module _ {p1 : SectorCursor} {c1 : Aabb} {x0 y0 : List ℕ} (e1 : c1 ≡ sub1 b) (w0 : Wrote bb-min bb-size (grown ids stored d (p0 .leaf) c0) (4 ^ d) p0 p1 x0 y0) where
-        pub stand1 : Stand p1 (from1 (spot .layout .at) g0) (spot .leaf + 4 ^ d) (spot .first + pointCount g0)
-        stand1 = stand-of bb-min bb-size s0 (moved e0 s0 w0)
+  module _ {p0 : SectorCursor} (s0 : Stand p0 (from0 end) (f .cursor .leaf) (f .cursor .first)) where
+    pub next0 : SubRoom p0 (f .subs .s0)
+    next0 = moved-room (f .boxes .0) s0 (omega arith) (room0 (f .b) g0 g1 g2 g3 as-node)
 
-        pub next1 : TreeRoom (grown ids stored d (p1 .leaf) c1) (p1 .layout .at) (p1 .first)
-        next1 = moved-room e1 stand1 (room1 b g0 g1 g2 g3 as-node)
+    module _ {p1 : SectorCursor} {x0 y0 : List ℕ} (w0 : WroteSub p0 p1 (f .subs .s0) x0 y0) where
+      stand1 : Stand p1 (from1 end g0) (f .cursor .leaf + 4 ^ f .d) (f .cursor .first + pointCount g0)
+      stand1 = stand-of (f .bb-min) (f .bb-size) s0 (moved (f .boxes .0) s0 w0)
 
-        module _ {p2 : SectorCursor} {c2 : Aabb} {y1 : List ℕ} (e2 : c2 ≡ sub2 b) (w1 : Wrote bb-min bb-size (grown ids stored d (p1 .leaf) c1) (4 ^ d) p1 p2 y0 y1) where
-          pub stand2 : Stand p2 (from2 (spot .layout .at) g0 g1) (spot .leaf + 2 * 4 ^ d) (spot .first + (pointCount g0 + pointCount g1))
-          stand2 =
-              let s = stand-of bb-min bb-size stand1 (moved e1 stand1 w1) in
+      pub next1 : SubRoom p1 (f .subs .s1)
+      next1 = moved-room (f .boxes .1) stand1 (omega arith) (room1 (f .b) g0 g1 g2 g3 as-node)
+
+      module _ {p2 : SectorCursor} {y1 : List ℕ} (w1 : WroteSub p1 p2 (f .subs .s1) y0 y1) where
+        stand2 : Stand p2 (from2 end g0 g1) (f .cursor .leaf + 2 * 4 ^ f .d) (f .cursor .first + (pointCount g0 + pointCount g1))
+        stand2 =
+            let s = stand-of (f .bb-min) (f .bb-size) stand1 (moved (f .boxes .1) stand1 w1) in
+            record { ends = s .ends; leaves = omega (arith, s .leaves); points = omega (arith, s .points) }
+
+        pub next2 : SubRoom p2 (f .subs .s2)
+        next2 = moved-room (f .boxes .2) stand2 (omega arith) (room2 (f .b) g0 g1 g2 g3 as-node)
+
+        module _ {p3 : SectorCursor} {y2 : List ℕ} (w2 : WroteSub p2 p3 (f .subs .s2) y1 y2) where
+          stand3 : Stand p3 (from3 end g0 g1 g2) (f .cursor .leaf + 3 * 4 ^ f .d) (f .cursor .first + (pointCount g0 + (pointCount g1 + pointCount g2)))
+          stand3 =
+              let s = stand-of (f .bb-min) (f .bb-size) stand2 (moved (f .boxes .2) stand2 w2) in
               record { ends = s .ends; leaves = omega (arith, s .leaves); points = omega (arith, s .points) }
 
-          pub next2 : TreeRoom (grown ids stored d (p2 .leaf) c2) (p2 .layout .at) (p2 .first)
-          next2 = moved-room e2 stand2 (room2 b g0 g1 g2 g3 as-node)
+          pub next3 : SubRoom p3 (f .subs .s3)
+          next3 = moved-room (f .boxes .3) stand3 (omega arith) (room3 (f .b) g0 g1 g2 g3 as-node)
 
-          module _ {p3 : SectorCursor} {c3 : Aabb} {y2 : List ℕ} (e3 : c3 ≡ sub3 b) (w2 : Wrote bb-min bb-size (grown ids stored d (p2 .leaf) c2) (4 ^ d) p2 p3 y1 y2) where
-            pub stand3 : Stand p3 (from3 (spot .layout .at) g0 g1 g2) (spot .leaf + 3 * 4 ^ d) (spot .first + (pointCount g0 + (pointCount g1 + pointCount g2)))
-            stand3 =
-                let s = stand-of bb-min bb-size stand2 (moved e2 stand2 w2) in
-                record { ends = s .ends; leaves = omega (arith, s .leaves); points = omega (arith, s .points) }
-
-            pub next3 : TreeRoom (grown ids stored d (p3 .leaf) c3) (p3 .layout .at) (p3 .first)
-            next3 = moved-room e3 stand3 (room3 b g0 g1 g2 g3 as-node)
-
-            -- all four, and the sector, which is stored last
-            pub grown-wrote : {p4 : SectorCursor} {y3 ys : List ℕ} {at m : ℕ} (xs : List ℕ) → p0 .layout ≡ allocated (spot .layout) 96
-                → x0 ≡ put (spot .layout .at) (zeros (placeOf (spot .layout .at) 96 - spot .layout .at)) xs
-                → Wrote bb-min bb-size (grown ids stored d (p3 .leaf) c3) (4 ^ d) p3 p4 y2 y3
-                → at ≡ placeOf (spot .layout .at) 96
-                → ys ≡ put at (rowBytes (sectorRow b 0 (sectorAddress (p0 .layout .at)) (sectorAddress (p1 .layout .at)) (sectorAddress (p2 .layout .at)) (sectorAddress (p3 .layout .at)))) y3
-                → m ≡ suc d → Wrote bb-min bb-size (grown ids stored m (spot .leaf) b) (4 ^ m) spot p4 xs ys
-            unfolding grown treeBlocks pointCount
-            grown-wrote {p4} {y3} xs own p w3 a e f =
-                let end : ℕ = spot .layout .at in
-                let v3 = moved e3 stand3 w3 in
-                let s4 = stand-of bb-min bb-size stand3 v3 in
-                let l0 = rw p at (laid-of bb-min bb-size s0 (moved e0 s0 w0)) in
-                let l1 = laid-of bb-min bb-size stand1 (moved e1 stand1 w1) in
-                let l2 = laid-of bb-min bb-size stand2 (moved e2 stand2 w2) in
-                let l3 = laid-of bb-min bb-size stand3 v3 in
-                let row = sectorRow b 0 (sectorAddress (from0 end)) (sectorAddress (from1 end g0)) (sectorAddress (from2 end g0 g1)) (sectorAddress (from3 end g0 g1 g2)) in
-                let z = laid-before {l = spot .layout} (length-rows row) own (laid-then l0 (laid-then l1 (laid-then l2 l3))) in
-                let q : 4 ^ suc d ≡ 4 ^ d * 4 = pow-suc 4 d in
-                rw f (record {
-                  laid = rw (e, a, s0 .ends, stand1 .ends, stand2 .ends, stand3 .ends) z;
-                  next = omega (arith, s4 .leaves);
-                  points = omega (arith, s4 .points);
-                })
+          -- all four, and the sector, which is stored last
+          pub grown-wrote : {p4 : SectorCursor} {y3 ys : List ℕ} {at : ℕ} (xs : List ℕ) → p0 .layout ≡ allocated (f .cursor .layout) 96
+              → x0 ≡ put end (zeros (placeOf end 96 - end)) xs → WroteSub p3 p4 (f .subs .s3) y2 y3 → at ≡ placeOf end 96
+              → ys ≡ put at (rowBytes (sectorRow (f .b) 0 (sectorAddress (p0 .layout .at)) (sectorAddress (p1 .layout .at)) (sectorAddress (p2 .layout .at)) (sectorAddress (p3 .layout .at)))) y3
+              → Wrote (f .bb-min) (f .bb-size) (grown (f .ids) (f .stored) (f .depth) (f .cursor .leaf) (f .b)) (4 ^ f .depth) (f .cursor) p4 xs ys
+          unfolding grown treeBlocks pointCount
+          grown-wrote {p4} {y3} xs own p w3 a e =
+              let lo : Floats = f .bb-min in
+              let size : Floats = f .bb-size in
+              let v3 = moved (f .boxes .3) stand3 w3 in
+              let s4 = stand-of lo size stand3 v3 in
+              let l0 = rw p at (laid-of lo size s0 (moved (f .boxes .0) s0 w0)) in
+              let l1 = laid-of lo size stand1 (moved (f .boxes .1) stand1 w1) in
+              let l2 = laid-of lo size stand2 (moved (f .boxes .2) stand2 w2) in
+              let l3 = laid-of lo size stand3 v3 in
+              let row = sectorRow (f .b) 0 (sectorAddress (from0 end)) (sectorAddress (from1 end g0)) (sectorAddress (from2 end g0 g1)) (sectorAddress (from3 end g0 g1 g2)) in
+              let z = laid-before {l = f .cursor .layout} (length-rows row) own (laid-then l0 (laid-then l1 (laid-then l2 l3))) in
+              let q : 4 ^ suc (f .d) ≡ 4 ^ f .d * 4 = pow-suc 4 (f .d) in
+              rw (f .deep) (record {
+                laid = rw (e, a, s0 .ends, stand1 .ends, stand2 .ends, stand3 .ends) z;
+                next = omega (arith, s4 .leaves);
+                points = omega (arith, s4 .points);
+              })

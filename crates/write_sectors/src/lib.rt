@@ -32,7 +32,7 @@ fn put_node(out: &mut [u8], at: usize, b: Aabb, l0: Layout, l1: Layout, l2: Layo
 // A sector and all below it, `depth` splits down.
 pub fn write_sector<'a>(
     out: &mut [u8],
-    spot: SectorCursor,
+    cursor: SectorCursor,
     b: Aabb,
     depth: u32,
     boxes: &'a [u32],
@@ -40,22 +40,22 @@ pub fn write_sector<'a>(
     strip: &'a [u32],
     points: Points,
 ) -> SectorCursor
-    requires { ⌜ (spot .leaf + 4 ^ depth < 2 ^ 32) × (points .at + 4 * length (now «leaf_numbers») ≤ length (now strip)) ⌝ }
-    requires { ⌜ TreeRoom (treeIn (now boxes) (now «leaf_numbers») (now strip) (points .at) depth (spot .leaf) b) (spot .layout .at) (spot .first) ⌝ }
-    ensures { λ r. ⌜ Wrote (points .«bb_min») (points .«bb_size») (treeIn (now (boxes .entry)) (now («leaf_numbers» .entry)) (now (strip .entry)) (points .at) depth (spot .leaf) b) (4 ^ depth) spot r (now (out .entry)) (now (out .exit)) ⌝ }
+    requires { ⌜ (cursor .leaf + 4 ^ depth < 2 ^ 32) × (points .at + 4 * length (now «leaf_numbers») ≤ length (now strip)) ⌝ }
+    requires { ⌜ TreeRoom (treeIn (now boxes) (now «leaf_numbers») (now strip) (points .at) depth (cursor .leaf) b) (cursor .layout .at) (cursor .first) ⌝ }
+    ensures { λ r. ⌜ Wrote (points .«bb_min») (points .«bb_size») (treeIn (now (boxes .entry)) (now («leaf_numbers» .entry)) (now (strip .entry)) (points .at) depth (cursor .leaf) b) (4 ^ depth) cursor r (now (out .entry)) (now (out .exit)) ⌝ }
 {
     if depth == 0 {
-        return write_leaf(out, spot, b, boxes, leaf_numbers, strip, points);
+        return write_leaf(out, cursor, b, boxes, leaf_numbers, strip, points);
     }
     let d = depth - 1;
     let subs = write_quadtree::boxes::split(b);
-    let l = spot.layout;
+    let l = cursor.layout;
     let at = write_blocks::pad(out, l, SECTOR_SIZE);
     let l0 = l.alloc(SECTOR_SIZE);
     let p0 = SectorCursor {
         layout: l0,
-        leaf: spot.leaf,
-        first: spot.first,
+        leaf: cursor.leaf,
+        first: cursor.first,
     };
     let p1 = write_sector(out, p0, subs.s0, d, boxes, leaf_numbers, strip, points);
     let p2 = write_sector(out, p1, subs.s1, d, boxes, leaf_numbers, strip, points);

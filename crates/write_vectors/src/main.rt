@@ -7,7 +7,7 @@ ghost use lib.ListN.{length};
 ghost use Rattle.strip.specs.Outcome.{shown};
 ghost use Rattle.ynv_write.specs.Serialize.{paper};
 ghost use Rattle.replay.specs.Tallies.{Tallied, Step};
-ghost use Rattle.write_replay.specs.Agreement.{untouchedBytes, outcomeOf, pagesOf, Agrees, Asked, TallyOf, Stands};
+ghost use Rattle.write_replay.specs.Agreement.{untouchedBytes, outcomeOf, pagesOf, Agrees, Asked, TallyOf, WriteRecordInside};
 use fields::u32_le;
 use replay::Tally;
 use replay::asked;
@@ -25,7 +25,8 @@ use ynv_write::SerializeAnswer;
 
 // What the pages hold before a record's strip is written into them.
 fn untouched() -> [u8; 1400000]
-    ensures { λ r. ⌜ (r ≡ untouchedBytes) × (1400000 ≡ length r) ⌝ }
+    ensures content { λ r. ⌜ r ≡ untouchedBytes ⌝ }
+    ensures size { λ r. ⌜ 1400000 ≡ length r ⌝ }
 {
     [0xD1; 1400000]
 }
@@ -57,7 +58,7 @@ fn write_record(list: &[u8], at: usize, strip: &[u32], pages: &mut [u8]) -> Seri
 
 // Whether writing a record's strip gives its answer and its pages, and leaves the rest of them.
 fn agrees(list: &[u8], at: usize, r: Record) -> bool
-    requires { ⌜ (at + 60 ≤ length (now list)) × Stands at r (length (now list)) ⌝ }
+    requires { ⌜ (at + 60 ≤ length (now list)) × WriteRecordInside at r (length (now list)) ⌝ }
     ensures { λ s. ⌜ (s ≡ true → Agrees (now (list .entry)) at r) ⌝ }
 {
     let runs = r.runs;
@@ -74,8 +75,9 @@ fn agrees(list: &[u8], at: usize, r: Record) -> bool
 
 // The tally with the record at a place, where the record's number is from low to high.
 fn with_record(list: &[u8], at: usize, r: Record, t: Tally, low: u32, high: u32) -> Tally
-    requires { ⌜ (at + 60 ≤ length (now list)) × Stands at r (length (now list)) × Tallied (length (now list)) at t ⌝ }
-    ensures { λ s. ⌜ Step (Asked (now (list .entry)) low high at) (Agrees (now (list .entry)) at r) t at s × Tallied (length (now (list .entry))) (at + 1) s ⌝ }
+    requires { ⌜ (at + 60 ≤ length (now list)) × WriteRecordInside at r (length (now list)) × Tallied (length (now list)) at t ⌝ }
+    ensures step { λ s. ⌜ Step (Asked (now (list .entry)) low high at) (Agrees (now (list .entry)) at r) t at s ⌝ }
+    ensures bound { λ s. ⌜ Tallied (length (now (list .entry))) (at + 1) s ⌝ }
 {
     if asked(u32_le(list, at + 12), low, high) {
         return tallied(t, list.len(), at, agrees(list, at, r));

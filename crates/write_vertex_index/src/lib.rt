@@ -2,8 +2,8 @@
 ghost use mathlib.Core.Path.{_≡_};
 ghost use Prim.Native.Nat.{_+_, _*_, _/_, _≤_, _<_, _^_};
 ghost use lib.ListN.{length};
-ghost use Rattle.write_vertices.specs.Table.{half, halfAt, cleared, linkedWith, added, TableRoom, LookedUp};
-use write_vertices::Found;
+ghost use Rattle.write_vertices.specs.Table.{half, halfWordAt, cleared, linkedWith, added, TableRoom, LookedUp};
+use write_vertices::FoundVertex;
 use write_vertices::Numbered;
 use write_vertices::find;
 
@@ -35,7 +35,7 @@ fn linked(word: u32, place: usize, link: usize) -> u32
 // Adds a vertex, to which the half `place` then leads.
 fn add(table: &mut [u32], buckets: usize, count: usize, triple: u64, place: usize)
     requires { ⌜ (buckets + 2 * count + 2 ≤ length (now table)) × (count < 65536) × (triple < 2 ^ 48) × (place / 2 < buckets + 2 * count)
-        × (halfAt (now table) place ≡ 0) ⌝ }
+        × (halfWordAt (now table) place ≡ 0) ⌝ }
     ensures { λ _. ⌜ now (table .exit) ≡ added (now (table .entry)) buckets count triple place ⌝ }
 {
     let word = linked(table[place / 2], place, (count + 1) % 65536);
@@ -53,8 +53,8 @@ pub fn vertex_index(table: &mut [u32], buckets: usize, count: usize, triple: u64
 {
     let known = find(table, buckets, count, triple);
     match known {
-        Found::At(i) => Numbered::Vertex(i, count),
-        Found::End(place) => {
+        FoundVertex::At(i) => Numbered::Vertex(i, count),
+        FoundVertex::End(place) => {
             if count < 65536 {
                 add(table, buckets, count, triple, place);
                 Numbered::Vertex(count, count + 1)

@@ -11,7 +11,7 @@ use lib.Seq.{getD-set-same, getD-set-other, drop-set-lt}
 use Rattle.write_vertices.proofs.Triples.{met-ext}
 use Rattle.write_vertices.proofs.Links.{low-at, high-at, linked-own, linked-other, child-is, Apart, apart}
 use Rattle.write_vertices.proofs.Ways.{way-link, way-kept, ahead-kept}
-use Rattle.write_vertices.specs.Table.{triple, tripleAt, met, half, halfAt, childOf, rootOf, linkedWith, added, Ahead, Link, root, child, Table, Ends, TableRoom}
+use Rattle.write_vertices.specs.Table.{triple, tripleAt, met, half, halfWordAt, childOf, rootOf, linkedWith, added, Ahead, Link, root, child, Table, Ends, TableRoom}
 
 -- t after the first and after the second of the three stores
 abbrev first : List ℕ → ℕ → ℕ → ℕ → List ℕ
@@ -68,17 +68,17 @@ module _ (t : List ℕ) (b n x s : ℕ) (R : TableRoom t b n x) (lt : n < 65536)
       ∙ drop-set-lt (b + 2 * (n + 1)) t (b + 2 * n) _ (omega arith)
 
   -- its halves
-  own-half : halfAt after s ≡ (n + 1) % 65536
+  own-half : halfWordAt after s ≡ (n + 1) % 65536
   own-half = rw link-word (linked-own (getD t (s / 2) 0) s ((n + 1) % 65536) (E .free) (omega arith))
 
-  other-half : (k : ℕ) → k / 2 < b + 2 * n → (k ≡ s → ⊥) → halfAt after k ≡ halfAt t k
+  other-half : (k : ℕ) → k / 2 < b + 2 * n → (k ≡ s → ⊥) → halfWordAt after k ≡ halfWordAt t k
   other-half k h ne = elim (ℕ-discrete (k / 2) (s / 2)) [
     | yes e ↦ rw (e, link-word) (linked-other (getD t (s / 2) 0) s ((n + 1) % 65536) (E .free) (omega arith) k (λ q. ne (omega arith)))
     | no e ↦ rw (other-word (k / 2) h e)
   ]
 
-  same-link : (k : ℕ) → Link b n k → 0 < halfAt t k → halfAt after k ≡ halfAt t k
-  same-link k l h = other-half k (apart (R .table .wide) l .within) (λ e. let z : halfAt t k ≡ 0 = ap (halfAt t) e ∙ E .free in omega arith)
+  same-link : (k : ℕ) → Link b n k → 0 < halfWordAt t k → halfWordAt after k ≡ halfWordAt t k
+  same-link k l h = other-half k (apart (R .table .wide) l .within) (λ e. let z : halfWordAt t k ≡ 0 = ap (halfWordAt t) e ∙ E .free in omega arith)
 
   -- its triples
   old-triple : (i : ℕ) → i < n → triple after b i ≡ triple t b i
@@ -97,32 +97,32 @@ module _ (t : List ℕ) (b n x s : ℕ) (R : TableRoom t b n x) (lt : n < 65536)
   met-added = rw (add-one, met-ext t after b n old-triple, new-triple)
 
   -- the new vertex has no child
-  no-child : (key : ℕ) → halfAt after (childOf b n key) ≡ 0
+  no-child : (key : ℕ) → halfWordAt after (childOf b n key) ≡ 0
   no-child key = ⊎-elim
       (λ e. rw (e .1) (high-at after (b + 2 * n + 1) ∙ rw high-word (omega (arith, R .short))))
       (λ e. rw (e .1) (other-half (2 * n + 1) (omega (arith, R .trees lt)) (λ q. off .no-later n (omega arith) (R .trees lt) (sym q)) ∙ R .table .later n (omega arith) (R .trees lt)))
       (child-is b n key)
 
   -- a link of the new table that leads somewhere is one of the old table's
-  old-link : {k : ℕ} → Link b (n + 1) k → 0 < halfAt after k → Link b n k
+  old-link : {k : ℕ} → Link b (n + 1) k → 0 < halfWordAt after k → Link b n k
   old-link (root k h) some = root k h
   old-link (child p key h) some = elim (decLt p n) [
     | yes l ↦ child p key l
     | no l ↦
         let e : p ≡ n = omega arith in
-        let z : halfAt after (childOf b p key) ≡ 0 = rw e (no-child key) in
+        let z : halfWordAt after (childOf b p key) ≡ 0 = rw e (no-child key) in
         absurd (omega arith)
   ]
 
   -- and leads to the new vertex, or where it led before
-  leads : (k : ℕ) → Link b n k → ((k ≡ s) × (halfAt after k ≡ (n + 1) % 65536)) ⊎ (halfAt after k ≡ halfAt t k)
+  leads : (k : ℕ) → Link b n k → ((k ≡ s) × (halfWordAt after k ≡ (n + 1) % 65536)) ⊎ (halfWordAt after k ≡ halfWordAt t k)
   leads k l = elim (ℕ-discrete k s) [
     | yes e ↦ inl (e, rw e own-half)
     | no e ↦ inr (other-half k (apart (R .table .wide) l .within) e)
   ]
 
-  links-added : (k : ℕ) → Link b (n + 1) k → (halfAt after k ≤ n + 1) × (halfAt after k ≤ 65535)
-  links-added k l = elim (decLt 0 (halfAt after k)) [
+  links-added : (k : ℕ) → Link b (n + 1) k → (halfWordAt after k ≤ n + 1) × (halfWordAt after k ≤ 65535)
+  links-added k l = elim (decLt 0 (halfWordAt after k)) [
     | yes some ↦ ⊎-elim
         (λ q. (omega (arith, q .1), omega (arith, q .1)))
         (λ q. let o = R .table .links k (old-link l some) in (omega (arith, o .0), omega (arith, o .1)))
@@ -130,19 +130,19 @@ module _ (t : List ℕ) (b n x s : ℕ) (R : TableRoom t b n x) (lt : n < 65536)
     | no none ↦ (omega arith, omega arith)
   ]
 
-  rising-added : (p key : ℕ) → p < n + 1 → 0 < halfAt after (childOf b p key) → suc p < halfAt after (childOf b p key)
+  rising-added : (p key : ℕ) → p < n + 1 → 0 < halfWordAt after (childOf b p key) → suc p < halfWordAt after (childOf b p key)
   rising-added p key h some = elim (decLt p n) [
     | yes l ↦ ⊎-elim
         (λ q. omega (arith, q .1))
-        (λ q. let old : 0 < halfAt t (childOf b p key) = omega arith in omega (arith, R .table .rising p key l old))
+        (λ q. let old : 0 < halfWordAt t (childOf b p key) = omega arith in omega (arith, R .table .rising p key l old))
         (leads (childOf b p key) (child p key l))
     | no l ↦
         let e : p ≡ n = omega arith in
-        let z : halfAt after (childOf b p key) ≡ 0 = rw e (no-child key) in
+        let z : halfWordAt after (childOf b p key) ≡ 0 = rw e (no-child key) in
         absurd (omega arith)
   ]
 
-  alone-added : (j k : ℕ) → Link b (n + 1) j → Link b (n + 1) k → 0 < halfAt after j → halfAt after j ≡ halfAt after k → j ≡ k
+  alone-added : (j k : ℕ) → Link b (n + 1) j → Link b (n + 1) k → 0 < halfWordAt after j → halfWordAt after j ≡ halfWordAt after k → j ≡ k
   alone-added j k lj lk some e =
       let oj = old-link lj some in
       let ok = old-link lk (omega arith) in

@@ -5,7 +5,7 @@ use mathlib.Core.Path.{_≡_, sym, _∙_}
 use mathlib.Core.List.{List}
 use lib.ListN.{getD, set, length-set}
 use lib.Seq.{getD-set-other}
-use Rattle.write_vertices.specs.Table.{triple, tripleAt, met, halfAt, childOf, Link, child, Table}
+use Rattle.write_vertices.specs.Table.{triple, tripleAt, met, halfWordAt, childOf, Link, child, Table}
 use Rattle.write_vertices.proofs.Triples.{met-ext}
 use Rattle.write_vertices.proofs.Links.{apart}
 use Rattle.write_vertices.proofs.Ways.{ahead-kept}
@@ -14,10 +14,10 @@ module _ (t : List ℕ) (b n p v : ℕ) (T : Table t b n) (h : b + 2 * n ≤ p) 
   same-word : (k : ℕ) → k < b + 2 * n → getD (set t p v) k 0 ≡ getD t k 0
   same-word k l = getD-set-other t p k v 0 (λ e. omega arith)
 
-  same-half : (s : ℕ) → s / 2 < b + 2 * n → halfAt (set t p v) s ≡ halfAt t s
+  same-half : (s : ℕ) → s / 2 < b + 2 * n → halfWordAt (set t p v) s ≡ halfWordAt t s
   same-half s l = rw (same-word (s / 2) l)
 
-  same-link : (s : ℕ) → Link b n s → halfAt (set t p v) s ≡ halfAt t s
+  same-link : (s : ℕ) → Link b n s → halfWordAt (set t p v) s ≡ halfWordAt t s
   same-link s l = same-half s (apart (T .wide) l .within)
 
   same-triple : (i : ℕ) → i < n → triple (set t p v) b i ≡ triple t b i

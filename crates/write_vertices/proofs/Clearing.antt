@@ -10,7 +10,7 @@ use Rattle.fields.specs.Bytes.{zeros}
 use Rattle.fields.specs.Put.{put}
 use Rattle.fields.proofs.Puts.{length-put, put-whole, put-nil, put-cons, past-end}
 use Rattle.distinct.proofs.Left.{drop-more}
-use Rattle.write_vertices.specs.Table.{halfAt, Link, root, child, cleared, Table}
+use Rattle.write_vertices.specs.Table.{halfWordAt, Link, root, child, cleared, Table}
 use Rattle.write_vertices.proofs.Links.{half-zero}
 
 module _ (t₀ : List ℕ) (b : ℕ) where
@@ -46,13 +46,13 @@ module _ (t : List ℕ) (b : ℕ) (l : b ≤ length t) where
   unfolding cleared put
   length-cleared = length-put zero (zeros b) t
 
-  no-link : (s : ℕ) → s / 2 < b → halfAt (cleared t b) s ≡ 0
+  no-link : (s : ℕ) → s / 2 < b → halfWordAt (cleared t b) s ≡ 0
   no-link s q =
       let z : getD (cleared t b) (s / 2) 0 ≡ 0 =
       rw (cleared-is, List·getD-append (zeros b) (drop b t) 0 (s / 2) (rw (length-replicate {A = ℕ} b 0) q), getD-replicate {A = ℕ} b (s / 2) 0 0 q) in
       rw z (half-zero s)
 
-  unlinked : {s : ℕ} → Link b 0 s → halfAt (cleared t b) s ≡ 0
+  unlinked : {s : ℕ} → Link b 0 s → halfWordAt (cleared t b) s ≡ 0
   unlinked (root k h) = no-link (2 * k) (omega arith)
   unlinked (child p key h) = absurd (omega arith)
 

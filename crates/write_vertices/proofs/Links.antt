@@ -7,7 +7,7 @@ use mathlib.Core.List.{List}
 use mathlib.Core.Logic.{_⊎_, inl, inr, ⊎-elim}
 use lib.ListN.{getD, set}
 use borrow.Author.Tests.{lt-ltb, le-ltb}
-use Rattle.write_vertices.specs.Table.{half, halfAt, childOf, linkedWith, added, Link, root, child}
+use Rattle.write_vertices.specs.Table.{half, halfWordAt, childOf, linkedWith, added, Link, root, child}
 
 pub half-low : (w s : ℕ) → s % 2 < 1 → half w s ≡ w % 65536
 unfolding half
@@ -24,10 +24,10 @@ half-zero s = elim (decLt (s % 2) 1) [
 ]
 
 -- the halves of word k
-pub low-at : (t : List ℕ) (k : ℕ) → halfAt t (2 * k) ≡ getD t k 0 % 65536
+pub low-at : (t : List ℕ) (k : ℕ) → halfWordAt t (2 * k) ≡ getD t k 0 % 65536
 low-at t k = let e : 2 * k / 2 ≡ k = omega arith in rw e (half-low (getD t k 0) (2 * k) (omega arith))
 
-pub high-at : (t : List ℕ) (k : ℕ) → halfAt t (2 * k + 1) ≡ getD t k 0 / 65536
+pub high-at : (t : List ℕ) (k : ℕ) → halfWordAt t (2 * k + 1) ≡ getD t k 0 / 65536
 high-at t k = let e : (2 * k + 1) / 2 ≡ k = omega arith in rw e (half-high (getD t k 0) (2 * k + 1) (omega arith))
 
 -- a number stored in half s, which was 0

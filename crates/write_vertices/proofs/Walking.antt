@@ -5,7 +5,7 @@ use native.Mathlib.Decide.{decLt}
 use mathlib.Core.Path.{_≡_, ap, sym, subst, _∙_}
 use mathlib.Core.List.{List}
 use mathlib.Core.Logic.{⊎-elim}
-use Rattle.write_vertices.specs.Table.{triple, halfAt, rootOf, childOf, Way, start, down, Ahead, Table, Comes, Finds, Ends}
+use Rattle.write_vertices.specs.Table.{triple, halfWordAt, rootOf, childOf, Way, start, down, Ahead, Table, Comes, Finds, Ends}
 use Rattle.write_vertices.proofs.Ways.{first-step, way-link, deepest}
 
 -- how far it is from a link to the last of n vertices, where 0 is none
@@ -21,14 +21,14 @@ beyond-less n (suc p) (suc q) h l later = omega (arith, later (omega arith))
 
 -- the walk for x has come to half s, which holds p, with a key left; a vertex with x is still ahead
 pub record Walking (t : List ℕ) (b n x s p key : ℕ) : Type 0 where
-  pub here : p ≡ halfAt t s
+  pub here : p ≡ halfWordAt t s
   pub steps : ℕ
   pub way : Way t b (rootOf b x) x steps s key
   pub quick : steps ≤ 48
   pub ahead : (j : ℕ) → j < n → j < 65535 → triple t b j ≡ x → Ahead t b s key j
 
 module _ (t : List ℕ) (b n x : ℕ) (T : Table t b n) where
-  pub begin : (s p : ℕ) → s ≡ rootOf b x → p ≡ halfAt t s → Walking t b n x s p x
+  pub begin : (s p : ℕ) → s ≡ rootOf b x → p ≡ halfWordAt t s → Walking t b n x s p x
   begin s p es ep = record {
     here = ep;
     steps = 0;
@@ -42,7 +42,7 @@ module _ (t : List ℕ) (b n x : ℕ) (T : Table t b n) where
     split : {j : ℕ} {A : Type 0} → Ahead t b s key j → (p ≡ suc j → A) → (0 < p → Ahead t b (childOf b (p - 1) key) (key / 2) j → A) → A
     split a f g =
         ⊎-elim
-        (λ q. f (W .here ∙ ap (halfAt t) (q .0) ∙ a .here))
+        (λ q. f (W .here ∙ ap (halfWordAt t) (q .0) ∙ a .here))
         (λ q.
         let d : 0 < p = rw (W .here) (q .0) in
         g d (record { steps = q .1 .0; place = a .place; left = a .left; way = rw (W .here) (q .1 .1); here = a .here }))
@@ -53,10 +53,10 @@ module _ (t : List ℕ) (b n x : ℕ) (T : Table t b n) where
 
     -- the walk goes on from a vertex that has not x
     module _ (h : 0 < p) where
-      some : 0 < halfAt t s
+      some : 0 < halfWordAt t s
       some = rw (W .here) at h
 
-      pub onward : x < 2 ^ 48 → (triple t b (p - 1) ≡ x → ⊥) → (s' q k : ℕ) → s' ≡ childOf b (p - 1) key → q ≡ halfAt t s' → k ≡ key / 2 → Walking t b n x s' q k
+      pub onward : x < 2 ^ 48 → (triple t b (p - 1) ≡ x → ⊥) → (s' q k : ℕ) → s' ≡ childOf b (p - 1) key → q ≡ halfWordAt t s' → k ≡ key / 2 → Walking t b n x s' q k
       onward short ne s' q k es eq ek = record {
         here = eq;
         steps = suc (W .steps);
@@ -68,7 +68,7 @@ module _ (t : List ℕ) (b n x : ℕ) (T : Table t b n) where
         ahead = λ j d l e. rw (es, ek) (split (W .ahead j d l e) (λ z. let i : p - 1 ≡ j = omega arith in absurd (ne (ap (triple t b) i ∙ e))) (λ _ a. a));
       }
 
-      pub later : (q : ℕ) → q ≡ halfAt t (childOf b (p - 1) key) → beyond n q < beyond n p
+      pub later : (q : ℕ) → q ≡ halfWordAt t (childOf b (p - 1) key) → beyond n q < beyond n p
       later q eq = beyond-less n p q h below (λ d. rw eq (omega (arith, T .rising (p - 1) key (omega (arith, below)) (rw eq at d))))
 
     walked : Comes t b x s

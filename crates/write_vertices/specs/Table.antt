@@ -12,8 +12,8 @@ use lib.Dec.{ltb}
 use Rattle.fields.specs.Bytes.{over, zeros}
 use Rattle.distinct.specs.Numbers.{upTo}
 use Rattle.write_vertices.specs.Vertices.{paper, numberOf, countAfter}
-use Rattle.write_vertices.specs.declared.Found.{Found}
-use Rattle.write_vertices.specs.declared.Found.the-variants.{At, End}
+use Rattle.write_vertices.specs.declared.FoundVertex.{FoundVertex}
+use Rattle.write_vertices.specs.declared.FoundVertex.the-variants.{At, End}
 use Rattle.write_vertices.specs.declared.Numbered.{Numbered}
 
 -- the triple whose first word is at `at`: x and y in that word, z in the low half of the next
@@ -40,8 +40,8 @@ unfoldable pub half : ℕ → ℕ → ℕ
 half w s = cond (ltb (s % 2) 1) (w % 65536) (w / 65536)
 
 -- half s of all words
-abbrev pub halfAt : List ℕ → ℕ → ℕ
-halfAt t s = half (getD t (s / 2) 0) s
+abbrev pub halfWordAt : List ℕ → ℕ → ℕ
+halfWordAt t s = half (getD t (s / 2) 0) s
 
 -- the half for the root of the tree of x
 abbrev pub rootOf : ℕ → ℕ → ℕ
@@ -54,7 +54,7 @@ childOf b p key = cond (ltb (key % 2) 1) (2 * (b + 2 * p + 1) + 1) (2 * p + 1)
 -- the walk that begins at half s₀ with key₀ left comes in so many steps to a half with a key left
 pub data Way (t : List ℕ) (b s₀ key₀ : ℕ) : ℕ → ℕ → ℕ → Type 0 where
   start : Way t b s₀ key₀ 0 s₀ key₀
-  down : {d s key : ℕ} → Way t b s₀ key₀ d s key → 0 < halfAt t s → Way t b s₀ key₀ (suc d) (childOf b (halfAt t s - 1) key) (key / 2)
+  down : {d s key : ℕ} → Way t b s₀ key₀ d s key → 0 < halfWordAt t s → Way t b s₀ key₀ (suc d) (childOf b (halfWordAt t s - 1) key) (key / 2)
 
 -- the walk from there comes to vertex i
 pub record Ahead (t : List ℕ) (b s₀ key₀ i : ℕ) : Type 0 where
@@ -62,7 +62,7 @@ pub record Ahead (t : List ℕ) (b s₀ key₀ i : ℕ) : Type 0 where
   pub place : ℕ
   pub left : ℕ
   pub way : Way t b s₀ key₀ steps place left
-  pub here : halfAt t place ≡ suc i
+  pub here : halfWordAt t place ≡ suc i
 
 -- a half for the root of one of b trees, or for a child of one of n vertices
 pub data Link (b n : ℕ) : ℕ → Type 0 where
@@ -76,10 +76,10 @@ pub record Table (t : List ℕ) (b n : ℕ) : Type 0 where
   pub few : n ≤ 65536
   pub wide : n ≤ b
   pub room : b + 2 * n ≤ length t
-  pub links : (s : ℕ) → Link b n s → (halfAt t s ≤ n) × (halfAt t s ≤ 65535)
-  pub rising : (p key : ℕ) → p < n → 0 < halfAt t (childOf b p key) → suc p < halfAt t (childOf b p key)
-  pub alone : (s s' : ℕ) → Link b n s → Link b n s' → 0 < halfAt t s → halfAt t s ≡ halfAt t s' → s ≡ s'
-  pub later : (i : ℕ) → n ≤ i → i < b → halfAt t (2 * i + 1) ≡ 0
+  pub links : (s : ℕ) → Link b n s → (halfWordAt t s ≤ n) × (halfWordAt t s ≤ 65535)
+  pub rising : (p key : ℕ) → p < n → 0 < halfWordAt t (childOf b p key) → suc p < halfWordAt t (childOf b p key)
+  pub alone : (s s' : ℕ) → Link b n s → Link b n s' → 0 < halfWordAt t s → halfWordAt t s ≡ halfWordAt t s' → s ≡ s'
+  pub later : (i : ℕ) → n ≤ i → i < b → halfWordAt t (2 * i + 1) ≡ 0
   pub short : (i : ℕ) → i < n → triple t b i < 2 ^ 48
   pub stands : (i : ℕ) → i < n → i < 65535 → Ahead t b (rootOf b (triple t b i)) (triple t b i) i
   pub once : (i j : ℕ) → i < j → j < n → triple t b i ≡ triple t b j → ⊥
@@ -95,18 +95,18 @@ pub record Comes (t : List ℕ) (b x s : ℕ) : Type 0 where
 pub record Finds (t : List ℕ) (b n x i : ℕ) : Type 0 where
   pub place : ℕ
   pub walk : Comes t b x place
-  pub here : halfAt t place ≡ (i + 1) % 65536
+  pub here : halfWordAt t place ≡ (i + 1) % 65536
   pub below : i < n
   pub equal : triple t b i ≡ x
 
 -- the walk for x ends at half s, and no vertex has x
 pub record Ends (t : List ℕ) (b n x s : ℕ) : Type 0 where
   pub walk : Comes t b x s
-  pub free : halfAt t s ≡ 0
+  pub free : halfWordAt t s ≡ 0
   pub none : (j : ℕ) → j < n → triple t b j ≡ x → ⊥
 
 -- the answer of a walk for x: the vertex with x, or where it would stand
-abbrev pub Walked : List ℕ → ℕ → ℕ → ℕ → Found → Type 0
+abbrev pub Walked : List ℕ → ℕ → ℕ → ℕ → FoundVertex → Type 0
 Walked t b n x (At i) = Finds t b n x i
 Walked t b n x (End s) = Ends t b n x s
 

@@ -30,7 +30,7 @@ pub extern "C" fn ynv_parse<'a>(
     read_entry::parse_entry(system, graphics, strip, answer)
 }
 
-// Writes a strip's cell into the lent pages: their length in bytes. `work` is for the call's own use: four words to a word of the strip.
+// Writes a strip's cell into the lent pages: their length in bytes, and how many points are stored and dropped. `work` is for the call's own use: four words to a word of the strip.
 #[no_mangle]
 pub extern "C" fn ynv_serialize(
     strip: &[u32],

@@ -37,10 +37,10 @@ walk-in (Walk.refused number) rest e = absurd (refused-made e)
 
 module _ (S G : List ℕ) where
   pub good-in : (va n : ℕ) → 0 < n → readableAt S G va n ≡ true → Good S G va n (resolved S G va n)
-  good-in va n h e = record { some = h; there = refl; whole = length-whole S G va n e }
+  good-in va n h e = record { some = h; there = refl; length-is = length-whole S G va n e }
 
   pub good-out : (va n : ℕ) {b : List ℕ} → Good S G va n b → readableAt S G va n ≡ true
-  good-out va n g = whole-of S G va n (omega (arith, ap length (g .there), g .whole))
+  good-out va n g = whole-of S G va n (omega (arith, ap length (g .there), g .length-is))
 
   pub array-in : (w va n : ℕ) → readableAt S G va (w * n) ≡ true → 0 < w → Array S G w va n (cut w n (resolved S G va (w * n)))
   unfolding cut

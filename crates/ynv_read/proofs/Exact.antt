@@ -20,7 +20,7 @@ use Rattle.read_grammar.proofs.Unique.{makes-one}
 use Rattle.read_lists.specs.Lists.{readableAt, before, total, tableOf, listBytes, listed}
 use Rattle.read_lists.specs.Lists.{header as lists-header}
 use Rattle.resource.proofs.Parts.{null-empty}
-use Rattle.read_lists.proofs.Accepted.{Found, at-null, there, listed-found}
+use Rattle.read_lists.proofs.Accepted.{ListFound, at-null, there, listed-found}
 use Rattle.read_lists.proofs.Exact as lists
 use Rattle.read_sectors.specs.Walk.{walk}
 use Rattle.read_sectors.specs.Walk as Walk
@@ -58,7 +58,7 @@ module _ (S G : List ℕ) where
   unfolding tableOf lists-header leAt before
   null-total = rw (null-empty S G 48) (rw (null-empty S G 0))
 
-  count-is : {w va n : ℕ} → Found S G w va n → n ≡ total (tableOf S G va)
+  count-is : {w va n : ℕ} → ListFound S G w va n → n ≡ total (tableOf S G va)
   count-is at-null = sym null-total
   count-is (there a) = sym (a .adds-up)
 

@@ -134,8 +134,8 @@ room S G {polys} {n} f =
 
 -- ---- the parts make the strip
 
-behind : {n : ℕ} (bs cs xs : List ℕ) → n ≡ length bs → put n cs (put 0 bs xs) ≡ put 0 (bs ++ cs) xs
-behind {n} bs cs xs e = ap (λ (m : ℕ). put m cs (put 0 bs xs)) (sym (zero-add n)) ∙ put-next n 0 bs cs xs (sym e)
+put-behind : {n : ℕ} (bs cs xs : List ℕ) → n ≡ length bs → put n cs (put 0 bs xs) ≡ put 0 (bs ++ cs) xs
+put-behind {n} bs cs xs e = ap (λ (m : ℕ). put m cs (put 0 bs xs)) (sym (zero-add n)) ∙ put-next n 0 bs cs xs (sym e)
 
 pub filled : (S G : List ℕ) {c : Cell} {k : ℕ} → readCell S G ≡ made c k → (x₀ : List ℕ) {x₁ x₂ x₃ x₄ : List ℕ} {r₁ r₂ r₃ : ℕ}
     → x₁ ≡ put 0 (headWords (head S G)) x₀
@@ -151,14 +151,14 @@ filled S G e x₀ {x₁} {x₂} {x₃} {x₄} {r₁} {r₂} {r₃} e₁ (n₂, e
     let q = portalsWords S G in
     let t = pointsWords (backOf (head S G)) (f .points) in
     let ps : pointsIn (walk S G 4096 (rootAt S G ∷ [])) ≡ f .points = ap pointsIn (f .walked) in
-    let s₂ : x₂ ≡ put 0 (h ++ p) x₀ = e₂ ∙ ap (put 14 p) e₁ ∙ behind h p x₀ (sym (head-length (head S G))) in
+    let s₂ : x₂ ≡ put 0 (h ++ p) x₀ = e₂ ∙ ap (put 14 p) e₁ ∙ put-behind h p x₀ (sym (head-length (head S G))) in
     let l₁ : r₁ ≡ length (h ++ p) = omega (arith, length-append h p, head-length (head S G)) in
-    let s₃ : x₃ ≡ put 0 (h ++ p ++ q) x₀ = e₃ ∙ ap (put r₁ q) s₂ ∙ behind (h ++ p) q x₀ l₁ in
+    let s₃ : x₃ ≡ put 0 (h ++ p ++ q) x₀ = e₃ ∙ ap (put r₁ q) s₂ ∙ put-behind (h ++ p) q x₀ l₁ in
     let l₂ : r₂ ≡ length (h ++ p ++ q) = omega (arith, length-append (h ++ p) q, portals-length S G) in
-    let s₄ : x₄ ≡ put 0 (h ++ p ++ q ++ t) x₀ = e₄ ∙ ap (λ (l : List (List ℕ)). put r₂ (pointsWords (backOf (head S G)) l) x₃) ps ∙ ap (put r₂ t) s₃ ∙ behind (h ++ p ++ q) t x₀ l₂ in
+    let s₄ : x₄ ≡ put 0 (h ++ p ++ q ++ t) x₀ = e₄ ∙ ap (λ (l : List (List ℕ)). put r₂ (pointsWords (backOf (head S G)) l) x₃) ps ∙ ap (put r₂ t) s₃ ∙ put-behind (h ++ p ++ q) t x₀ l₂ in
     let l₃ : r₃ ≡ length (h ++ p ++ q ++ t) = omega (arith, length-append (h ++ p ++ q) t, points-length S G (f .points), ap length ps) in
     let whole-strip : encode _ ≡ h ++ p ++ q ++ t ++ endWords = ap encode (f .is) ∙ encode-is S G (f .points) in
-    sym (put-one r₃ 0x5000_0000 x₄) ∙ ap (put r₃ endWords) s₄ ∙ behind (h ++ p ++ q ++ t) endWords x₀ l₃ ∙ ap (λ (l : List ℕ). put 0 l x₀) (sym whole-strip)
+    sym (put-one r₃ 0x5000_0000 x₄) ∙ ap (put r₃ endWords) s₄ ∙ put-behind (h ++ p ++ q ++ t) endWords x₀ l₃ ∙ ap (λ (l : List ℕ). put 0 l x₀) (sym whole-strip)
 
 -- ---- the answer
 

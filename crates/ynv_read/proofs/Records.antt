@@ -9,7 +9,8 @@ use Rattle.fields.proofs.Bytes.{le-lt}
 use Rattle.strip.proofs.Box.{box-finite}
 use Rattle.cell_record.specs.Record.{recordOf, headBy}
 use Rattle.cell_record.specs.declared.CellRecord.{CellRecord}
-use Rattle.cell_record.proofs.Back.{WordVec, WordBox, head-back}
+use Rattle.cell_record.specs.Words.{WordVec, WordBox}
+use Rattle.cell_record.proofs.Back.{head-back}
 use Rattle.read_grammar.specs.Formed.{Bytes}
 use Rattle.read_grammar.proofs.Bytes.{bytes-resolved}
 use Rattle.read_records.specs.Back.{backBy, backIn}
@@ -27,7 +28,7 @@ unfolding head headOf header root
 word-box S G s g =
     let h = bytes-resolved S G s g 0x5000_0000 368 in
     let r = bytes-resolved S G s g (rootAt S G) 96 in
-    record { min = word-vec (root S G) 0 r; max = word-vec (root S G) 16 r; size = word-vec (header S G) 0x60 h }
+    record { bb-min = word-vec (root S G) 0 r; bb-max = word-vec (root S G) 16 r; bb-size = word-vec (header S G) 0x60 h }
 
 -- the cell's record holds its box: shorts are turned back in it, and the words of its head are the bits of its floats, since they are finite
 module _ (S G : List ℕ) {c : CellRecord} (e : c ≡ recordOf (head S G)) where

@@ -60,13 +60,13 @@ module _ (S G : List ℕ) (n : ℕ) where
       there : parseOutcome S G n ≡ Outcome.done p w → Accepts S G n p w
       there e =
           let (c, k, r, fits, counts, strip) = fitted-done (readCell S G) e in
-          record { derived = record { sectors = k; cell = c; makes = accepted-made S G r; strip = strip }; fits = rw strip fits; counts = counts }
+          record { derived = record { sectors = k; cell = c; makes = accepted-made S G r; strip = strip }; fits = rw strip fits; counts-are = counts }
 
       back : Accepts S G n p w → parseOutcome S G n ≡ Outcome.done p w
       back a =
           let d = a .derived in
           let room : length (encode (d .cell)) ≤ n = rw (d .strip) at (a .fits) in
-          rw (made-accepted S G (d .makes), le-leb (length (encode (d .cell))) n room, a .counts, d .strip)
+          rw (made-accepted S G (d .makes), le-leb (length (encode (d .cell))) n room, a .counts-are, d .strip)
 
   -- ---- refused
 
@@ -117,8 +117,8 @@ module _ (S G : List ℕ) (n : ℕ) where
   read-scans sb gb {p} {w} e =
       let a = accepted-exactly p w .0 e in
       let d = a .derived in
-      let sectors : p .sectors ≡ d .sectors = ap (λ (x : Parsed). x .sectors) (a .counts) in
-      (d .cell, derived-scans S G sb gb d, a .counts ∙ ap (countsOf (d .cell)) (sym sectors))
+      let sectors : p .sectors ≡ d .sectors = ap (λ (x : Parsed). x .sectors) (a .counts-are) in
+      (d .cell, derived-scans S G sb gb d, a .counts-are ∙ ap (countsOf (d .cell)) (sym sectors))
 
 -- P12's vehicle is read, into any strip of 15 words or more, whatever the graphics section
 pub p12-read : (G : List ℕ) (n : ℕ) → 15 ≤ n
@@ -127,4 +127,4 @@ unfolding vehicleCell headWords vecWords each pack
 p12-read G n h =
     let words : length (encode vehicleCell) ≡ 15 = length-encode vehicleCell in
     accepted-exactly vehiclePages G n (record { words = 15; polys = 0; portals = 0; points = 0; sectors = 1 }) vehicleStrip .1
-    (record { derived = record { sectors = 1; cell = vehicleCell; makes = p12-makes G; strip = sym (encode-plain vehicleCell) }; fits = h; counts = rw words })
+    (record { derived = record { sectors = 1; cell = vehicleCell; makes = p12-makes G; strip = sym (encode-plain vehicleCell) }; fits = h; counts-are = rw words })

@@ -11,7 +11,7 @@ use Rattle.read_decide.specs.Answer.{countsOf}
 pub record Accepts (S G : List ℕ) (n : ℕ) (p : Parsed) (w : List ℕ) : Type 0 where
   pub derived : Derives S G w
   pub fits : length w ≤ n
-  pub counts : p ≡ countsOf (derived .cell) (derived .sectors)
+  pub counts-are : p ≡ countsOf (derived .cell) (derived .sectors)
 
 -- the refusals that are named for reading pages with so many polygons, each with its number and place: all but 2, which is the lent strip's
 pub data Named (polys : ℕ) : ℕ → ℕ → Type 0 where

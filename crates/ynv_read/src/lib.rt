@@ -5,6 +5,7 @@ ghost use mathlib.Core.List.{[], _∷_};
 ghost use Prim.Native.Nat.{ℕ, _+_, _*_, _≤_};
 ghost use lib.ListN.{length};
 ghost use Rattle.fields.specs.Put.{put};
+ghost use Rattle.fields.specs.Sizes.{PORTAL-SIZE};
 ghost use Rattle.strip.specs.Cell.{Cell, encode};
 ghost use Rattle.strip.specs.Outcome.{shown, left};
 ghost use Rattle.read_sectors.specs.Walk.{walk};
@@ -42,8 +43,9 @@ fn fill_portals<'a>(
     strip: &mut [u32],
     at: usize,
 ) -> usize
-    requires { ⌜ Given (now system) (now graphics) (now header) cell × (28 * portalCount (now system) (now graphics) ≤ length (portals (now system) (now graphics))) × (at + 11 * portalCount (now system) (now graphics) ≤ length (now strip)) ⌝ }
-    ensures { λ r. ⌜ (r ≡ at + 11 * portalCount (now (system .entry)) (now (graphics .entry))) × (now (strip .exit) ≡ put at (portalsWords (now (system .entry)) (now (graphics .entry))) (now (strip .entry))) ⌝ }
+    requires { ⌜ Given (now system) (now graphics) (now header) cell × (PORTAL-SIZE * portalCount (now system) (now graphics) ≤ length (portals (now system) (now graphics))) × (at + 11 * portalCount (now system) (now graphics) ≤ length (now strip)) ⌝ }
+    ensures next { λ r. ⌜ r ≡ at + 11 * portalCount (now (system .entry)) (now (graphics .entry)) ⌝ }
+    ensures content { λ _. ⌜ now (strip .exit) ≡ put at (portalsWords (now (system .entry)) (now (graphics .entry))) (now (strip .entry)) ⌝ }
 {
     let n = portal_count(header);
     put_portals(portals_of(system, graphics, header), n, cell, strip, at);
@@ -59,8 +61,8 @@ fn fill_points<'a>(
     at: usize,
 ) -> usize
     requires { ⌜ Given (now system) (now graphics) (now header) cell × HasRoom (walk (now system) (now graphics) 4096 (rootAt (now system) (now graphics) ∷ [])) at (length (now strip)) ⌝ }
-    ensures { λ r. ⌜ (r ≡ at + 4 * length (pointsIn (walk (now (system .entry)) (now (graphics .entry)) 4096 (rootAt (now (system .entry)) (now (graphics .entry)) ∷ []))))
-        × (now (strip .exit) ≡ put at (pointsWords (backOf (head (now (system .entry)) (now (graphics .entry)))) (pointsIn (walk (now (system .entry)) (now (graphics .entry)) 4096 (rootAt (now (system .entry)) (now (graphics .entry)) ∷ [])))) (now (strip .entry))) ⌝ }
+    ensures next { λ r. ⌜ r ≡ at + 4 * length (pointsIn (walk (now (system .entry)) (now (graphics .entry)) 4096 (rootAt (now (system .entry)) (now (graphics .entry)) ∷ []))) ⌝ }
+    ensures content { λ _. ⌜ now (strip .exit) ≡ put at (pointsWords (backOf (head (now (system .entry)) (now (graphics .entry)))) (pointsIn (walk (now (system .entry)) (now (graphics .entry)) 4096 (rootAt (now (system .entry)) (now (graphics .entry)) ∷ [])))) (now (strip .entry)) ⌝ }
 {
     put_tree_points(system, graphics, u64_le(header, 0x120), cell, strip, at)
 }
@@ -75,7 +77,8 @@ fn fill_polygons<'a>(
 ) -> usize
     requires { ⌜ Given (now system) (now graphics) (now header) cell ⌝ }
     requires { ⌜ ListsReady (now system) (now graphics) × (n ≡ length (polygons (now system) (now graphics))) × PolysFit (now system) (now graphics) (length (now strip)) ⌝ }
-    ensures { λ r. ⌜ (r ≡ 14 + length (polysWords (now (system .entry)) (now (graphics .entry)))) × (now (strip .exit) ≡ put 14 (polysWords (now (system .entry)) (now (graphics .entry))) (now (strip .entry))) ⌝ }
+    ensures next { λ r. ⌜ r ≡ 14 + length (polysWords (now (system .entry)) (now (graphics .entry))) ⌝ }
+    ensures content { λ _. ⌜ now (strip .exit) ≡ put 14 (polysWords (now (system .entry)) (now (graphics .entry))) (now (strip .entry)) ⌝ }
 {
     let a = list_addresses(header);
     let vertices = list_table(system, graphics, a.vertices);

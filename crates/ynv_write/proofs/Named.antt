@@ -14,7 +14,7 @@ use Rattle.distinct.specs.Distinct.{withNew, distinctFrom}
 use Rattle.areas.specs.Areas.{seeded}
 use Rattle.write_pages.specs.Items.{Corner, cornersIn, triples, named}
 use Rattle.write_pages.specs.Sectors.{leafCounts, depthOf}
-use Rattle.write_pages.specs.Pages.{loOf, extentOf, links, sectors, pages}
+use Rattle.write_pages.specs.Pages.{bbMin, bbSize, links, sectors, pages}
 use Rattle.write_pages.specs.Checks.{Verdict, fine, refused, faultIf, firstFault, at, cornerFault, cornersFault, polygonFault, polygonsVerdict, leafFault, leavesVerdict, cellVerdict}
 use Rattle.write_pages.proofs.LeafCounts.{cell-leaves}
 use Rattle.ynv_write.specs.Theorems.{Named, short-work, endless-box, many-polygons, vertex-count, late-start, many-vertices, many-areas, polygon-links, many-ids, many-points, many-portals, many-links, short-pages}
@@ -109,10 +109,10 @@ module _ (c : Cell) where
 
   -- ---- leaves
 
-  leaf-named : (l : ℕ) (n : ℕ × ℕ) → l < 4 ^ depthOf (c .head) → OrNone (At l) (leafFault n)
+  leaf-named : (l : ℕ) (n : ℕ × ℕ) → l < 4 ^ depthOf (c .head .content) → OrNone (At l) (leafFault n)
   leaf-named l n h = first-named (At l) _ (when-named (ltb 8192 (n .0)) 16 (many-ids h), (when-named (ltb 2048 (n .1)) 17 (many-points h), tt))
 
-  leaves-named : (l : ℕ) (ns : List (ℕ × ℕ)) (rest : Verdict) → l + length ns ≡ 4 ^ depthOf (c .head) → AsNamed rest → AsNamed (leavesVerdict l ns rest)
+  leaves-named : (l : ℕ) (ns : List (ℕ × ℕ)) (rest : Verdict) → l + length ns ≡ 4 ^ depthOf (c .head .content) → AsNamed rest → AsNamed (leavesVerdict l ns rest)
   unfolding leavesVerdict
   leaves-named l [] rest e k = k
   leaves-named l (n ∷ ns) rest e k = at-named l _ _ (leaf-named l n (omega arith)) (leaves-named (l + 1) ns rest (omega arith) k)
@@ -125,7 +125,7 @@ module _ (c : Cell) where
       at-named 0 _ _
       (first-named (At 0) _
       (when-named (ltb (work / 4) words) 0 short-work, (when-named (not (finiteBox (c .head))) 9 endless-box, (when-named (ltb 16383 (length (c .polys))) 10 many-polygons, tt))))
-      (polygons-named (loOf c) (extentOf c) [] (seeded (c .head .area)) 0 0 (c .polys) _ (omega arith)
+      (polygons-named (bbMin c) (bbSize c) [] (seeded (c .head .area)) 0 0 (c .polys) _ (omega arith)
       (leaves-named 0 (leafCounts (sectors c)) _ (omega (arith, cell-leaves c))
       (at-named 0 _ _
       (first-named (At 0) _

@@ -33,8 +33,8 @@ pub data Named (c : Cell) : ℕ → ℕ → Type 0 where
   many-vertices : {p : ℕ} → p < length (c .polys) → Named c 14 p
   many-areas : {p : ℕ} → p < length (c .polys) → Named c 15 p
   polygon-links : {p : ℕ} → p < length (c .polys) → Named c 16 p
-  many-ids : {l : ℕ} → l < 4 ^ depthOf (c .head) → Named c 17 l
-  many-points : {l : ℕ} → l < 4 ^ depthOf (c .head) → Named c 18 l
+  many-ids : {l : ℕ} → l < 4 ^ depthOf (c .head .content) → Named c 17 l
+  many-points : {l : ℕ} → l < 4 ^ depthOf (c .head .content) → Named c 18 l
   many-portals : Named c 19 0
   many-links : Named c 20 0
   short-pages : Named c 2 0

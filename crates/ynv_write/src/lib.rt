@@ -28,8 +28,8 @@ pub fn serialize_ynv(strip: &[u32], work: &mut [u32], pages: &mut [u8]) -> Seria
     let verdict = d.verdict;
     match verdict {
         Verdict::Fine => {
-            let extent = write_ends::pages_end(strip, d, work);
-            let length = extent.end.at;
+            let ends = write_ends::pages_end(strip, d, work);
+            let length = ends.end.at;
             if pages.len() < length {
                 return SerializeAnswer::Refused(Refusal {
                     number: 2,
@@ -37,7 +37,7 @@ pub fn serialize_ynv(strip: &[u32], work: &mut [u32], pages: &mut [u8]) -> Seria
                 });
             }
             let counts = d.counts;
-            let stored = write_fill::fill(strip, d, extent.sectors, work, pages) as usize;
+            let stored = write_fill::fill(strip, d, ends.sectors, work, pages) as usize;
             let dropped = counts.points - stored;
             SerializeAnswer::Written(Written {
                 length,

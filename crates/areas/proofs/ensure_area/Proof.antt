@@ -12,7 +12,7 @@ areas-of-requires c κs = search needs
 returns : tie.Need-returns
 returns c = record {
   answer = c .before .ensure-id .ensures .0 .answer;
-  table = rw (c .areas-of .ensures, c .before .ensure-id .ensures .0 .size, c .before .ensure-id .ensures .1);
+  table = rw (c .areas-of .ensures, c .before .ensure-id .ensures .0 .len-is, c .before .ensure-id .ensures .1);
 }
 
 pub ensure-area-spec : {M : Type 1} → statement M

@@ -1,4 +1,4 @@
--- `leaf_replay::answer_agrees` meets its contract: its callees' equations.
+-- `leaf_replay::answer_agrees` meets its contract: the test gives the number, `counts_agree` the three words; where the number differs the answer is false.
 use mathlib.Core.Bool.{false≢true}
 use mathlib.Core.Path.{_∙_}
 use borrow.Author.Needs.{needs}

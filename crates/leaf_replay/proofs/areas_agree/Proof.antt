@@ -1,4 +1,4 @@
--- `leaf_replay::areas_agree` meets its contract: its callees' equations.
+-- `leaf_replay::areas_agree` meets its contract: `take_areas` gives the table that the definition asks for; two tests give its count and its length, `ids_agree` its ids; where a test fails the answer is false.
 use mathlib.Core.Bool.{false≢true}
 use mathlib.Core.Path.{_∙_}
 use borrow.Author.Needs.{needs}

@@ -1,4 +1,4 @@
--- `leaf_replay::back_agrees` meets its contract: its callees' equations.
+-- `leaf_replay::back_agrees` meets its contract: the test says that the float of `leaf_back` on the first three words in has the bits of the first word out.
 use borrow.Author.Tests.{eqb-true}
 use borrow.Author.Needs.{needs}
 use Rattle.leaf_replay.proofs.back_agrees.Statement.{statement}

@@ -1,4 +1,4 @@
--- `leaf_replay::counts_agree` meets its contract: its callees' equations.
+-- `leaf_replay::counts_agree` meets its contract: each of the three tests gives one count, which `word` reads; where one fails the answer is false.
 use mathlib.Core.Bool.{false≢true}
 use mathlib.Core.Path.{_∙_}
 use borrow.Author.Tests.{eqb-true}

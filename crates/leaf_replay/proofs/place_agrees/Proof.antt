@@ -1,4 +1,4 @@
--- `leaf_replay::place_agrees` meets its contract: its callees' equations.
+-- `leaf_replay::place_agrees` meets its contract: the test says that the place of `leaf_place` is the number of the two words out, and both sides are what the definitions name.
 use Prim.Native.Nat.{_+_, _*_}
 use borrow.Author.Tests.{eqb-true}
 use borrow.Author.Needs.{needs}

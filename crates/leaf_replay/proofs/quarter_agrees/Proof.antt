@@ -1,4 +1,4 @@
--- `leaf_replay::quarter_agrees` meets its contract: its callees' equations.
+-- `leaf_replay::quarter_agrees` meets its contract: the first test gives the side rounded down, the second the side rounded up; where the first fails the answer is false.
 use mathlib.Core.Bool.{false≢true}
 use borrow.Author.Tests.{eqb-true}
 use borrow.Author.Needs.{needs}

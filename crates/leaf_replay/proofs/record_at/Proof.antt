@@ -42,7 +42,7 @@ returns : tie.Need-returns
 returns c =
     let output = c .before .before .end-of .ensures in
     let next = c .end-of2 .ensures in
-    (cc, record { starts = omega arith; ends = output .1; behind = next .1; within = next .2 })
+    (cc, record { starts = omega arith; ends = output .1 .0; to-next = next .1 .0; within = next .1 .1 })
 
 pub record-at-spec : {M : Type 1} → statement M
 record-at-spec =

@@ -1,4 +1,4 @@
--- `leaf_replay::short_agrees` meets its contract: its callees' equations.
+-- `leaf_replay::short_agrees` meets its contract: the test says that the short of `leaf_short` on the first three words in is the first word out.
 use borrow.Author.Tests.{eqb-true}
 use borrow.Author.Needs.{needs}
 use Rattle.leaf_replay.proofs.short_agrees.Statement.{statement}

@@ -9,8 +9,8 @@ use Rattle.pick_contains.proofs.crossed.Tie as tie
 returns : tie.Need-returns
 unfolding crossed
 returns c =
-    let midway = c .before .before .before .before .before in
-    let entry = midway .before .before in
+    let after-if1 = c .before .before .before in
+    let entry = after-if1 .before .before .before .before in
     let a = entry .args in
     rw (le-leb (a .a .y) (a .s .y) (omega arith), le-leb (a .b .y) (a .s .y) (omega arith))
 
@@ -20,8 +20,8 @@ left-of-side-requires c κs = search needs
 returns-2 : tie.Need-returns-2
 unfolding crossed
 returns-2 c =
-    let midway = c .before .before .before .before .before in
-    let entry = midway .before .before .before in
+    let after-if1 = c .before .before .before .before in
+    let entry = after-if1 .before .before .before .before in
     let a = entry .args in
     rw (le-leb (a .a .y) (a .s .y) (omega arith), lt-leb (a .b .y) (a .s .y) (omega arith)) (c .left-of-side .ensures)
 
@@ -31,16 +31,16 @@ left-of-side-requires-2 c κs = search needs
 returns-3 : tie.Need-returns-3
 unfolding crossed
 returns-3 c =
-    let midway = c .before .before .before .before .before in
-    let entry = midway .before .before .before in
+    let after-if1 = c .before .before .before .before in
+    let entry = after-if1 .before .before .before .before in
     let a = entry .args in
     rw (lt-leb (a .a .y) (a .s .y) (omega arith), le-leb (a .b .y) (a .s .y) (omega arith)) (c .left-of-side2 .ensures)
 
 returns-4 : tie.Need-returns-4
 unfolding crossed
 returns-4 c =
-    let midway = c .before .before .before .before .before in
-    let entry = midway .before .before in
+    let after-if1 = c .before .before .before in
+    let entry = after-if1 .before .before .before .before in
     let a = entry .args in
     rw (lt-leb (a .a .y) (a .s .y) (omega arith), lt-leb (a .b .y) (a .s .y) (omega arith))
 

@@ -6,7 +6,7 @@ use mathlib.Core.List.{map}
 use native.Mathlib.Nat.{zero-add, sub-zero}
 use native.Mathlib.Omega.{arith}
 use Rattle.strip.specs.Reading.{vecsAt}
-use Rattle.strip.specs.Tests.{one}
+use Rattle.strip.specs.Tests.{oneIf}
 use Rattle.pick_contains.specs.Inside.{crossings}
 use Rattle.pick_contains.specs.Vertices.{spotOn, vertexSpot}
 use Rattle.pick_contains.proofs.Laws.{crossings-turn, crossings-done}
@@ -31,8 +31,8 @@ read-vertex-requires c κs = omega arith
 crossed-requires : tie.Need-crossed-requires Inv-loop μ-loop
 crossed-requires c κs = (c .before .before .loop .inv .2, rw (c .read-vertex .ensures) (omega arith))
 
-one-requires : tie.Need-one-requires Inv-loop μ-loop
-one-requires c κs = tt
+one-if-requires : tie.Need-one-if-requires Inv-loop μ-loop
+one-if-requires c κs = tt
 
 add-count : tie.Need-add-count Inv-loop μ-loop
 add-count c = omega arith
@@ -54,9 +54,9 @@ loop-again c =
     let l = at-loop .loop in
     let ws = a .strip .now in
     let next = c .before .before .read-vertex .ensures in
-    let counted = c .one .ensures .0 ∙ ap one (c .before .crossed .ensures) in
+    let more = c .one-if .ensures .0 ∙ ap oneIf (c .before .crossed .ensures) in
     let turn =
-    crossings-turn (spotOn (a .x) (a .y)) ws (a .s) (vertexSpot ws (a .x) (l .last)) (l .place) (l .i) (a .n) (c .before .before .before .loop-test .taken) _ (ap (vertexSpot ws (a .x)) next) _ counted
+    crossings-turn (spotOn (a .x) (a .y)) ws (a .s) (vertexSpot ws (a .x) (l .last)) (l .place) (l .i) (a .n) (c .before .before .before .loop-test .taken) _ (ap (vertexSpot ws (a .x)) next) _ more
     in
     (omega arith, omega arith, rw next (omega arith), omega arith, omega (arith, turn))
 
@@ -76,7 +76,7 @@ crossings-spec =
     loop-holds
     read-vertex-requires
     crossed-requires
-    one-requires
+    one-if-requires
     add-count
     add-place
     add-i

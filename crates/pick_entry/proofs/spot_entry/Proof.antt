@@ -10,8 +10,8 @@ use Rattle.pick_entry.proofs.spot_entry.Tie as tie
 
 returns : tie.Need-returns
 returns c =
-    let midway = c .before .before .before .before .before in
-    let after-s = midway .before in
+    let after-accept-arg = c .before .before .before .before in
+    let after-s = after-accept-arg .before .before in
     let after-spot-for-position = after-s .before .before in
     let entry = after-spot-for-position .before .before in
     answers spotWords (sym (ap spotPaper (after-s .s .given .1)) ∙ after-spot-for-position .spot-for-position .ensures) (now (entry .args .answer)) (c .accept .ensures .0) (c .accept .ensures .1)

@@ -1,5 +1,6 @@
 -- `picking::first_containing` meets its contract. The invariant: while none is found, the search among all polygons is the one among those that are left,
 -- from number i and from `at` on; once one is found, the search gives it. What is left is inside the strip.
+use borrow.Author.Needs.{needs}
 use Prim.Native.Nat.{_-_, _≤_, _<_}
 use lib.ListN.{length}
 use mathlib.Core.Logic.{_⊎_, inl, inr, ⊎-elim}
@@ -10,6 +11,7 @@ use Rattle.strip.specs.Reading.{headAt, polyAt}
 use Rattle.strip.specs.Rows.{polygonsAt, afterPolygons}
 use Rattle.strip.specs.Outcome.{values}
 use Rattle.strip.proofs.Steps.{parts, after-polygon, next-inside}
+use Rattle.cell_record.specs.Record.{recordOf}
 use Rattle.picking.specs.Picking.{contains, found, firstFrom}
 use Rattle.picking.proofs.Search.{first-found, first-turn, first-done}
 use Rattle.picking.proofs.first_containing.Statement.{statement}
@@ -25,18 +27,21 @@ Inv-loop strip n s x y first₀ at₀ i₀ first at i =
 abbrev μ-loop : tie.MeasureT-loop
 μ-loop strip n s x y first₀ at₀ i₀ first at i = n - i
 
-axis-at-requires : tie.Need-axis-at-requires Inv-loop μ-loop
-axis-at-requires c κs = (omega arith, c .before .pre .0)
+record-at-requires : tie.Need-record-at-requires Inv-loop μ-loop
+record-at-requires c κs = c .before .pre .0
 
-axis-at-requires-2 : tie.Need-axis-at-requires-2 Inv-loop μ-loop
-axis-at-requires-2 c κs = (omega arith, c .before .before .pre .0)
+x-axis-requires : tie.Need-x-axis-requires Inv-loop μ-loop
+x-axis-requires c κs = search needs
+
+y-axis-requires : tie.Need-y-axis-requires Inv-loop μ-loop
+y-axis-requires c κs = search needs
 
 loop-holds : tie.Need-loop-holds Inv-loop μ-loop
-loop-holds c = (omega arith, omega arith, rw sub-zero (c .before .before .before .pre .1), inl (refl, rw sub-zero))
+loop-holds c = (omega arith, omega arith, rw sub-zero (c .before .before .before .before .pre .1), inl (refl, rw sub-zero))
 
 poly-at-requires : tie.Need-poly-at-requires Inv-loop μ-loop
 poly-at-requires c κs =
-    let a = c .before .before .before .before .before .args in
+    let a = c .before .before .before .before .before .before .args in
     let l = c .before .loop in
     let p = polyAt (a .strip .now) (l .at) in
     omega (arith, parts (a .strip .now) (l .at) p refl, next-inside (a .strip .now) (l .at) (l .i) (a .n) (length (a .strip .now)) (omega arith) (l .inv .2) p refl)
@@ -44,7 +49,7 @@ poly-at-requires c κs =
 contains-requires : tie.Need-contains-requires Inv-loop μ-loop
 contains-requires c κs =
     let at-loop = c .before .before in
-    let entry = at-loop .before .before .before .before in
+    let entry = at-loop .before .before .before .before .before in
     let a = entry .args in
     let l = at-loop .loop in
     let e = c .poly-at .ensures in
@@ -57,18 +62,19 @@ loop-less : tie.Need-loop-less Inv-loop μ-loop
 loop-less c = omega arith
 
 loop-again : tie.Need-loop-again Inv-loop μ-loop
-unfolding headAt
+unfolding headAt recordOf
 loop-again c =
-    let after-axis-at2 = c .before .before .before .before .before in
-    let after-axis-at = after-axis-at2 .before in
-    let entry = after-axis-at .before .before in
+    let after-y-axis = c .before .before .before .before .before in
+    let after-x-axis = after-y-axis .before in
+    let after-record-at = after-x-axis .before in
+    let entry = after-record-at .before .before in
     let a = entry .args in
     let l = c .before .before .before .before .loop in
     let ws = a .strip .now in
     let test = contains (headAt ws 0) (a .s) in
     let k : l .i < a .n = omega arith in
     let e = c .before .before .poly-at .ensures in
-    let m = rw (after-axis-at .axis-at .ensures, after-axis-at2 .axis-at2 .ensures) at (c .before .contains .ensures) in (
+    let m = rw (after-x-axis .x-axis .ensures, after-y-axis .y-axis .ensures, after-record-at .record-at .ensures) at (c .before .contains .ensures) in (
       omega arith,
       ⊎-elim (λ w. omega arith) (λ w. omega arith) (c .if1 .came),
       omega (arith, after-polygon ws (l .at) (l .i) (a .n) k _ e),
@@ -89,7 +95,7 @@ returns c =
 returns-2 : tie.Need-returns-2 Inv-loop μ-loop
 returns-2 c =
     let at-loop = c .before .before in
-    let entry = at-loop .before .before .before .before in
+    let entry = at-loop .before .before .before .before .before in
     let a = entry .args in
     let l = at-loop .loop in
     ap values
@@ -105,8 +111,9 @@ first-containing-spec =
     (tie.spec
     Inv-loop
     μ-loop
-    axis-at-requires
-    axis-at-requires-2
+    record-at-requires
+    x-axis-requires
+    y-axis-requires
     loop-holds
     poly-at-requires
     contains-requires

@@ -17,7 +17,7 @@ enum-known-n c = search needs
 first-containing-requires : tie.Need-first-containing-requires
 first-containing-requires c κs =
     let b = boxed _ _ _ (c .before .before .before .check-cell .ensures) (c .before .n .given .1) in
-    (b .formed .long, omega (arith, b .formed .whole))
+    (b .formed .long, omega (arith, b .formed .length-is))
 
 enum-known-r : tie.Need-enum-known-r
 enum-known-r c = search needs

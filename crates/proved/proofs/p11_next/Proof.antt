@@ -1,4 +1,4 @@
--- `proved::p11_next` meets its contract: its callee's equation, and the table.
+-- `proved::p11_next` meets its contract: `place` gives the definition's place, which the table computes: the block goes to the next page.
 use mathlib.Core.Path.{_∙_}
 use borrow.Author.Needs.{needs}
 use Rattle.proved.proofs.Table.{table}

@@ -1,4 +1,4 @@
--- `proved::p12_grid` meets its contract: its callee's equation, and what the writer decides.
+-- `proved::p12_grid` meets its contract: `save_empty` gives the length in the writer's outcome, which `grid-length` computes for a cell whose box splits.
 use mathlib.Core.Path.{refl, _∙_}
 use borrow.Author.Needs.{needs}
 use Rattle.proved.proofs.Saved.{grid-length}

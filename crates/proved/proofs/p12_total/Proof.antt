@@ -1,4 +1,4 @@
--- `proved::p12_total` meets its contract: its callees' equations, and what the writer decides.
+-- `proved::p12_total` meets its contract: `save_empty` gives the pages of the writer's outcome, `u32_le` the word in their header, which `vehicle-total` computes.
 use mathlib.Core.Path.{_∙_}
 use borrow.Author.Needs.{needs}
 use Rattle.proved.proofs.Saved.{vehicle-total}

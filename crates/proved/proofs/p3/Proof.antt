@@ -1,4 +1,4 @@
--- `proved::p3` meets its contract: its callee's equation, and the table.
+-- `proved::p3` meets its contract: `quantise_axis` gives the definition's short, which the table computes.
 use mathlib.Core.Path.{_∙_}
 use lib.Ieee.{ofBits, neg, div}
 use borrow.Author.Needs.{needs}

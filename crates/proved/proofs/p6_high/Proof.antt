@@ -1,4 +1,4 @@
--- `proved::p6_high` meets its contract: its callee's equation, and the table.
+-- `proved::p6_high` meets its contract: `quarter_ceil` gives the definition's max side, which the table computes.
 use mathlib.Core.Path.{_∙_}
 use lib.Ieee.{ofBits, neg, div}
 use borrow.Author.Needs.{needs}

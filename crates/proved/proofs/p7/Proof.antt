@@ -1,4 +1,4 @@
--- `proved::p7` meets its contract: its callee's equation, and the table.
+-- `proved::p7` meets its contract: `seed_areas` stores the definition's seeds, which the table computes.
 use borrow.Author.Needs.{needs}
 use Rattle.fields.specs.Bytes.{over}
 use Rattle.proved.proofs.Table.{table}

@@ -1,4 +1,4 @@
--- `proved::p8` meets its contract: its callee's equation, and the table.
+-- `proved::p8` meets its contract: `seed_areas` stores the definition's seeds, and the table computes how many they are.
 use borrow.Author.Needs.{needs}
 use Rattle.proved.proofs.Table.{table}
 use Rattle.proved.proofs.p8.Statement.{statement}

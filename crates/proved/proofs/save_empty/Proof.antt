@@ -1,4 +1,4 @@
--- `proved::save_empty` meets its contract: its callees' equations.
+-- `proved::save_empty` meets its contract: the words stored are the empty cell's strip, `serialize_ynv` gives the outcome on it and the pages, `length_of` the length that it says.
 use mathlib.Core.Path.{_∙_, ap}
 use borrow.Author.Needs.{needs}
 use Rattle.proved.specs.Table.{lengthIn}

@@ -1,4 +1,4 @@
--- `finite_box` meets its contract. One test after the other.
+-- `finite_box` meets its contract: `finite_at` tests one vector of the box; the first that fails makes the definition false, and behind two that pass it is the third.
 use Rattle.strip.proofs.Box.{failed, passed}
 use Rattle.read_grammar.specs.Derives.{headOf}
 use Rattle.strip.specs.Box.{finiteBox}

@@ -1,4 +1,4 @@
--- `header_of` meets its contract. A lookup.
+-- `header_of` meets its contract: `resolve` gives the bytes at the place and of the size that the definition names.
 use Rattle.read_decide.specs.Reading.{header}
 use borrow.Author.Needs.{needs}
 use Rattle.read_decide.proofs.header_of.Statement.{statement}

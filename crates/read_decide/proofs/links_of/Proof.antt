@@ -1,4 +1,4 @@
--- `links_of` meets its contract. A lookup.
+-- `links_of` meets its contract: `u64_le` and `u32_le` give the address and the count in the header, and `resolve` the bytes that they name.
 use mathlib.Core.Path.{_∙_}
 use Rattle.read_decide.specs.Deciding.{linkBytes}
 use borrow.Author.Needs.{needs}

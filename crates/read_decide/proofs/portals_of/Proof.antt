@@ -1,4 +1,4 @@
--- `portals_of` meets its contract. A lookup.
+-- `portals_of` meets its contract: `u64_le` and `portal_count` give the address and the count in the header, and `resolve` the bytes that they name.
 use mathlib.Core.Path.{_∙_}
 use Rattle.read_decide.specs.Reading.{portals}
 use borrow.Author.Needs.{needs}

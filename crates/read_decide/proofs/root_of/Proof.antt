@@ -1,4 +1,4 @@
--- `root_of` meets its contract. A lookup.
+-- `root_of` meets its contract: `u64_le` gives the address in the header, and `resolve` the bytes that it names.
 use mathlib.Core.Path.{_∙_}
 use Rattle.read_decide.specs.Reading.{root}
 use borrow.Author.Needs.{needs}

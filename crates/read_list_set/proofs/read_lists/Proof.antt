@@ -8,6 +8,9 @@ use Rattle.read_list_set.specs.Listed.{listsOf}
 use Rattle.read_list_set.proofs.read_lists.Statement.{statement}
 use Rattle.read_list_set.proofs.read_lists.Tie as tie
 
+cast-read-list : tie.Need-cast-read-list
+cast-read-list c = omega arith
+
 read-list-requires : tie.Need-read-list-requires
 read-list-requires c κs = search needs
 
@@ -16,6 +19,9 @@ enum-known-r c = search needs
 
 enum-known-vertices : tie.Need-enum-known-vertices
 enum-known-vertices c = search needs
+
+cast-read-list-2 : tie.Need-cast-read-list-2
+cast-read-list-2 c = omega arith
 
 read-list-requires-2 : tie.Need-read-list-requires-2
 read-list-requires-2 c κs = search needs
@@ -26,6 +32,9 @@ enum-known-r-2 c = search needs
 enum-known-indices : tie.Need-enum-known-indices
 enum-known-indices c = search needs
 
+cast-read-list-3 : tie.Need-cast-read-list-3
+cast-read-list-3 c = omega arith
+
 read-list-requires-3 : tie.Need-read-list-requires-3
 read-list-requires-3 c κs = search needs
 
@@ -34,6 +43,9 @@ enum-known-r-3 c = search needs
 
 enum-known-edges : tie.Need-enum-known-edges
 enum-known-edges c = search needs
+
+cast-read-list-4 : tie.Need-cast-read-list-4
+cast-read-list-4 c = omega arith
 
 read-list-requires-4 : tie.Need-read-list-requires-4
 read-list-requires-4 c κs = search needs
@@ -78,15 +90,19 @@ pub read-lists-spec : {M : Type 1} → statement M
 read-lists-spec =
     tie.close
     (tie.spec
+    cast-read-list
     read-list-requires
     enum-known-r
     enum-known-vertices
+    cast-read-list-2
     read-list-requires-2
     enum-known-r-2
     enum-known-indices
+    cast-read-list-3
     read-list-requires-3
     enum-known-r-3
     enum-known-edges
+    cast-read-list-4
     read-list-requires-4
     enum-known-r-4
     enum-known-polys

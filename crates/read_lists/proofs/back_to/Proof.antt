@@ -42,7 +42,7 @@ cursor-at-requires c κs =
     (omega (arith, some, c .before .before .before .before .before .loop .inv .inside), omega (arith, first, c .before .u32-le .ensures))
 
 loop-less : tie.Need-loop-less Inv-loop μ-loop
-loop-less c = omega (arith, back (c .before .before .before .before .before .before .loop .inv) (c .before .before .before .before .if1 .taken) .0, c .cursor-at .ensures .1)
+loop-less c = omega (arith, back (c .before .before .before .before .before .before .loop .inv) (c .before .before .before .before .if1 .taken) .0, c .cursor-at .ensures .1 .0)
 
 loop-again : tie.Need-loop-again Inv-loop μ-loop
 loop-again c = c .cursor-at .ensures .0

@@ -35,10 +35,10 @@ cursor-at-requires : tie.Need-cursor-at-requires Inv-loop μ-loop
 cursor-at-requires c κs = let (s, lo) = c .before .before .before .before .loop .inv in (omega (arith, forth s lo (omega (arith, c .before .before .if1 .taken)) (c .before .before .before .before .before .before .before .pre .1)), omega (arith, next s))
 
 loop-less : tie.Need-loop-less Inv-loop μ-loop
-loop-less c = let (s, lo) = c .before .before .before .before .before .loop .inv in omega (arith, forth s lo (omega (arith, c .before .before .before .if1 .taken)) (c .before .before .before .before .before .before .before .before .pre .1), c .cursor-at .ensures .1)
+loop-less c = let (s, lo) = c .before .before .before .before .before .loop .inv in omega (arith, forth s lo (omega (arith, c .before .before .before .if1 .taken)) (c .before .before .before .before .before .before .before .before .pre .1), c .cursor-at .ensures .1 .0)
 
 loop-again : tie.Need-loop-again Inv-loop μ-loop
-loop-again c = (c .cursor-at .ensures .0, omega (arith, c .cursor-at .ensures .2))
+loop-again c = (c .cursor-at .ensures .0, omega (arith, c .cursor-at .ensures .1 .1))
 
 returns : tie.Need-returns Inv-loop μ-loop
 returns c = let (s, lo) = c .before .before .loop .inv in record { stands = s; inside = inside-of s lo (c .before .before .before .before .before .pre .1); low = lo; high = omega arith }

@@ -48,16 +48,26 @@ put-sector-put-sector-points-requires : (t : ℕ) → put-sector-lts.Need-put-se
 put-sector-put-sector-points-requires t c κs = points-fit _ _ _ _ (c .before .resolve .ensures .0) (c .before .before .before .before .before .pre .1)
 
 put-sector-sub-put-subs : (t : ℕ) → put-sector-lts.Need-sub-put-subs (put-sector-calls t) (put-sector-at t) put-sector.Post
-put-sector-sub-put-subs t c = visits-left _ _ _ _ (c .before .before .before .before .resolve .ensures .0) (c .before .before .before .before .before .before .before .before .pre .1)
+put-sector-sub-put-subs t c =
+    let after-resolve = c .before .before .before .before in
+    let entry = after-resolve .before .before .before .before in
+    visits-left _ _ _ _ (after-resolve .resolve .ensures .0) (entry .pre .1)
 
 put-sector-put-subs-requires : (t : ℕ) → put-sector-lts.Need-put-subs-requires (put-sector-calls t) (put-sector-at t) put-sector.Post
 put-sector-put-subs-requires t c κs =
-    let m : 0 < c .before .before .before .before .before .before .before .before .before .args .left = visits-left _ _ _ _ (c .before .before .before .before .before .resolve .ensures .0) (c .before .before .before .before .before .before .before .before .before .pre .1) in
-    let fits = subs-fit _ _ _ _ (c .before .before .before .before .before .resolve .ensures .0) (c .before .before .before .before .before .before .before .before .before .pre .1) (c .before .before .before .put-sector-points .ensures .0) (c .before .before .before .put-sector-points .kept .1 .1 .1 .0) in
+    let after-put-sector-points = c .before .before .before in
+    let after-resolve = after-put-sector-points .before .before in
+    let entry = after-resolve .before .before .before .before in
+    let m : 0 < entry .args .left = visits-left _ _ _ _ (after-resolve .resolve .ensures .0) (entry .pre .1) in
+    let fits = subs-fit _ _ _ _ (after-resolve .resolve .ensures .0) (entry .pre .1) (after-put-sector-points .put-sector-points .ensures .0) (after-put-sector-points .put-sector-points .kept .1 .1 .1 .0) in
     (omega arith, fits)
 
 put-sector-returns : (t : ℕ) → put-sector-lts.Need-returns (put-sector-calls t) (put-sector-at t) put-sector.Post
-put-sector-returns t c = tree-written _ _ _ _ (c .before .before .before .before .before .before .before .before .resolve .ensures .0) (c .before .before .before .before .before .before .put-sector-points .ensures .0) (c .before .before .before .before .before .before .put-sector-points .ensures .1) (c .before .before .put-subs .ensures)
+put-sector-returns t c =
+    let after-put-subs = c .before .before in
+    let after-put-sector-points = after-put-subs .before .before .before .before in
+    let after-resolve = after-put-sector-points .before .before in
+    tree-written _ _ _ _ (after-resolve .resolve .ensures .0) (after-put-sector-points .put-sector-points .ensures .0) (after-put-sector-points .put-sector-points .ensures .1) (after-put-subs .put-subs .ensures)
 
 abbrev put-subs-Inv-loop : put-subs-lts.InvT-loop
 put-subs-Inv-loop system graphics sector left strip₀ at l₀ e₀ i₀ strip l e i = Rest system graphics sector left at strip₀ l e strip i
@@ -72,7 +82,13 @@ put-subs-put-sector-requires : (t : ℕ) → put-subs-lts.Need-put-sector-requir
 put-subs-put-sector-requires t c κs = (omega arith, rest-tree _ _ (c .before .before .before .before .loop .inv) (c .before .before .before .loop-test .taken) (c .before .before .sub-at .ensures) (c .before .if1 .taken))
 
 put-subs-loop-again : (t : ℕ) → put-subs-lts.Need-loop-again (put-subs-calls t) (put-subs-at t) put-subs.Post put-subs-Inv-loop put-subs-μ-loop
-put-subs-loop-again t c = rest-next _ _ (c .before .before .before .before .before .before .before .loop .inv) (c .before .before .before .before .before .before .loop-test .taken) (c .before .before .before .before .before .sub-at .ensures) (c .before .before .before .before .if1 .taken) (c .before .before .put-sector .ensures) (c .before .before .put-sector .kept .1 .1 .1 .1 .0)
+put-subs-loop-again t c =
+    let after-put-sector = c .before .before in
+    let after-if1 = after-put-sector .before .before in
+    let after-sub-at = after-if1 .before in
+    let tested = after-sub-at .before in
+    let at-loop = tested .before in
+    rest-next _ _ (at-loop .loop .inv) (tested .loop-test .taken) (after-sub-at .sub-at .ensures) (after-if1 .if1 .taken) (after-put-sector .put-sector .ensures) (after-put-sector .put-sector .kept .1 .1 .1 .1 .0)
 
 put-subs-loop-again-2 : (t : ℕ) → put-subs-lts.Need-loop-again-2 (put-subs-calls t) (put-subs-at t) put-subs.Post put-subs-Inv-loop put-subs-μ-loop
 put-subs-loop-again-2 t c = rest-skip _ _ (c .before .before .before .loop .inv) (c .before .before .loop-test .taken) (c .before .sub-at .ensures) (c .if1 .left)

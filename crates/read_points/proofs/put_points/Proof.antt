@@ -27,12 +27,15 @@ loop-holds c = (search needs, refl, put-begin pointWords 4 point-length _ _ _ _ 
 loop-again : tie.Need-loop-again Inv-loop μ-loop
 unfolding pointsWords
 loop-again c =
-    let k = c .before .before .before .before .before .before .loop in
-    let a = c .before .before .before .before .before .before .before .before .before .args in
+    let tested = c .before .before .before .before .before in
+    let at-loop = tested .before in
+    let entry = at-loop .before .before .before in
+    let k = at-loop .loop in
+    let a = entry .args in
     let f = pointOf asShorts in
     let e : 8 * k .i + 8 - 8 * k .i ≡ 8 = omega arith in
     let stored = c .before .before .put-point .ensures ∙ ap (λ (w : ℕ). put (a .at + 4 * k .i) (pointWords (f (take w (drop (8 * k .i) (a .points .now))))) (k .strip)) e in
-    (search needs, c .before .before .put-point .kept .1 .0 ∙ k .inv .1, rw stored (put-item pointWords 4 point-length f 8 (a .n) (a .points .now) (a .at) (k .i) (k .strip) (c .before .before .before .before .before .loop-test .taken)) ∙ k .inv .2)
+    (search needs, c .before .before .put-point .kept .1 .0 ∙ k .inv .1, rw stored (put-item pointWords 4 point-length f 8 (a .n) (a .points .now) (a .at) (k .i) (k .strip) (tested .loop-test .taken)) ∙ k .inv .2)
 
 same-length : tie.Need-same-length Inv-loop μ-loop
 same-length c = c .before .loop .inv .1

@@ -16,9 +16,10 @@ put-points-requires : tie.Need-put-points-requires
 put-points-requires c κs =
     let at-count = c .before .before .before .before in
     let at-data = at-count .before in
-    let entry = at-data .before .before .before .before .before .before .before in
+    let at-address = at-data .before .before in
+    let entry = at-address .before .before .before .before .before in
     let (long, e, n) =
-    points-there _ _ _ (at-data .before .before .u64-le .ensures) (entry .pre .0) (at-data .resolve .ensures .0) (at-count .u16-le .ensures) (λ z. at-data .before .if1 .left (omega arith)) (λ z. c .before .before .before .if2 .left (omega arith)) (c .before .before .u64-le2 .ensures)
+    points-there _ _ _ (at-address .u64-le .ensures) (entry .pre .0) (at-data .resolve .ensures .0) (at-count .u16-le .ensures) (λ z. at-data .before .if1 .left (omega arith)) (λ z. c .before .before .before .if2 .left (omega arith)) (c .before .before .u64-le2 .ensures)
     (omega arith) (c .before .resolve2 .ensures .0) in
     (omega (arith, long), omega (arith, entry .pre .1))
 
@@ -27,9 +28,10 @@ returns-3 c =
     let at-points = c .before .before .before .before in
     let at-count = at-points .before .before .before in
     let at-data = at-count .before in
-    let entry = at-data .before .before .before .before .before .before .before in
+    let at-address = at-data .before .before in
+    let entry = at-address .before .before .before .before .before in
     let (long, e, n) =
-    points-there _ _ _ (at-data .before .before .u64-le .ensures) (entry .pre .0) (at-data .resolve .ensures .0) (at-count .u16-le .ensures) (λ z. at-data .before .if1 .left (omega arith)) (λ z. at-points .before .before .if2 .left (omega arith)) (at-points .before .u64-le2 .ensures)
+    points-there _ _ _ (at-address .u64-le .ensures) (entry .pre .0) (at-data .resolve .ensures .0) (at-count .u16-le .ensures) (λ z. at-data .before .if1 .left (omega arith)) (λ z. at-points .before .before .if2 .left (omega arith)) (at-points .before .u64-le2 .ensures)
     (omega arith) (at-points .resolve2 .ensures .0) in
     (omega arith, rw e (c .before .before .put-points .ensures))
 

@@ -22,7 +22,8 @@ turn-points-requires c κs =
 returns : tie.Need-returns
 returns c =
     let at-turn-points = c .before .before in
-    let at-put-sector = at-turn-points .before .before .before .before .before .before in
+    let at-strip = at-turn-points .before .before .before .before .before in
+    let at-put-sector = at-strip .before in
     let at-shared-slice-known2 = at-put-sector .before .before .before in
     let at-shared-slice-known = at-shared-slice-known2 .before in
     let start = at-shared-slice-known .before in

@@ -20,8 +20,10 @@ loop-holds c = (search needs, refl, turned-start _ _ _ 0 _ _ refl)
 
 loop-again : tie.Need-loop-again Inv-loop μ-loop
 loop-again c =
-    let k = c .before .before .before .before .before .loop in
-    let a = c .before .before .before .before .before .before .before .args in
+    let at-loop = c .before .before .before .before .before in
+    let entry = at-loop .before .before in
+    let k = at-loop .loop in
+    let a = entry .args in
     let t = c .before .before .turn-point in
     (search needs, t .kept .0 ∙ k .inv .1, turned-more _ _ (a .n) (k .i) (a .at) _ (c .before .before .before .before .loop-test .taken) (t .ensures) ∙ k .inv .2)
 

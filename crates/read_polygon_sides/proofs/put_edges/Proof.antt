@@ -36,8 +36,8 @@ add-seek c = search needs
 seek-requires : tie.Need-seek-requires Inv-loop μ-loop
 seek-requires c κs =
     let at-loop = c .before in
-    let midway = at-loop .before .before .before .before .before in
-    let start = midway .before in
+    let after-out-known = at-loop .before in
+    let start = after-out-known .before .before .before .before .before in
     (at-loop .loop .inv .1, omega (arith, start .pre .2, c .loop-test .taken), start .pre .0 .few)
 
 add-list-run : tie.Need-add-list-run Inv-loop μ-loop
@@ -45,8 +45,8 @@ add-list-run c = search needs
 
 list-run-requires : tie.Need-list-run-requires Inv-loop μ-loop
 list-run-requires c κs =
-    let midway = c .before .before .before .before .before in
-    let entry = midway .before .before .before in
+    let after-out-known = c .before .before .before in
+    let entry = after-out-known .before .before .before .before .before in
     (entry .pre .0, c .seek .ensures, omega arith)
 
 sub-least : tie.Need-sub-least Inv-loop μ-loop
@@ -58,24 +58,24 @@ least-requires c κs = search needs
 mul-put-edge-run : tie.Need-mul-put-edge-run Inv-loop μ-loop
 mul-put-edge-run c =
     let tested = c .before .before .before .before in
-    let midway = tested .before .before .before .before .before in
-    let start = midway .before .before in
+    let after-out-known = tested .before .before in
+    let start = after-out-known .before .before .before .before .before in
     omega (arith, tested .loop-test .taken, start .pre .3, start .good)
 
 add-put-edge-run : tie.Need-add-put-edge-run Inv-loop μ-loop
 add-put-edge-run c =
     let tested = c .before .before .before .before in
-    let midway = tested .before .before .before .before .before in
-    let start = midway .before .before in
+    let after-out-known = tested .before .before in
+    let start = after-out-known .before .before .before .before .before in
     omega (arith, tested .loop-test .taken, start .pre .3, start .good)
 
 put-edge-run-requires : tie.Need-put-edge-run-requires Inv-loop μ-loop
 put-edge-run-requires c κs =
     let at-loop = c .before .before .before .before .before in
-    let midway = at-loop .before .before .before .before .before in
-    let start = midway .before in
+    let after-out-known = at-loop .before in
+    let start = after-out-known .before .before .before .before .before in
     let turn = at-loop .loop in
-    let t = taken _ _ 8 _ (omega arith) (start .pre .0) (start .args .start) (start .args .count) (turn .k) (c .before .before .before .seek .ensures) (c .before .before .list-run .ensures .0) (c .before .least .ensures) (start .pre .2) (c .before .before .before .before .loop-test .taken) in (t .whole, omega (arith, t .fits, turn .inv .2, start .pre .3))
+    let t = taken _ _ 8 _ (omega arith) (start .pre .0) (start .args .start) (start .args .count) (turn .k) (c .before .before .before .seek .ensures) (c .before .before .list-run .ensures .0) (c .before .least .ensures) (start .pre .2) (c .before .before .before .before .loop-test .taken) in (t .long, omega (arith, t .fits, turn .inv .2, start .pre .3))
 
 add-k : tie.Need-add-k Inv-loop μ-loop
 add-k c =
@@ -83,8 +83,8 @@ add-k c =
     let after-seek = after-list-run .before in
     let tested = after-seek .before in
     let at-loop = tested .before in
-    let midway = at-loop .before .before .before .before .before in
-    let start = midway .before in
+    let after-out-known = at-loop .before in
+    let start = after-out-known .before .before .before .before .before in
     let t = taken _ _ 8 _ (omega arith) (start .pre .0) (start .args .start) (start .args .count) (at-loop .loop .k) (after-seek .seek .ensures) (after-list-run .list-run .ensures .0) (c .before .before .before .before .least .ensures) (start .pre .2) (tested .loop-test .taken) in omega (arith, t .fits)
 
 loop-less : tie.Need-loop-less Inv-loop μ-loop
@@ -93,8 +93,8 @@ loop-less c =
     let after-seek = after-list-run .before in
     let tested = after-seek .before in
     let at-loop = tested .before in
-    let midway = at-loop .before .before .before .before .before in
-    let start = midway .before in
+    let after-out-known = at-loop .before in
+    let start = after-out-known .before .before .before .before .before in
     let t = taken _ _ 8 _ (omega arith) (start .pre .0) (start .args .start) (start .args .count) (at-loop .loop .k) (after-seek .seek .ensures) (after-list-run .list-run .ensures .0) (c .before .before .before .before .least .ensures) (start .pre .2) (tested .loop-test .taken) in omega (arith, t .some, t .fits)
 
 loop-again : tie.Need-loop-again Inv-loop μ-loop
@@ -103,8 +103,8 @@ loop-again c =
     let after-seek = after-list-run .before in
     let tested = after-seek .before in
     let at-loop = tested .before in
-    let midway = at-loop .before .before .before .before .before in
-    let start = midway .before in
+    let after-out-known = at-loop .before in
+    let start = after-out-known .before .before .before .before .before in
     let turn = at-loop .loop in
     let seek = after-seek .seek in
     let list-run = after-list-run .list-run in
@@ -118,8 +118,8 @@ same-length c = c .before .loop .inv .2
 returns : tie.Need-returns Inv-loop μ-loop
 returns c =
     let at-loop = c .before in
-    let midway = at-loop .before .before .before .before .before in
-    let start = midway .before in
+    let after-out-known = at-loop .before in
+    let start = after-out-known .before .before .before .before .before in
     let turn = at-loop .loop in
     (turn .inv .1, sym (put-none edgeWords 6 _ _ (turn .k) (left-end (itemsIn (start .args .system .now) (start .args .graphics .now) 8 (start .args .table .now)) (start .args .start) (start .args .count) (turn .k) (c .loop-test .left)) _) ∙ turn .inv .3)
 

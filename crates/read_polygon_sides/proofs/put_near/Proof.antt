@@ -40,32 +40,32 @@ returns-2 c =
 
 mul-low : tie.Need-mul-low Inv-loop μ-loop
 mul-low c =
-    let midway = c .before .before .before .before .before in
-    let entry = midway .before .before .before in
+    let at-loop = c .before .before .before .before in
+    let entry = at-loop .before .before .before .before in
     omega (arith, c .if2 .left, entry .pre .0)
 
 add-high : tie.Need-add-high Inv-loop μ-loop
 add-high c =
-    let midway = c .before .before .before .before .before in
-    let entry = midway .before .before .before in
+    let at-loop = c .before .before .before .before in
+    let entry = at-loop .before .before .before .before in
     omega (arith, c .if2 .left, entry .pre .0)
 
 sub-put-vertex : tie.Need-sub-put-vertex Inv-loop μ-loop
 sub-put-vertex c =
-    let midway = c .before .before .before .before .before in
-    let entry = midway .before .before .before in
+    let at-loop = c .before .before .before .before in
+    let entry = at-loop .before .before .before .before in
     omega (arith, c .if2 .left, entry .pre .0)
 
 part-put-vertex-start : tie.Need-part-put-vertex-start Inv-loop μ-loop
 part-put-vertex-start c =
-    let midway = c .before .before .before .before .before in
-    let entry = midway .before .before .before in
+    let at-loop = c .before .before .before .before in
+    let entry = at-loop .before .before .before .before in
     omega (arith, c .if2 .left, entry .pre .0)
 
 part-put-vertex-end : tie.Need-part-put-vertex-end Inv-loop μ-loop
 part-put-vertex-end c =
-    let midway = c .before .before .before .before .before in
-    let entry = midway .before .before .before in
+    let at-loop = c .before .before .before .before in
+    let entry = at-loop .before .before .before .before in
     omega (arith, c .if2 .left, entry .pre .0)
 
 mul-put-vertex : tie.Need-mul-put-vertex Inv-loop μ-loop
@@ -89,15 +89,15 @@ put-vertex-requires c κs =
 
 add-k : tie.Need-add-k Inv-loop μ-loop
 add-k c =
-    let midway = c .before .before .before .before .before in
-    let tested = midway .before .before .before in
+    let after-if2 = c .before .before .before .before .before in
+    let tested = after-if2 .before .before .before in
     let entry = tested .before .before .before .before .before in
     omega (arith, tested .loop-test .taken, entry .pre .2)
 
 loop-less : tie.Need-loop-less Inv-loop μ-loop
 loop-less c =
-    let midway = c .before .before .before .before .before in
-    let tested = midway .before .before .before in
+    let after-if2 = c .before .before .before .before .before in
+    let tested = after-if2 .before .before .before in
     omega (arith, tested .loop-test .taken)
 
 loop-again : tie.Need-loop-again Inv-loop μ-loop

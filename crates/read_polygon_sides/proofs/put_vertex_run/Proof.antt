@@ -29,28 +29,28 @@ loop-holds c = (search needs, c .before .before .before .before .before .pre .0 
 
 index-at-requires : tie.Need-index-at-requires Inv-loop μ-loop
 index-at-requires c κs =
-    let midway = c .before .before .before .before .before in
-    let entry = midway .before .before in
+    let after-out-known = c .before .before in
+    let entry = after-out-known .before .before .before .before .before in
     omega (arith, c .loop-test .taken, entry .pre .0 .2)
 
 seek-requires : tie.Need-seek-requires Inv-loop μ-loop
 seek-requires c κs =
     let at-loop = c .before .before in
-    let midway = at-loop .before .before .before .before .before in
-    let entry = midway .before in
+    let after-out-known = at-loop .before in
+    let entry = after-out-known .before .before .before .before .before in
     (at-loop .loop .inv .1, index-below _ _ _ (at-loop .loop .k) (c .before .loop-test .taken) (c .index-at .ensures) (entry .pre .1), entry .pre .0 .0 .few)
 
 list-run-requires : tie.Need-list-run-requires Inv-loop μ-loop
 list-run-requires c κs =
-    let midway = c .before .before .before .before .before in
-    let entry = midway .before .before .before .before in
+    let after-out-known = c .before .before .before .before in
+    let entry = after-out-known .before .before .before .before .before in
     (entry .pre .0 .0, holds-first (c .seek .ensures), omega arith)
 
 put-near-requires : tie.Need-put-near-requires Inv-loop μ-loop
 put-near-requires c κs =
     let at-loop = c .before .before .before .before .before in
-    let midway = at-loop .before .before .before .before .before in
-    let entry = midway .before in
+    let after-out-known = at-loop .before in
+    let entry = after-out-known .before .before .before .before .before in
     let held = c .before .before .seek .ensures in
     let long = part-length held _ _ 6 (entry .pre .0 .0) (c .before .list-run .ensures .0) in
     let read = c .before .before .before .index-at .ensures in
@@ -63,8 +63,8 @@ loop-again : tie.Need-loop-again Inv-loop μ-loop
 loop-again c =
     let after-seek = c .before .before .before .before .before in
     let at-loop = after-seek .before .before .before in
-    let midway = at-loop .before .before .before .before .before in
-    let entry = midway .before in
+    let after-out-known = at-loop .before in
+    let entry = after-out-known .before .before .before .before .before in
     let near = c .before .before .put-near .ensures .1 in
     let held = after-seek .seek .ensures in
     (near .most, held .stands, near .same-length ∙ at-loop .loop .inv .2, near .strip _ (held-part held _ _ 6 (entry .pre .0 .0) (c .before .before .before .before .list-run .ensures .0)) ∙ at-loop .loop .inv .3)

@@ -31,34 +31,34 @@ abbrev μ-loop : tie.MeasureT-loop
 
 loop-holds : tie.Need-loop-holds Inv-loop μ-loop
 loop-holds c =
-    let midway = c .before .before .before .before .before in
-    let start = midway .before .before in
+    let after-out-known = c .before .before in
+    let start = after-out-known .before .before .before .before .before in
     (search needs, start .pre .0 .2, start .pre .0 .3, refl, ap (allBelow (total (start .args .vertices .now))) (left-begin (itemsIn (start .args .system .now) (start .args .graphics .now) 2 (start .args .indices .now)) (start .args .start) (start .args .count)) ∙ start .pre .1 .2, put-first vecWords 3 _ _ (left-begin (itemsIn (start .args .system .now) (start .args .graphics .now) 2 (start .args .indices .now)) (start .args .start) (start .args .count)) _)
 
 add-seek : tie.Need-add-seek Inv-loop μ-loop
 add-seek c =
-    let midway = c .before .before .before .before .before in
-    let start = midway .before .before .before .before in
+    let after-out-known = c .before .before .before .before in
+    let start = after-out-known .before .before .before .before .before in
     omega (arith, start .pre .1 .0, c .loop-test .taken, start .pre .0 .1 .few)
 
 seek-requires : tie.Need-seek-requires Inv-loop μ-loop
 seek-requires c κs =
     let at-loop = c .before in
-    let midway = at-loop .before .before .before .before .before in
-    let start = midway .before .before .before in
+    let after-out-known = at-loop .before .before .before in
+    let start = after-out-known .before .before .before .before .before in
     (at-loop .loop .inv .2, omega (arith, start .pre .1 .0, c .loop-test .taken), start .pre .0 .1 .few)
 
 add-list-run : tie.Need-add-list-run Inv-loop μ-loop
 add-list-run c =
     let tested = c .before in
-    let midway = tested .before .before .before .before .before in
-    let start = midway .before .before .before .before in
+    let after-out-known = tested .before .before .before .before in
+    let start = after-out-known .before .before .before .before .before in
     omega (arith, start .pre .1 .0, tested .loop-test .taken, start .pre .0 .1 .few)
 
 list-run-requires : tie.Need-list-run-requires Inv-loop μ-loop
 list-run-requires c κs =
-    let midway = c .before .before .before .before .before in
-    let entry = midway .before .before .before .before .before in
+    let after-out-known = c .before .before .before .before .before in
+    let entry = after-out-known .before .before .before .before .before in
     (entry .pre .0 .1, c .seek .ensures, omega arith)
 
 sub-least : tie.Need-sub-least Inv-loop μ-loop
@@ -70,26 +70,26 @@ least-requires c κs = search needs
 mul-put-vertex-run : tie.Need-mul-put-vertex-run Inv-loop μ-loop
 mul-put-vertex-run c =
     let tested = c .before .before .before .before in
-    let midway = tested .before .before .before .before .before in
-    let start = midway .before .before .before .before in
+    let after-out-known = tested .before .before .before .before in
+    let start = after-out-known .before .before .before .before .before in
     omega (arith, tested .loop-test .taken, start .pre .1 .1, start .good)
 
 add-put-vertex-run : tie.Need-add-put-vertex-run Inv-loop μ-loop
 add-put-vertex-run c =
     let tested = c .before .before .before .before in
-    let midway = tested .before .before .before .before .before in
-    let start = midway .before .before .before .before in
+    let after-out-known = tested .before .before .before .before in
+    let start = after-out-known .before .before .before .before .before in
     omega (arith, tested .loop-test .taken, start .pre .1 .1, start .good)
 
 put-vertex-run-requires : tie.Need-put-vertex-run-requires Inv-loop μ-loop
 put-vertex-run-requires c κs =
     let at-loop = c .before .before .before .before .before in
-    let midway = at-loop .before .before .before .before .before in
-    let start = midway .before .before .before in
+    let after-out-known = at-loop .before .before .before in
+    let start = after-out-known .before .before .before .before .before in
     let turn = at-loop .loop in
     let list-run = c .before .before .list-run in
     let least = c .before .least in
-    let t = taken _ _ 2 _ (omega arith) (start .pre .0 .1) (start .args .start) (start .args .count) (turn .k) (c .before .before .before .seek .ensures) (list-run .ensures .0) (least .ensures) (start .pre .1 .0) (c .before .before .before .before .loop-test .taken) in ((start .pre .0 .0, turn .inv .1, t .whole, omega (arith, t .fits, turn .inv .3, start .pre .1 .1)), both-below _ (cut 2 (least .result) (list-run .result .now)) (left (itemsIn (start .args .system .now) (start .args .graphics .now) 2 (start .args .indices .now)) (start .args .start) (start .args .count) (turn .k + least .result)) (t .step) (turn .inv .4) .0)
+    let t = taken _ _ 2 _ (omega arith) (start .pre .0 .1) (start .args .start) (start .args .count) (turn .k) (c .before .before .before .seek .ensures) (list-run .ensures .0) (least .ensures) (start .pre .1 .0) (c .before .before .before .before .loop-test .taken) in ((start .pre .0 .0, turn .inv .1, t .long, omega (arith, t .fits, turn .inv .3, start .pre .1 .1)), both-below _ (cut 2 (least .result) (list-run .result .now)) (left (itemsIn (start .args .system .now) (start .args .graphics .now) 2 (start .args .indices .now)) (start .args .start) (start .args .count) (turn .k + least .result)) (t .step) (turn .inv .4) .0)
 
 add-k : tie.Need-add-k Inv-loop μ-loop
 add-k c =
@@ -97,8 +97,8 @@ add-k c =
     let after-seek = after-list-run .before in
     let tested = after-seek .before in
     let at-loop = tested .before in
-    let midway = at-loop .before .before .before .before .before in
-    let start = midway .before .before .before in
+    let after-out-known = at-loop .before .before .before in
+    let start = after-out-known .before .before .before .before .before in
     let t = taken _ _ 2 _ (omega arith) (start .pre .0 .1) (start .args .start) (start .args .count) (at-loop .loop .k) (after-seek .seek .ensures) (after-list-run .list-run .ensures .0) (c .before .before .before .before .least .ensures) (start .pre .1 .0) (tested .loop-test .taken) in omega (arith, t .fits, start .pre .1 .0, start .pre .0 .1 .few)
 
 loop-less : tie.Need-loop-less Inv-loop μ-loop
@@ -107,8 +107,8 @@ loop-less c =
     let after-seek = after-list-run .before in
     let tested = after-seek .before in
     let at-loop = tested .before in
-    let midway = at-loop .before .before .before .before .before in
-    let start = midway .before .before .before in
+    let after-out-known = at-loop .before .before .before in
+    let start = after-out-known .before .before .before .before .before in
     let t = taken _ _ 2 _ (omega arith) (start .pre .0 .1) (start .args .start) (start .args .count) (at-loop .loop .k) (after-seek .seek .ensures) (after-list-run .list-run .ensures .0) (c .before .before .before .before .least .ensures) (start .pre .1 .0) (tested .loop-test .taken) in omega (arith, t .some, t .fits)
 
 loop-again : tie.Need-loop-again Inv-loop μ-loop
@@ -117,8 +117,8 @@ loop-again c =
     let after-seek = after-list-run .before in
     let tested = after-seek .before in
     let at-loop = tested .before in
-    let midway = at-loop .before .before .before .before .before in
-    let start = midway .before .before .before in
+    let after-out-known = at-loop .before .before .before in
+    let start = after-out-known .before .before .before .before .before in
     let turn = at-loop .loop in
     let seek = after-seek .seek in
     let list-run = after-list-run .list-run in
@@ -132,10 +132,10 @@ same-length c = c .before .loop .inv .3
 returns : tie.Need-returns Inv-loop μ-loop
 returns c =
     let at-loop = c .before in
-    let midway = at-loop .before .before .before .before .before in
-    let start = midway .before .before .before in
+    let after-out-known = at-loop .before .before .before in
+    let start = after-out-known .before .before .before .before .before in
     let turn = at-loop .loop in
-    (turn .inv .1, turn .inv .2, sym (put-none vecWords 3 _ _ (turn .k) (left-end (itemsIn (start .args .system .now) (start .args .graphics .now) 2 (start .args .indices .now)) (start .args .start) (start .args .count) (turn .k) (c .loop-test .left)) _) ∙ turn .inv .5)
+    (turn .inv .1, (turn .inv .2, sym (put-none vecWords 3 _ _ (turn .k) (left-end (itemsIn (start .args .system .now) (start .args .graphics .now) 2 (start .args .indices .now)) (start .args .start) (start .args .count) (turn .k) (c .loop-test .left)) _) ∙ turn .inv .5))
 
 pub put-vertices-spec : {M : Type 1} → statement M
 put-vertices-spec =

@@ -30,31 +30,31 @@ loop-holds c =
 walk-to-requires : tie.Need-walk-to-requires Inv-loop μ-loop
 walk-to-requires c κs =
     let at-loop = c .before in
-    let midway = at-loop .before .before .before .before .before in
-    let entry = midway .before .before in
+    let after-list-start = at-loop .before .before in
+    let entry = after-list-start .before .before .before .before .before in
     (at-loop .loop .inv .1, omega (arith, entry .pre .3, c .loop-test .taken), entry .pre .1 .few)
 
 list-run-requires : tie.Need-list-run-requires Inv-loop μ-loop
 list-run-requires c κs =
-    let midway = c .before .before .before .before .before in
-    let entry = midway .before .before .before .before in
+    let after-list-start = c .before .before .before .before in
+    let entry = after-list-start .before .before .before .before .before in
     (entry .pre .1, c .walk-to .ensures, omega arith)
 
 check-run-requires : tie.Need-check-run-requires Inv-loop μ-loop
 check-run-requires c κs =
     let at-loop = c .before .before .before in
-    let midway = at-loop .before .before .before .before .before in
-    let entry = midway .before .before in
+    let after-list-start = at-loop .before .before in
+    let entry = after-list-start .before .before .before .before .before in
     let start = entry .args in
     let part = part-next (start .system .now) (start .graphics .now) 48 (start .polys .now) (omega arith) (entry .pre .1) (c .before .walk-to .ensures) (c .list-run .ensures .0) in
-    (entry .pre .0, at-loop .loop .inv .2, entry .pre .2, part .whole, omega (arith, part .fits, length-items (start .system .now) (start .graphics .now) 48 (start .polys .now), entry .pre .1 .few))
+    (entry .pre .0, at-loop .loop .inv .2, entry .pre .2, part .long, omega (arith, part .fits, length-items (start .system .now) (start .graphics .now) 48 (start .polys .now), entry .pre .1 .few))
 
 returns : tie.Need-returns Inv-loop μ-loop
 returns c =
     let after-walk-to = c .before .before .before .before .before in
     let at-loop = after-walk-to .before .before in
-    let midway = at-loop .before .before .before .before .before in
-    let entry = midway .before .before in
+    let after-list-start = at-loop .before .before in
+    let entry = after-list-start .before .before .before .before .before in
     let start = entry .args in
     let turn = at-loop .loop in
     let part = part-next (start .system .now) (start .graphics .now) 48 (start .polys .now) (omega arith) (entry .pre .1) (after-walk-to .walk-to .ensures) (c .before .before .before .before .list-run .ensures .0) in
@@ -64,8 +64,8 @@ add-words : tie.Need-add-words Inv-loop μ-loop
 add-words c =
     let after-walk-to = c .before .before .before .before .before in
     let at-loop = after-walk-to .before .before in
-    let midway = at-loop .before .before .before .before .before in
-    let entry = midway .before .before in
+    let after-list-start = at-loop .before .before in
+    let entry = after-list-start .before .before .before .before .before in
     let start = entry .args in
     let turn = at-loop .loop in
     let part = part-next (start .system .now) (start .graphics .now) 48 (start .polys .now) (omega arith) (entry .pre .1) (after-walk-to .walk-to .ensures) (c .before .before .before .before .list-run .ensures .0) in
@@ -75,8 +75,8 @@ add-words c =
 add-i : tie.Need-add-i Inv-loop μ-loop
 add-i c =
     let after-walk-to = c .before .before .before .before .before in
-    let midway = after-walk-to .before .before .before .before .before in
-    let entry = midway .before .before .before .before in
+    let after-list-start = after-walk-to .before .before .before .before in
+    let entry = after-list-start .before .before .before .before .before in
     let start = entry .args in
     let part = part-next (start .system .now) (start .graphics .now) 48 (start .polys .now) (omega arith) (entry .pre .1) (after-walk-to .walk-to .ensures) (c .before .before .before .before .list-run .ensures .0) in
     omega (arith, part .fits, length-items (start .system .now) (start .graphics .now) 48 (start .polys .now), entry .pre .1 .few)
@@ -85,8 +85,8 @@ loop-less : tie.Need-loop-less Inv-loop μ-loop
 loop-less c =
     let after-walk-to = c .before .before .before .before .before in
     let tested = after-walk-to .before in
-    let midway = tested .before .before .before .before .before in
-    let entry = midway .before .before .before in
+    let after-list-start = tested .before .before .before in
+    let entry = after-list-start .before .before .before .before .before in
     let start = entry .args in
     let part = part-next (start .system .now) (start .graphics .now) 48 (start .polys .now) (omega arith) (entry .pre .1) (after-walk-to .walk-to .ensures) (c .before .before .before .before .list-run .ensures .0) in
     omega (arith, part .some, tested .loop-test .taken)
@@ -95,8 +95,8 @@ loop-again : tie.Need-loop-again Inv-loop μ-loop
 loop-again c =
     let after-walk-to = c .before .before .before .before .before in
     let at-loop = after-walk-to .before .before in
-    let midway = at-loop .before .before .before .before .before in
-    let entry = midway .before .before in
+    let after-list-start = at-loop .before .before in
+    let entry = after-list-start .before .before .before .before .before in
     let start = entry .args in
     let turn = at-loop .loop in
     let part = part-next (start .system .now) (start .graphics .now) 48 (start .polys .now) (omega arith) (entry .pre .1) (after-walk-to .walk-to .ensures) (c .before .before .before .before .list-run .ensures .0) in
@@ -106,8 +106,8 @@ loop-again c =
 returns-2 : tie.Need-returns-2 Inv-loop μ-loop
 returns-2 c =
     let at-loop = c .before in
-    let midway = at-loop .before .before .before .before .before in
-    let entry = midway .before .before in
+    let after-list-start = at-loop .before .before in
+    let entry = after-list-start .before .before .before .before .before in
     let start = entry .args in
     let turn = at-loop .loop in
     (tally-end (start .limits) (itemsIn (start .system .now) (start .graphics .now) 2 (start .table .now)) (turn .i) (turn .words) (none-left (start .system .now) (start .graphics .now) 48 (start .polys .now) (turn .i) (omega (arith, entry .pre .3, c .loop-test .left))) ∙ turn .inv .4, omega (arith, turn .inv .3, turn .inv .0, c .loop-test .left))

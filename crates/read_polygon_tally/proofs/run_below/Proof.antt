@@ -38,8 +38,8 @@ add-list-run c = search needs
 
 list-run-requires : tie.Need-list-run-requires Inv-loop μ-loop
 list-run-requires c κs =
-    let midway = c .before .before .before .before .before in
-    let entry = midway .before in
+    let at-loop = c .before .before in
+    let entry = at-loop .before .before .before .before in
     (entry .pre .0, c .seek .ensures, omega arith)
 
 sub-least : tie.Need-sub-least Inv-loop μ-loop
@@ -52,7 +52,7 @@ all-below-requires : tie.Need-all-below-requires Inv-loop μ-loop
 all-below-requires c κs =
     let at-loop = c .before .before .before .before in
     let start = at-loop .before .before .before .before in
-    let t = taken _ _ 2 _ (omega arith) (start .pre .0) (start .args .start) (start .args .count) (at-loop .loop .k) (c .before .before .seek .ensures) (c .before .list-run .ensures .0) (c .least .ensures) (start .pre .2) (c .before .before .before .loop-test .taken) in t .whole
+    let t = taken _ _ 2 _ (omega arith) (start .pre .0) (start .args .start) (start .args .count) (at-loop .loop .k) (c .before .before .seek .ensures) (c .before .list-run .ensures .0) (c .least .ensures) (start .pre .2) (c .before .before .before .loop-test .taken) in t .long
 
 returns : tie.Need-returns Inv-loop μ-loop
 returns c =

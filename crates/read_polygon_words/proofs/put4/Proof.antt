@@ -1,6 +1,6 @@
--- `read_polygon_words::put4` meets its contract: three words by `put3` and a fourth behind them are four (`put-four`).
+-- `read_polygon_words::put4` meets its contract: three words by `put3` and a fourth behind them are four (`fourth-behind`).
 use borrow.Author.Needs.{needs}
-use Rattle.read_polygon_words.proofs.Words.{put-four}
+use Rattle.read_polygon_words.proofs.Words.{fourth-behind}
 use Rattle.read_polygon_words.proofs.put4.Statement.{statement}
 use Rattle.read_polygon_words.proofs.put4.Tie as tie
 
@@ -20,7 +20,7 @@ same-length : tie.Need-same-length
 same-length c = search needs
 
 returns : tie.Need-returns
-returns c = rw (c .before .before .put3 .ensures) (put-four _ _ _ _ _ _)
+returns c = rw (c .before .before .put3 .ensures) (fourth-behind _ _ _ _ _ _)
 
 pub put4-spec : {M : Type 1} → statement M
 put4-spec = tie.close (tie.spec put3-requires add-out mul-out slice-write-out same-length returns)

@@ -44,13 +44,24 @@ add-put-links : tie.Need-add-put-links
 add-put-links c = search needs
 
 put-links-requires : tie.Need-put-links-requires
-put-links-requires c κs = (c .before .before .before .before .before .before .before .before .before .before .before .pre .0, omega (arith, ap length (c .before .before .before .put4 .ensures), c .before .before .before .before .before .before .before .before .before .before .before .pre .3))
+put-links-requires c κs =
+    let after-u32-le = c .before .before .before .before .before in
+    let after-u16-le = after-u32-le .before in
+    let entry = after-u16-le .before .before .before .before .before in
+    (entry .pre .0, omega (arith, ap length (c .before .before .before .put4 .ensures), entry .pre .3))
 
 same-length : tie.Need-same-length
 same-length c = search needs
 
 returns : tie.Need-returns
-returns c = c .before .before .put-links .ensures ∙ rw (c .before .before .before .before .before .before .put4 .ensures, c .before .before .before .before .before .before .before .before .before .u16-le .ensures, c .before .before .before .before .before .before .before .before .u32-le .ensures, c .before .before .before .before .before .before .before .u32-le2 .ensures) (front-put _ _ (c .before .before .before .before .before .before .before .before .before .before .before .before .before .before .pre .0) (c .before .before .before .before .before .before .before .before .before .before .before .before .before .before .pre .1) (c .before .before .before .before .before .before .before .before .before .before .before .before .before .before .pre .2) _ _)
+returns c =
+    let after-out = c .before .before .before .before .before in
+    let after-put4 = after-out .before in
+    let after-u32-le2 = after-put4 .before in
+    let after-u32-le = after-u32-le2 .before in
+    let after-u16-le = after-u32-le .before in
+    let entry = after-u16-le .before .before .before .before .before in
+    c .before .before .put-links .ensures ∙ rw (after-put4 .put4 .ensures, after-u16-le .u16-le .ensures, after-u32-le .u32-le .ensures, after-u32-le2 .u32-le2 .ensures) (front-put _ _ (entry .pre .0) (entry .pre .1) (entry .pre .2) _ _)
 
 pub put-front-spec : {M : Type 1} → statement M
 put-front-spec =

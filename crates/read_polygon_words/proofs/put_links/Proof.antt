@@ -55,13 +55,19 @@ loop-less : tie.Need-loop-less Inv-loop μ-loop
 loop-less c = search needs
 
 loop-again : tie.Need-loop-again Inv-loop μ-loop
-loop-again c = (search needs, length-set (c .before .before .loop .out) _ _ ∙ c .before .before .loop .inv .1, link-step _ _ (c .before .before .loop .k) _ _ (c .before .before .before .u32-le .ensures) (c .u16-le .ensures) (rw (← c .before .before .before .before .before .before .before .pre .0) (c .before .loop-test .taken)) ∙ c .before .before .loop .inv .2)
+loop-again c =
+    let at-loop = c .before .before in
+    let entry = at-loop .before .before .before .before .before in
+    (search needs, length-set (at-loop .loop .out) _ _ ∙ at-loop .loop .inv .1, link-step _ _ (at-loop .loop .k) _ _ (c .before .before .before .u32-le .ensures) (c .u16-le .ensures) (rw (← entry .pre .0) (c .before .loop-test .taken)) ∙ at-loop .loop .inv .2)
 
 same-length : tie.Need-same-length Inv-loop μ-loop
 same-length c = c .before .loop .inv .1
 
 returns : tie.Need-returns Inv-loop μ-loop
-returns c = sym (links-end _ _ (c .before .loop .k) _ _ (rw (← c .before .before .before .before .before .before .pre .0) (c .loop-test .left))) ∙ c .before .loop .inv .2
+returns c =
+    let at-loop = c .before in
+    let entry = at-loop .before .before .before .before .before in
+    sym (links-end _ _ (at-loop .loop .k) _ _ (rw (← entry .pre .0) (c .loop-test .left))) ∙ at-loop .loop .inv .2
 
 pub put-links-spec : {M : Type 1} → statement M
 put-links-spec =

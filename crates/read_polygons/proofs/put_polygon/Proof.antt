@@ -31,8 +31,8 @@ cast-start c = search needs
 put-front-requires : tie.Need-put-front-requires
 put-front-requires c κs =
     let after-link-count = c .before .before .before in
-    let midway = after-link-count .before .before .before .before .before in
-    let start = midway .before .before .before .before .before in
+    let after-edges-known = after-link-count .before .before .before .before .before in
+    let start = after-edges-known .before .before .before .before .before in
     let link-count = after-link-count .link-count in
     let u16-le = c .before .before .u16-le in
     let z = size-of (length (linksOf (start .args .links .now))) (start .args .rec .now) (link-count-is (start .args .links .now) (start .args .rec .now) (link-count .ensures .0)) (u16-le .ensures) in ((link-count-is (start .args .links .now) (start .args .rec .now) (link-count .ensures .0)), link-count .ensures .1, ap (λ (a : ℕ). a / 32 % 2048) (u16-le .ensures), omega (arith, z, start .pre .2))
@@ -41,16 +41,16 @@ add-next : tie.Need-add-next
 add-next c =
     let after-u16-le = c .before .before .before .before .before in
     let after-link-count = after-u16-le .before in
-    let midway = after-link-count .before .before .before .before .before in
-    let start = midway .before .before .before .before .before in
+    let after-edges-known = after-link-count .before .before .before .before .before in
+    let start = after-edges-known .before .before .before .before .before in
     let z = size-of (length (linksOf (start .args .links .now))) (start .args .rec .now) (link-count-is (start .args .links .now) (start .args .rec .now) (after-link-count .link-count .ensures .0)) (after-u16-le .u16-le .ensures) in omega (arith, z, start .pre .2, start .good)
 
 add-next-2 : tie.Need-add-next-2
 add-next-2 c =
     let after-u16-le = c .before .before .before .before .before in
     let after-link-count = after-u16-le .before in
-    let midway = after-link-count .before .before .before .before .before in
-    let start = midway .before .before .before .before .before in
+    let after-edges-known = after-link-count .before .before .before .before .before in
+    let start = after-edges-known .before .before .before .before .before in
     let z = size-of (length (linksOf (start .args .links .now))) (start .args .rec .now) (link-count-is (start .args .links .now) (start .args .rec .now) (after-link-count .link-count .ensures .0)) (after-u16-le .u16-le .ensures) in omega (arith, z, start .pre .2, start .good)
 
 put-sides-requires : tie.Need-put-sides-requires
@@ -58,8 +58,8 @@ put-sides-requires c κs =
     let after-u16-le2 = c .before .before .before .before .before in
     let after-u16-le = after-u16-le2 .before in
     let after-link-count = after-u16-le .before in
-    let midway = after-link-count .before .before .before .before .before in
-    let start = midway .before .before .before .before .before in
+    let after-edges-known = after-link-count .before .before .before .before .before in
+    let start = after-edges-known .before .before .before .before .before in
     let u16-le = after-u16-le .u16-le in
     let z = size-of (length (linksOf (start .args .links .now))) (start .args .rec .now) (link-count-is (start .args .links .now) (start .args .rec .now) (after-link-count .link-count .ensures .0)) (u16-le .ensures) in ((start .pre .0, omega (arith, z, start .pre .2, ap length (c .before .before .before .put-front .ensures) ∙ length-put _ _ _)), rw (after-u16-le2 .u16-le2 .ensures, u16-le .ensures) (start .pre .1))
 
@@ -68,11 +68,11 @@ mul-t20 c = search needs
 
 add-t19 : tie.Need-add-t19
 add-t19 c =
-    let midway = c .before .before .before .before .before in
-    let after-u16-le = midway .before .before .before .before in
+    let after-out = c .before .before .before .before .before in
+    let after-u16-le = after-out .before .before .before .before in
     let after-link-count = after-u16-le .before in
-    let midway-2 = after-link-count .before .before .before .before .before in
-    let start = midway-2 .before .before .before .before .before in
+    let after-edges-known = after-link-count .before .before .before .before .before in
+    let start = after-edges-known .before .before .before .before .before in
     let z = size-of (length (linksOf (start .args .links .now))) (start .args .rec .now) (link-count-is (start .args .links .now) (start .args .rec .now) (after-link-count .link-count .ensures .0)) (after-u16-le .u16-le .ensures) in omega (arith, z, start .pre .2, start .good)
 
 same-length : tie.Need-same-length
@@ -85,8 +85,8 @@ returns c =
     let after-u16-le2 = after-put-front .before .before in
     let after-u16-le = after-u16-le2 .before in
     let after-link-count = after-u16-le .before in
-    let midway = after-link-count .before .before .before .before .before in
-    let start = midway .before .before .before .before .before in
+    let after-edges-known = after-link-count .before .before .before .before .before in
+    let start = after-edges-known .before .before .before .before .before in
     let link-count = after-link-count .link-count in
     let u16-le = after-u16-le .u16-le in
     let put-sides = after-put-sides .put-sides in

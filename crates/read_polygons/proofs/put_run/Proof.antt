@@ -18,31 +18,31 @@ abbrev μ-loop : tie.MeasureT-loop
 
 loop-holds : tie.Need-loop-holds Inv-loop μ-loop
 loop-holds c =
-    let midway = c .before .before .before .before .before in
-    let entry = midway .before .before .before .before in
+    let after-indices-known = c .before .before .before .before .before in
+    let entry = after-indices-known .before .before .before .before in
     (search needs, begins _ _ _ _ _ _ _ _ _ _ _ _ (entry .pre .0) (entry .pre .2) (rw (sub-zero (entry .args .m))))
 
 part-put-polygon-end : tie.Need-part-put-polygon-end Inv-loop μ-loop
 part-put-polygon-end c =
-    let midway = c .before .before .before .before .before in
-    let midway-2 = midway .before .before .before .before .before in
-    let entry = midway-2 .before in
+    let at-loop = c .before in
+    let after-edges-known = at-loop .before .before .before .before .before in
+    let entry = after-edges-known .before .before .before .before .before in
     omega (arith, c .loop-test .taken, entry .pre .1)
 
 put-polygon-requires : tie.Need-put-polygon-requires Inv-loop μ-loop
 put-polygon-requires c κs =
     let at-loop = c .before .before .before in
-    let midway = at-loop .before .before .before .before .before in
-    let entry = midway .before .before .before .before .before in
+    let after-edges-known = at-loop .before .before .before .before .before in
+    let entry = after-edges-known .before .before .before .before .before in
     polygon-asks _ _ _ _ _ _ _ _ _ _ _ _ (at-loop .loop .inv .1) _ _ (record-next (entry .args .run .now) (entry .args .m) (at-loop .loop .k) (c .before .before .loop-test .taken))
 
 add-k : tie.Need-add-k Inv-loop μ-loop
 add-k c =
-    let midway = c .before .before .before .before .before in
-    let tested = midway .before in
-    let midway-2 = tested .before .before .before .before .before in
-    let midway-3 = midway-2 .before .before .before .before .before in
-    let entry = midway-3 .before in
+    let after-put-polygon = c .before .before .before in
+    let tested = after-put-polygon .before .before .before in
+    let at-loop = tested .before in
+    let after-edges-known = at-loop .before .before .before .before .before in
+    let entry = after-edges-known .before .before .before .before .before in
     omega (arith, tested .loop-test .taken, entry .fits)
 
 loop-again : tie.Need-loop-again Inv-loop μ-loop
@@ -50,8 +50,8 @@ loop-again c =
     let after-put-polygon = c .before .before .before in
     let tested = after-put-polygon .before .before .before in
     let at-loop = tested .before in
-    let midway = at-loop .before .before .before .before .before in
-    let entry = midway .before .before .before .before .before in
+    let after-edges-known = at-loop .before .before .before .before .before in
+    let entry = after-edges-known .before .before .before .before .before in
     (omega (arith, tested .loop-test .taken), one-on _ _ _ _ _ _ _ _ _ _ _ _ (at-loop .loop .inv .1) _ _ (record-next (entry .args .run .now) (entry .args .m) (at-loop .loop .k) (tested .loop-test .taken)) (after-put-polygon .put-polygon .ensures))
 
 same-length : tie.Need-same-length Inv-loop μ-loop
@@ -60,8 +60,8 @@ same-length c = c .before .loop .inv .1 .same-length
 returns : tie.Need-returns Inv-loop μ-loop
 returns c =
     let at-loop = c .before in
-    let midway = at-loop .before .before .before .before .before in
-    let entry = midway .before .before .before .before .before in
+    let after-edges-known = at-loop .before .before .before .before .before in
+    let entry = after-edges-known .before .before .before .before .before in
     let g = at-loop .loop .inv .1 in
     let (next, strip) = ends _ _ _ _ _ _ _ _ _ _ _ _ g (record-none (entry .args .run .now) (entry .args .m) (at-loop .loop .k) (c .loop-test .left)) in
     record { next = next; ready = g .ready; strip = strip }

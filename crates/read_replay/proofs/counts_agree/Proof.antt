@@ -1,4 +1,4 @@
--- `read_replay::counts_agree` meets its contract: its callees' equations.
+-- `read_replay::counts_agree` meets its contract: each of the five tests gives one count, which `u32_le` reads; where one fails the answer is false.
 use mathlib.Core.Bool.{false≢true}
 use mathlib.Core.Path.{_∙_}
 use borrow.Author.Tests.{eqb-true}

@@ -1,4 +1,4 @@
--- `read_replay::record_at` meets its contract: its callees' equations.
+-- `read_replay::record_at` meets its contract: each place is the end that `end_of` gives of the part before it, padded or not, and by its bounds they stand in order.
 use borrow.Author.Needs.{needs}
 use Rattle.read_replay.proofs.record_at.Statement.{statement}
 use Rattle.read_replay.proofs.record_at.Tie as tie

@@ -1,4 +1,4 @@
--- `read_replay::strip_words` meets its contract: its callee's equations.
+-- `read_replay::strip_words` meets its contract: `u32_le` gives the number, which is 0 where the record tells words, and then how many; four bytes are below 2^32.
 use mathlib.Core.Path.{sym, _∙_}
 use Rattle.read_replay.proofs.Records.{told-words, no-words}
 use borrow.Author.Needs.{needs}

@@ -37,6 +37,7 @@ use denote.Exit.{yes}
 use denote.Triple.Clauses.{ensured, lasts}
 use Rattle.res_reader.specs.Looked.{Looked}
 use Rattle.res_reader.specs.declared.ResReader.{ResReader}
+use Rattle.res_reader.proofs.Clauses.{hear-both}
 use Rattle.res_reader.proofs.ResReader as T
 use Rattle.res_reader.proofs.ResReader.Laws as T′
 use Rattle.res_reader.proofs.Apart.{B, Slice, v}
@@ -109,7 +110,9 @@ module _ {M : Type 1} (𝓤 : URA M) (H : Heap 𝓤) (A : Atoms 𝓤) (W : Given
   Made r = (r .system ≡ s) × (r .graphics ≡ t)
 
   new-said : (r : ResReader) → ent 𝓤 (ensured 𝓤 H A new.ended (new.clauses 𝓤 H A mem run) (κ, tt) (s, (t, tt)) tt r) (fact 𝓤 (Made r))
-  new-said r = exE 𝓤 _ (λ ws. snd∗ 𝓤 (sem 𝓤 H A (lasts new.ended (κ, tt) (s, (t, tt)) ws)) (fact 𝓤 (Made r)))
+  new-said r =
+      let told = sep 𝓤 (fact 𝓤 (r .system ≡ s)) (fact 𝓤 (r .graphics ≡ t)) in
+      exE 𝓤 _ (λ ws. via 𝓤 told (snd∗ 𝓤 (sem 𝓤 H A (lasts new.ended (κ, tt) (s, (t, tt)) ws)) told) (hear-both 𝓤 (r .system ≡ s) (r .graphics ≡ t)))
 
   -- the call of `resolve`, at the struct r with the machine value u
   abbrev to-resolve : ResReader → Val → Resolve 𝓤 H A mem run .Ghost

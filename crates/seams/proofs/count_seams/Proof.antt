@@ -22,7 +22,7 @@ shared-slice-read-poly-seams c =
 poly-seams-requires : tie.Need-poly-seams-requires
 poly-seams-requires c κs =
     let w = well _ _ _ (c .before .before .before .before .check-strip .ensures) (c .before .before .n .given .1) in
-    omega (arith, w .whole)
+    omega (arith, w .length-is)
 
 enum-known-r : tie.Need-enum-known-r
 enum-known-r c = search needs

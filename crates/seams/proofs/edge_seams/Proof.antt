@@ -6,14 +6,14 @@ use mathlib.Core.Path.{ap, _≡_}
 use native.Mathlib.Nat.{zero-add, sub-zero}
 use native.Mathlib.Omega.{arith}
 use Rattle.strip.specs.Reading.{halfAt, edgeAt, edgesAt}
-use Rattle.strip.specs.Tests.{one}
+use Rattle.strip.specs.Tests.{oneIf}
 use Rattle.strip.proofs.Steps.{items-turn, items-done}
 use Rattle.seams.specs.Seams.{counted, edgeCount}
 use Rattle.seams.proofs.edge_seams.Statement.{statement}
 use Rattle.seams.proofs.edge_seams.Tie as tie
 
 -- whether a half is counted depends on where it stands
-half-at : (s : List ℕ) (own at : ℕ) {p r : ℕ} → r ≡ one (counted own (halfAt s p)) → p ≡ at → r ≡ one (counted own (halfAt s at))
+half-at : (s : List ℕ) (own at : ℕ) {p r : ℕ} → r ≡ oneIf (counted own (halfAt s p)) → p ≡ at → r ≡ oneIf (counted own (halfAt s at))
 half-at s own at e f = rw f at e
 
 abbrev Inv-loop : tie.InvT-loop

@@ -1,4 +1,4 @@
--- `finite_vec` meets its contract. One test after the other.
+-- `finite_vec` meets its contract: `is_finite` tests one word; the first that fails makes the definition false, and behind two that pass it is the third.
 use borrow.Author.Needs.{needs}
 use Rattle.strip.proofs.Box.{failed, passed}
 use Rattle.strip_parts.proofs.finite_vec.Statement.{statement}

@@ -1,4 +1,4 @@
--- `units::leaf_back` meets its contract: its callees' equations.
+-- `units::leaf_back` meets its contract: `float_of_bits` gives lo and extent, `unquantise_axis` the float that the short turns back to, `bits_of_float` its bits.
 use mathlib.Core.Path.{ap, _∙_}
 use lib.Ieee.{binary32, toBits}
 use borrow.Author.Needs.{needs}

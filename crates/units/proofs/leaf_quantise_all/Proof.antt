@@ -19,27 +19,27 @@ use Rattle.units.specs.Entries.{shortsTo}
 use Rattle.units.proofs.leaf_quantise_all.Statement.{statement}
 use Rattle.units.proofs.leaf_quantise_all.Tie as tie
 
-length-shorts : (ws : List ℕ) (lo size : Vec3) (n : ℕ) → length (shortsTo ws lo size n) ≡ 3 * n
+length-shorts : (ws : List ℕ) (bb-min bb-size : Vec3) (n : ℕ) → length (shortsTo ws bb-min bb-size n) ≡ 3 * n
 unfolding shortsTo
-length-shorts ws lo size zero = refl
-length-shorts ws lo size (suc n) = simp length-append (omega (arith, length-shorts ws lo size n))
+length-shorts ws bb-min bb-size zero = refl
+length-shorts ws bb-min bb-size (suc n) = simp length-append (omega (arith, length-shorts ws bb-min bb-size n))
 
 -- the shorts of one vertex more, behind those that stand
-one-more : (ws : List ℕ) (lo size : Vec3) (i : ℕ) (out : List ℕ) (q : Shorts) → q ≡ shorts (floatsAt ws (3 * i)) lo size → put (3 * i) (q .x ∷ q .y ∷ q .z ∷ []) (put 0 (shortsTo ws lo size i) out) ≡ put 0 (shortsTo ws lo size (i + 1)) out
+one-more : (ws : List ℕ) (bb-min bb-size : Vec3) (i : ℕ) (out : List ℕ) (q : Shorts) → q ≡ shorts (floatsAt ws (3 * i)) bb-min bb-size → put (3 * i) (q .x ∷ q .y ∷ q .z ∷ []) (put 0 (shortsTo ws bb-min bb-size i) out) ≡ put 0 (shortsTo ws bb-min bb-size (i + 1)) out
 unfolding shortsTo
-one-more ws lo size i out q e =
-    let v = shorts (floatsAt ws (3 * i)) lo size in
-    let h = put-next (3 * i) 0 (shortsTo ws lo size i) (v .x ∷ v .y ∷ v .z ∷ []) out (length-shorts ws lo size i) in
+one-more ws bb-min bb-size i out q e =
+    let v = shorts (floatsAt ws (3 * i)) bb-min bb-size in
+    let h = put-next (3 * i) 0 (shortsTo ws bb-min bb-size i) (v .x ∷ v .y ∷ v .z ∷ []) out (length-shorts ws bb-min bb-size i) in
     rw (e, add-one i) (rw zero-add at h)
 
 both : (n a b : ℕ) → n ≡ min a b → (n ≤ a) × (n ≤ b)
 both n a b e = (rw e (min-le-left a b), rw e (min-le-right a b))
 
 abbrev Inv-loop : tie.InvT-loop
-Inv-loop vertices bounds out₀ lo size n i₀ out i = (i ≤ n) × (length out ≡ length out₀) × (out ≡ put 0 (shortsTo vertices lo size i) out₀)
+Inv-loop vertices bounds out₀ bb-min bb-size n i₀ out i = (i ≤ n) × (length out ≡ length out₀) × (out ≡ put 0 (shortsTo vertices bb-min bb-size i) out₀)
 
 abbrev μ-loop : tie.MeasureT-loop
-μ-loop vertices bounds out₀ lo size n i₀ out i = n - i
+μ-loop vertices bounds out₀ bb-min bb-size n i₀ out i = n - i
 
 floats-at-requires : tie.Need-floats-at-requires Inv-loop μ-loop
 floats-at-requires c κs = search needs

@@ -1,4 +1,4 @@
--- `units::leaf_quarter` meets its contract: its callees' equations, by the test.
+-- `units::leaf_quarter` meets its contract: the test chooses the way to round; `float_of_bits` gives the float, `quarter_floor` or `quarter_ceil` its side, and `bits16_of` the bits of that side.
 use mathlib.Core.Path.{_≡_, ap, _∙_}
 use mir.Syntax.{w16}
 use mir.Val.{toZ, ofZ}

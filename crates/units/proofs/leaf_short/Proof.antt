@@ -1,4 +1,4 @@
--- `units::leaf_short` meets its contract: its callees' equations.
+-- `units::leaf_short` meets its contract: `float_of_bits` gives the three floats, `quantise_axis` their short.
 use borrow.Author.Needs.{needs}
 use Rattle.units.proofs.leaf_short.Statement.{statement}
 use Rattle.units.proofs.leaf_short.Tie as tie

@@ -30,7 +30,7 @@ with-record-requires : tie.Need-with-record-requires Inv-loop μ-loop
 with-record-requires c κs = (c .record-at .ensures .1, c .before .before .loop .inv .2)
 
 loop-less : tie.Need-loop-less Inv-loop μ-loop
-loop-less c = let r = c .before .record-at in omega (arith, r .ensures .1 .starts, r .ensures .1 .ends, r .ensures .1 .behind)
+loop-less c = let r = c .before .record-at in omega (arith, r .ensures .1 .starts, r .ensures .1 .ends, r .ensures .1 .to-next)
 
 loop-again : tie.Need-loop-again Inv-loop μ-loop
 loop-again c =
@@ -40,7 +40,7 @@ loop-again c =
     let stands = r .ensures .1 in (
       stands .within,
       one-record _ _ (λ (k : ℕ) (z : Record). AgreesAt all k z) (λ (k : ℕ). recordOf all k) (λ (z : Record). z .next) _ _ (r .result) _ _ (here .inv .1) (omega (arith, c .before .before .loop-test)) (r .ensures .0) (c .with-record .ensures .0),
-      later _ _ _ _ (c .with-record .ensures .1) (omega (arith, stands .starts, stands .ends, stands .behind)),
+      later _ _ _ _ (c .with-record .ensures .1) (omega (arith, stands .starts, stands .ends, stands .to-next)),
     )
 
 returns : tie.Need-returns Inv-loop μ-loop

@@ -3,7 +3,7 @@ use Prim.Native.Nat.{_-_}
 use native.Mathlib.Omega.{arith}
 use borrow.Author.Needs.{needs}
 use Rattle.strip.specs.Reading.{polygonOf}
-use Rattle.write_corner_checks.proofs.Corners.{Going, begin, stop, again, done}
+use Rattle.write_corner_checks.proofs.Corners.{area-of, Going, begin, stop, again, done}
 use Rattle.write_corner_checks.proofs.decide_vertices.Statement.{statement}
 use Rattle.write_corner_checks.proofs.decide_vertices.Tie as tie
 
@@ -60,7 +60,7 @@ returns c =
     let after-triple-of = after-area-at .before in
     let tested = after-triple-of .before in
     let at-loop = tested .before in
-    stop _ _ _ _ _ _ _ _ _ _ _ _ _ _ _ _ _ _ _ _ _ _ _ _ (at-loop .loop .inv) (tested .loop-test .taken) (after-triple-of .triple-of .ensures .0) (after-area-at .area-at .ensures) (after-area-at2 .area-at2 .ensures) _ (after-decide-corner .decide-corner .ensures) _ (c .enum-told .given .1)
+    stop _ _ _ _ _ _ _ _ _ _ _ _ _ _ _ _ _ _ _ _ _ _ _ _ (at-loop .loop .inv) (tested .loop-test .taken) (after-triple-of .triple-of .ensures .0) (area-of _ _ _ _ (after-area-at .area-at .ensures) (omega arith) (omega arith)) (area-of _ _ _ _ (after-area-at2 .area-at2 .ensures) (omega arith) (omega arith)) _ (after-decide-corner .decide-corner .ensures) _ (c .enum-told .given .1)
 
 add-v : tie.Need-add-v Inv-loop μ-loop
 add-v c =
@@ -103,7 +103,7 @@ loop-again c =
     let after-triple-of = after-area-at .before in
     let tested = after-triple-of .before in
     let at-loop = tested .before in
-    again _ _ _ _ _ _ _ _ _ _ _ _ _ _ _ _ _ _ _ _ _ _ _ _ (at-loop .loop .inv) (tested .loop-test .taken) (after-triple-of .triple-of .ensures .0) (after-area-at .area-at .ensures) (after-area-at2 .area-at2 .ensures) _ (after-decide-corner .decide-corner .ensures) (c .enum-told2 .given .1)
+    again _ _ _ _ _ _ _ _ _ _ _ _ _ _ _ _ _ _ _ _ _ _ _ _ (at-loop .loop .inv) (tested .loop-test .taken) (after-triple-of .triple-of .ensures .0) (area-of _ _ _ _ (after-area-at .area-at .ensures) (omega arith) (omega arith)) (area-of _ _ _ _ (after-area-at2 .area-at2 .ensures) (omega arith) (omega arith)) _ (after-decide-corner .decide-corner .ensures) (c .enum-told2 .given .1)
 
 same-length-2 : tie.Need-same-length-2 Inv-loop μ-loop
 same-length-2 c = search needs

@@ -26,7 +26,7 @@ decide-well-requires c κs =
     let formed = front .before .before in
     let checked = formed .before .before in
     let w = well _ _ _ (checked .check-strip .ensures) (formed .counts .given .1) in
-    (w .long, omega (arith, w .whole), room _ (checked .before .before .before .args .work .now) _ w _ (front .front-verdict .ensures) (c .before .enum-told .given .1))
+    (w .long, omega (arith, w .length-is), room _ (checked .before .before .before .args .work .now) _ w _ (front .front-verdict .ensures) (c .before .enum-told .given .1))
 
 enum-known-front : tie.Need-enum-known-front
 enum-known-front c = search needs

@@ -18,20 +18,20 @@ abbrev μ-loop : tie.MeasureT-loop
 loop-holds : tie.Need-loop-holds Inv-loop μ-loop
 loop-holds c = λ v. halving _ _ _ _ _ _ _ _ _ _
 
-half-at-requires : tie.Need-half-at-requires Inv-loop μ-loop
-half-at-requires c κs =
+half-item-requires : tie.Need-half-item-requires Inv-loop μ-loop
+half-item-requires c κs =
     let at-loop = c .before in
     let entry = at-loop .before .before .before .before in
     λ h. omega (arith, at-loop .loop .inv 0 .edge, entry .pre .0)
 
-add-half-at : tie.Need-add-half-at Inv-loop μ-loop
-add-half-at c =
+add-half-item : tie.Need-add-half-item Inv-loop μ-loop
+add-half-item c =
     let at-loop = c .before .before in
     let entry = at-loop .before .before .before .before in
     omega (arith, at-loop .loop .inv 0 .edge, c .before .loop-test .taken, entry .pre .1)
 
-half-at-requires-2 : tie.Need-half-at-requires-2 Inv-loop μ-loop
-half-at-requires-2 c κs =
+half-item-requires-2 : tie.Need-half-item-requires-2 Inv-loop μ-loop
+half-item-requires-2 c κs =
     let at-loop = c .before .before in
     let entry = at-loop .before .before .before .before in
     λ h. omega (arith, at-loop .loop .inv 0 .edge, entry .pre .0)
@@ -88,7 +88,7 @@ loop-less : tie.Need-loop-less Inv-loop μ-loop
 loop-less c = omega (arith, c .before .before .loop-test .taken)
 
 loop-again : tie.Need-loop-again Inv-loop μ-loop
-loop-again c = λ v. halving-turn _ _ _ _ _ _ _ _ _ _ _ _ _ _ (c .before .before .before .loop .inv v) (c .before .before .loop-test .taken) _ _ (c .before .half-at .ensures) (c .half-at2 .ensures)
+loop-again c = λ v. halving-turn _ _ _ _ _ _ _ _ _ _ _ _ _ _ (c .before .before .before .loop .inv v) (c .before .before .loop-test .taken) _ _ (c .before .half-item .ensures) (c .half-item2 .ensures)
 
 same-length : tie.Need-same-length Inv-loop μ-loop
 same-length c = c .before .loop .inv 0 .long
@@ -104,9 +104,9 @@ put-run-spec =
     Inv-loop
     μ-loop
     loop-holds
-    half-at-requires
-    add-half-at
-    half-at-requires-2
+    half-item-requires
+    add-half-item
+    half-item-requires-2
     mul-work
     slice-write-work
     add-work

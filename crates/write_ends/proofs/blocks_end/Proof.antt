@@ -1,6 +1,6 @@
 -- `write_ends::blocks_end` meets its contract: each row of blocks begins where the one before it ends, and what the sectors ask for is what was asked
 -- for behind them without what was asked for before.
-use Prim.Native.Nat.{ℕ, _+_, _*_, _/_, _%_, _^_}
+use Prim.Native.Nat.{ℕ, _+_, _*_}
 use mathlib.Core.Path.{_≡_, sym, subst, _∙_}
 use mathlib.Core.List.{List, _++_, append-assoc}
 use native.Mathlib.Omega.{arith}
@@ -8,7 +8,7 @@ use denote.Ref.{now}
 use Rattle.write_blocks.specs.Laid.{empty, reached, Within, sumOf}
 use Rattle.write_blocks.specs.Optional.{sizeOf}
 use Rattle.write_blocks.proofs.Layouts.{sum-append, joined, begins, onward}
-use Rattle.write_pages.specs.Sectors.{depthBy}
+use Rattle.write_pages.specs.Sectors.{depthOf}
 use Rattle.write_ends.specs.Ends.{sizesBy, listsSizes}
 use Rattle.write_ends.proofs.Behind.{within-some, asked-apart, within-first}
 use Rattle.write_ends.proofs.blocks_end.Statement.{statement}
@@ -19,7 +19,7 @@ abbrev lists : tie.Start → List ℕ
 lists s = listsSizes (s .args .d .vertices) (s .args .d .corners) (s .args .d .counts .polys)
 
 abbrev sectors : tie.Start → List ℕ
-sectors s = sizesBy (now (s .args .boxes)) (now (s .args .numbers)) (depthBy (s .args .content / 2 ^ 2 % 2)) 0 (s .args .b)
+sectors s = sizesBy (now (s .args .boxes)) (now (s .args .numbers)) (depthOf (s .args .content)) 0 (s .args .b)
 
 abbrev portals : tie.Start → List ℕ
 portals s = sizeOf (28 * s .args .d .counts .portals)

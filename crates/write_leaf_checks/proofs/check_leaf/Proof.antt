@@ -4,11 +4,12 @@ use mathlib.Core.List.{List}
 use native.Mathlib.Omega.{arith}
 use lib.ListN.{length}
 use denote.Ref.{now}
+use borrow.Author.Needs.{needs}
 use Rattle.strip.specs.Cell.{NavPoint}
 use Rattle.write_pages.specs.Sectors.{grown, leafCounts}
 use Rattle.write_leaf_counts.specs.Work.{countIn, pickedFrom}
 use Rattle.write_leaf_counts.proofs.Picks.{count-picked}
-use Rattle.write_leaf_checks.proofs.LeafVerdicts.{tells-17, tells-18, tells-none}
+use Rattle.write_leaf_checks.proofs.LeafVerdicts.{tells-kept, tells-17, tells-18, tells-none}
 use Rattle.write_leaf_checks.proofs.check_leaf.Statement.{statement}
 use Rattle.write_leaf_checks.proofs.check_leaf.Tie as tie
 use Rattle.write_leaf_checks.proofs.check_leaf.Reads as reads
@@ -22,47 +23,68 @@ claims = (leaf-ids-reads.Asked, leaf-ids-reads.Learnt, count-points-reads.Asked,
 abbrev Begin : Type 0
 Begin = lts.Start claims reads.Pre reads.Post
 
-abbrev Ids : Type 0
-Ids = lts.After-leaf-ids claims reads.Pre reads.Post
+abbrev Passed : Type 0
+Passed = lts.After-enum-told claims reads.Pre reads.Post
 
-abbrev start : Ids → Begin
-start c = c .before .before .before
+abbrev start : Passed → Begin
+start c = c .before .before .before .before
 
 -- the points that are counted are the leaf's
 points-count : (s : Begin) (ts : List NavPoint) → length ts ≡ length (now (s .args .leaf-numbers))
     → countIn (now (s .args .leaf-numbers)) (s .args .leaf) 0 (length (now (s .args .leaf-numbers))) ≡ length (pickedFrom (now (s .args .leaf-numbers)) (s .args .leaf) 0 ts)
 points-count s ts l = ap (countIn (now (s .args .leaf-numbers)) (s .args .leaf) 0) (sym l) ∙ count-picked (now (s .args .leaf-numbers)) (s .args .leaf) 0 ts
 
-leaf-ids-requires : tie.Need-leaf-ids-requires
-leaf-ids-requires c κs = tt
+enum-known-so-far : tie.Need-enum-known-so-far
+enum-known-so-far c = search needs
 
 returns : tie.Need-returns
-unfolding grown leafCounts
-returns c ts l = let s = start (c .before) in tells-17 _ _ (s .args .leaf) (omega (arith, c .before .leaf-ids .ensures, c .if1 .taken))
+returns c ts l = tells-kept _ _ _ (c .before .so-far .given .1)
 
-count-points-requires : tie.Need-count-points-requires
-count-points-requires c κs = tt
+enum-told : tie.Need-enum-told
+enum-told c = search needs
+
+leaf-ids-requires : tie.Need-leaf-ids-requires
+leaf-ids-requires c κs = tt
 
 returns-2 : tie.Need-returns-2
 unfolding grown leafCounts
 returns-2 c ts l =
-    let k = c .before .before .before in
-    let s = start k in
-    tells-18 _ _ (s .args .leaf) (omega (arith, k .leaf-ids .ensures, c .before .before .if1 .left)) (omega (arith, points-count s ts l, c .before .count-points .ensures, c .if2 .taken))
+    let ids = c .before in
+    let passed = ids .before in
+    tells-17 _ _ (start passed .args .leaf) (passed .enum-told .given .1) (omega (arith, ids .leaf-ids .ensures, c .if1 .taken))
+
+count-points-requires : tie.Need-count-points-requires
+count-points-requires c κs = tt
 
 returns-3 : tie.Need-returns-3
 unfolding grown leafCounts
 returns-3 c ts l =
-    let k = c .before .before .before in
-    let s = start k in
-    tells-none _ _ (s .args .leaf) (omega (arith, k .leaf-ids .ensures, c .before .before .if1 .left)) (omega (arith, points-count s ts l, c .before .count-points .ensures, c .if2 .left))
+    let points = c .before in
+    let ids = points .before .before in
+    let passed = ids .before in
+    let s = start passed in
+    tells-18 _ _ (s .args .leaf) (passed .enum-told .given .1) (omega (arith, ids .leaf-ids .ensures, points .before .if1 .left))
+    (omega (arith, points-count s ts l, points .count-points .ensures, c .if2 .taken))
+
+returns-4 : tie.Need-returns-4
+unfolding grown leafCounts
+returns-4 c ts l =
+    let points = c .before in
+    let ids = points .before .before in
+    let passed = ids .before in
+    let s = start passed in
+    tells-none _ _ (s .args .leaf) (passed .enum-told .given .1) (omega (arith, ids .leaf-ids .ensures, points .before .if1 .left))
+    (omega (arith, points-count s ts l, points .count-points .ensures, c .if2 .left))
 
 pub check-leaf-spec : {M : Type 1} → statement M
 check-leaf-spec =
     tie.close
     (tie.spec
-    leaf-ids-requires
+    enum-known-so-far
     returns
-    count-points-requires
+    enum-told
+    leaf-ids-requires
     returns-2
-    returns-3)
+    count-points-requires
+    returns-3
+    returns-4)

@@ -60,8 +60,8 @@ claims = (
 abbrev Begin : Type 0
 Begin = lts.Start claims reads.Pre reads.Post
 
-abbrev Counted : Type 0
-Counted = lts.After-count-points claims reads.Pre reads.Post
+abbrev AfterCounts : Type 0
+AfterCounts = lts.After-count-points claims reads.Pre reads.Post
 
 abbrev Own : Type 0
 Own = lts.After-alloc claims reads.Pre reads.Post
@@ -72,17 +72,17 @@ Ids = lts.After-lay-ids claims reads.Pre reads.Post
 abbrev Stored : Type 0
 Stored = lts.After-lay-points claims reads.Pre reads.Post
 
-abbrev begin : Counted → Begin
+abbrev begin : AfterCounts → Begin
 begin c =
     let after-leaf-ids = c .before in
     let lent = after-leaf-ids .before .before in
     lent .before .before .before .before
 
-abbrev counted : Own → Counted
-counted c = c .before .before .before .before .before
+abbrev after-counts : Own → AfterCounts
+after-counts c = c .before .before .before .before .before
 
 abbrev start : Own → Begin
-start c = begin (counted c)
+start c = begin (after-counts c)
 
 abbrev own : Ids → Own
 own c = c .before .before
@@ -95,12 +95,12 @@ module _ (s : Begin) where
   idsIn = leafIds (quarters (s .args .b)) 0 (boxesIn (now (s .args .boxes)))
 
   abbrev pointsIn : List NavPoint
-  pointsIn = pickedFrom (now (s .args .leaf-numbers)) (s .args .spot .leaf) 0 (pointsAt (now (s .args .strip)) (s .args .points .at) (length (now (s .args .leaf-numbers))))
+  pointsIn = pickedFrom (now (s .args .leaf-numbers)) (s .args .cursor .leaf) 0 (pointsAt (now (s .args .strip)) (s .args .points .at) (length (now (s .args .leaf-numbers))))
 
   abbrev end : ℕ
-  end = s .args .spot .layout .at
+  end = s .args .cursor .layout .at
 
-  room : TreeRoom (leaf (s .args .b) idsIn pointsIn) end (s .args .spot .first)
+  room : TreeRoom (leaf (s .args .b) idsIn pointsIn) end (s .args .cursor .first)
   unfolding grown
   room = s .pre .1
 
@@ -110,21 +110,21 @@ module _ (s : Begin) where
   own-small : behind end 96 < 2 ^ 28
   own-small = let b = bounded in omega arith
 
-ids-count : (c : Counted) → c .before .leaf-ids .result ≡ length (idsIn (begin c))
+ids-count : (c : AfterCounts) → c .before .leaf-ids .result ≡ length (idsIn (begin c))
 ids-count c = c .before .leaf-ids .ensures
 
-points-count : (c : Counted) → c .count-points .result ≡ length (pointsIn (begin c))
+points-count : (c : AfterCounts) → c .count-points .result ≡ length (pointsIn (begin c))
 points-count c =
     let a = begin c .args in
     let w = now (a .leaf-numbers) in
     let ts = pointsAt (now (a .strip)) (a .points .at) (length w) in
-    c .count-points .ensures ∙ ap (countIn w (a .spot .leaf) 0) (sym (items-length (pointAt (now (a .strip))) (λ at. at + 4) (length w) (a .points .at))) ∙ count-picked w (a .spot .leaf) 0 ts
+    c .count-points .ensures ∙ ap (countIn w (a .cursor .leaf) 0) (sym (items-length (pointAt (now (a .strip))) (λ at. at + 4) (length w) (a .points .at))) ∙ count-picked w (a .cursor .leaf) 0 ts
 
 -- the sizes of the two blocks, by the counts
-ids-end : (c : Own) → endOf (c .alloc .result .at) (sizeOf (2 * counted c .before .leaf-ids .result)) ≡ pointsFrom (end (start c)) (length (idsIn (start c)))
+ids-end : (c : Own) → endOf (c .alloc .result .at) (sizeOf (2 * after-counts c .before .leaf-ids .result)) ≡ pointsFrom (end (start c)) (length (idsIn (start c)))
 ids-end c =
-    ap (λ (j : ℕ). endOf j (sizeOf (2 * counted c .before .leaf-ids .result))) (at-of (c .alloc .ensures))
-    ∙ ap (λ (j : ℕ). endOf (behind (end (start c)) 96) (sizeOf (2 * j))) (ids-count (counted c))
+    ap (λ (j : ℕ). endOf j (sizeOf (2 * after-counts c .before .leaf-ids .result))) (at-of (c .alloc .ensures))
+    ∙ ap (λ (j : ℕ). endOf (behind (end (start c)) 96) (sizeOf (2 * j))) (ids-count (after-counts c))
 
 ids-laid : (c : Ids) → let k = own c in
     Laid (k .alloc .result) (blockOf (les 2 (idsIn (start k)))) (c .lay-ids .result) (k .before .before .before .pad .last .0) (c .lay-ids .last .0)
@@ -136,13 +136,13 @@ ids-behind c =
     let s = start k in
     ids-ends (s .args .points .«bb_min») (s .args .points .«bb_size») (idsIn s) (ids-laid c) ∙ ap (λ (j : ℕ). endOf j (sizeOf (2 * length (idsIn s)))) (at-of (k .alloc .ensures))
 
-points-end : (c : Ids) → endOf (c .lay-ids .result .at) (sizeOf (8 * counted (own c) .count-points .result))
+points-end : (c : Ids) → endOf (c .lay-ids .result .at) (sizeOf (8 * after-counts (own c) .count-points .result))
     ≡ dataFrom (end (start (own c))) (length (idsIn (start (own c)))) (length (pointsIn (start (own c))))
 points-end c =
     let k = own c in
     let s = start k in
-    ap (λ (j : ℕ). endOf j (sizeOf (8 * counted k .count-points .result))) (ids-behind c)
-    ∙ ap (λ (j : ℕ). endOf (pointsFrom (end s) (length (idsIn s))) (sizeOf (8 * j))) (points-count (counted k))
+    ap (λ (j : ℕ). endOf j (sizeOf (8 * after-counts k .count-points .result))) (ids-behind c)
+    ∙ ap (λ (j : ℕ). endOf (pointsFrom (end s) (length (idsIn s))) (sizeOf (8 * j))) (points-count (after-counts k))
 
 points-behind : (c : Stored) → c .lay-points .result .at ≡ dataFrom (end (start (own (laidIds c)))) (length (idsIn (start (own (laidIds c))))) (length (pointsIn (start (own (laidIds c)))))
 points-behind c =
@@ -175,20 +175,20 @@ lay-ids-requires : tie.Need-lay-ids-requires
 lay-ids-requires c κs =
     let k = c .before in
     let b = bounded (start k) in
-    (counted k .before .leaf-ids .ensures, omega (arith, ids-count (counted k)), omega (arith, ids-end k))
+    (after-counts k .before .leaf-ids .ensures, omega (arith, ids-count (after-counts k)), omega (arith, ids-end k))
 
 lay-points-requires : tie.Need-lay-points-requires
 lay-points-requires c κs =
     let q = c .before .before .before in
     let k = own q in
     let b = bounded (start k) in
-    (start k .pre .0 .1, points-count (counted k), omega (arith, points-count (counted k)), omega (arith, points-end q))
+    (start k .pre .0 .1, points-count (after-counts k), omega (arith, points-count (after-counts k)), omega (arith, points-end q))
 
 mul-address-of : tie.Need-mul-address-of
 mul-address-of c =
     let k = own (laidIds (c .before .before)) in
     let b = bounded (start k) in
-    omega (arith, ids-count (counted k))
+    omega (arith, ids-count (after-counts k))
 
 address-of-requires : tie.Need-address-of-requires
 address-of-requires c κs =
@@ -200,7 +200,7 @@ mul-address-of-2 : tie.Need-mul-address-of-2
 mul-address-of-2 c =
     let k = own (laidIds (c .before .before .before)) in
     let b = bounded (start k) in
-    omega (arith, points-count (counted k))
+    omega (arith, points-count (after-counts k))
 
 address-of-requires-2 : tie.Need-address-of-requires-2
 address-of-requires-2 c κs =
@@ -212,13 +212,13 @@ cast-lay-data : tie.Need-cast-lay-data
 cast-lay-data c =
     let k = own (laidIds (c .before .before .before .before .before)) in
     let b = bounded (start k) in
-    omega (arith, ids-count (counted k), points-count (counted k))
+    omega (arith, ids-count (after-counts k), points-count (after-counts k))
 
 cast-lay-data-2 : tie.Need-cast-lay-data-2
 cast-lay-data-2 c =
     let k = own (laidIds (c .before .before .before .before .before)) in
     let b = bounded (start k) in
-    omega (arith, ids-count (counted k), points-count (counted k))
+    omega (arith, ids-count (after-counts k), points-count (after-counts k))
 
 lay-data-requires : tie.Need-lay-data-requires
 lay-data-requires c κs = data-small (c .before .before .before .before .before)
@@ -250,7 +250,7 @@ cast-t36 c =
     let after-lay-points = after-address-of2 .before .before .before .before in
     let k = own (laidIds after-lay-points) in
     let b = bounded (start k) in
-    omega (arith, points-count (counted k))
+    omega (arith, points-count (after-counts k))
 
 add-t37 : tie.Need-add-t37
 add-t37 c =
@@ -259,7 +259,7 @@ add-t37 c =
     let after-lay-points = after-address-of2 .before .before .before .before in
     let k = own (laidIds after-lay-points) in
     let b = bounded (start k) in
-    omega (arith, points-count (counted k))
+    omega (arith, points-count (after-counts k))
 
 same-length : tie.Need-same-length
 same-length c =
@@ -289,7 +289,7 @@ returns c =
     let k = own (laidIds q) in
     let s = start k in
     leaf-wrote (s .args .points .«bb_min») (s .args .points .«bb_size») (s .args .b) (idsIn s) (pointsIn s) (k .alloc .ensures) (k .before .before .before .pad .ensures .1) (ids-laid (laidIds q)) (q .lay-points .ensures)
-    (after-address-of .address-of .ensures) (after-address-of2 .address-of2 .ensures) (ids-count (counted k)) (points-count (counted k)) (after-lay-data .lay-data .ensures)
+    (after-address-of .address-of .ensures) (after-address-of2 .address-of2 .ensures) (ids-count (after-counts k)) (points-count (after-counts k)) (after-lay-data .lay-data .ensures)
     (after-address-of3 .address-of3 .ensures) (k .before .before .before .pad .ensures .0) (c .before .before .put-sector .ensures) refl refl
 
 pub write-leaf-spec : {M : Type 1} → statement M

@@ -15,12 +15,12 @@ mul-address-of c = search needs
 address-of-requires : tie.Need-address-of-requires
 address-of-requires c κs =
     let e = c .before .list-places .ensures in
-    rw (items-at (c .before .before .before .args .l) (c .before .before .before .args .w) (c .before .before .before .args .n) (e .2), e .0, sizes-optional) (room-offsets (c .before .before .before .pre) .below)
+    rw (items-at (c .before .before .before .args .l) (c .before .before .before .args .w) (c .before .before .before .args .n) (e .1 .1), e .0, sizes-optional) (room-offsets (c .before .before .before .pre) .below)
 
 lay-list-header-requires : tie.Need-lay-list-header-requires
 lay-list-header-requires c κs =
     let s = c .before .before .before .before .before in
-    let e = c .before .before .before .list-places .ensures in omega (arith, e .0, e .1, room-items (s .pre), list-ends (s .args .l .at) (s .args .w) (s .args .n), s .pre .below, s .pre .table)
+    let e = c .before .before .before .list-places .ensures in omega (arith, e .0, e .1 .0, room-items (s .pre), list-ends (s .args .l .at) (s .args .w) (s .args .n), s .pre .below, s .pre .table)
 
 div-lay-table : tie.Need-div-lay-table
 div-lay-table c = search needs
@@ -43,8 +43,8 @@ returns c =
     let offsets = c .before .before .before .before .before .before .before .before .address-of in
     let a = c .before .before .before .before .before .before .before .before .before .before .before .before .args in
     let e = list-places .ensures in
-    front-laid (a .vft) (a .w) (a .n) (list-places .result .table) (offsets .result) (list-places .result .parts) (e .0) (e .1)
-    (rw (items-at (a .l) (a .w) (a .n) (e .2), e .0, address-optional) at (offsets .ensures)) (c .before .before .before .before .before .before .lay-list-header .ensures) (c .before .before .lay-table .ensures)
+    front-laid (a .vft) (a .w) (a .n) (list-places .result .table) (offsets .result) (list-places .result .parts) (e .0) (e .1 .0)
+    (rw (items-at (a .l) (a .w) (a .n) (e .1 .1), e .0, address-optional) at (offsets .ensures)) (c .before .before .before .before .before .before .lay-list-header .ensures) (c .before .before .lay-table .ensures)
 
 pub lay-list-front-spec : {M : Type 1} → statement M
 lay-list-front-spec =

@@ -23,7 +23,7 @@ alloc-some-requires c κs =
     let a = s .args in
     let e = c .before .list-places .ensures in
     let k = partCount (a .w) (a .n) in
-    rw (e .0, sizes-optional k) (onward {l = a .l} (48 ∷ 16 * k ∷ partSizes (a .w) (a .n)) (offsetSizes k) (e .2) (record { below = s .pre .below }))
+    rw (e .0, sizes-optional k) (onward {l = a .l} (48 ∷ 16 * k ∷ partSizes (a .w) (a .n)) (offsetSizes k) (e .1 .1) (record { below = s .pre .below }))
 
 returns : tie.Need-returns
 returns c =
@@ -31,7 +31,7 @@ returns c =
     let e = c .before .before .list-places .ensures in
     let k = partCount (a .w) (a .n) in
     let offsets : sizeOf (4 * c .before .before .list-places .result .parts) ≡ offsetSizes k = ap (λ (j : ℕ). sizeOf (4 * j)) (e .0) ∙ sizes-optional k in
-    c .alloc-some .ensures ∙ ap (reached (c .before .before .list-places .result .items)) offsets ∙ joined (a .l) (48 ∷ 16 * k ∷ partSizes (a .w) (a .n)) (offsetSizes k) (e .2)
+    c .alloc-some .ensures ∙ ap (reached (c .before .before .list-places .result .items)) offsets ∙ joined (a .l) (48 ∷ 16 * k ∷ partSizes (a .w) (a .n)) (offsetSizes k) (e .1 .1)
 
 pub list-end-spec : {M : Type 1} → statement M
 list-end-spec =

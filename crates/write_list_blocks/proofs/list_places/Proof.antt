@@ -42,8 +42,7 @@ returns c =
     let part-count = c .before .before .before .before .part-count in
     let alloc = c .before .before .before .alloc in (
       part-count .ensures,
-      rw (alloc .ensures, part-count .ensures) at (c .before .before .start .ensures),
-      rw (c .before .alloc2 .ensures, alloc .ensures, part-count .ensures) at (c .parts-end .ensures),
+      (rw (alloc .ensures, part-count .ensures) at (c .before .before .start .ensures), rw (c .before .alloc2 .ensures, alloc .ensures, part-count .ensures) at (c .parts-end .ensures)),
     )
 
 pub list-places-spec : {M : Type 1} → statement M

@@ -26,8 +26,8 @@ returns : tie.Need-returns
 returns c =
     let after-write-list = c .before .before in
     let after-put-edges = after-write-list .before .before .before .before .before in
-    let before-put-edges = after-put-edges .before in
-    let entry = before-put-edges .before .before .before .before .before .before in
+    let after-ids = after-put-edges .before .before .before in
+    let entry = after-ids .before .before .before .before in
     let a = entry .args in
     let made = after-put-edges .put-edges .ensures in
     (relaid LIST-VFT-EDGES 8 (edge-words (areaIds (a .areas)) (cornersAt (a .strip .now) (a .n)) (a .work .now) _ (a .corners) (a .base) (entry .pre .1) (entry .pre .2) made) (after-write-list .write-list .ensures), made)

@@ -2,7 +2,7 @@
 -- and then that of the counts. `early`, `bad-leaf` and `at-last` are the three ends.
 use mathlib.Core.Path.{refl}
 use native.Mathlib.Omega.{arith}
-use Rattle.write_plan.proofs.Whole.{early, long, record-is, whole, room, held, bad-leaf, at-last}
+use Rattle.write_plan.proofs.Whole.{early, long, record-is, length-is, room, held, bad-leaf, at-last}
 use borrow.Author.Needs.{needs}
 use Rattle.write_plan.proofs.plan.Statement.{statement}
 use Rattle.write_plan.proofs.plan.Tie as tie
@@ -18,7 +18,7 @@ put-rest-requires c κs =
     let fine = c .before .before .before in
     let decided = fine .before .before .before .before .decide .ensures in
     let none = fine .enum-told .given .1 in
-    (long _ _ _ _ decided none, record-is _ _ _ _ decided none, whole _ _ _ _ decided none, room _ _ _ _ decided none)
+    (long _ _ _ _ decided none, record-is _ _ _ _ decided none, length-is _ _ _ _ decided none, room _ _ _ _ decided none)
 
 check-leaves-requires : tie.Need-check-leaves-requires
 check-leaves-requires c κs =

@@ -1,15 +1,15 @@
 -- `write_plan::put_leaves` meets its contract. The invariant, `Leafing`: the leaves that are left, stored from here, make the whole. Assumes nothing.
-use Prim.Native.Nat.{_-_, _/_, _%_, _^_}
+use Prim.Native.Nat.{_-_}
 use mathlib.Core.Path.{_∙_}
 use native.Mathlib.Omega.{arith}
 use borrow.Author.Needs.{needs}
-use Rattle.write_pages.specs.Sectors.{leaves, depthBy}
+use Rattle.write_pages.specs.Sectors.{leaves, depthOf}
 use Rattle.write_plan.proofs.Stored.{Leafing, leafing-start, leafing-turn, leafing-done}
 use Rattle.write_plan.proofs.put_leaves.Statement.{statement}
 use Rattle.write_plan.proofs.put_leaves.Tie as tie
 
 abbrev Inv-loop : tie.InvT-loop
-Inv-loop strip first n content b work₀ base depth lines at₀ i₀ work at i = Leafing strip (leaves (depthBy (content / 2 ^ 2 % 2)) b) first n base work₀ work at i
+Inv-loop strip first n content b work₀ base depth lines at₀ i₀ work at i = Leafing strip (leaves (depthOf content) b) first n base work₀ work at i
 
 abbrev μ-loop : tie.MeasureT-loop
 μ-loop strip first n content b work₀ base depth lines at₀ i₀ work at i = n - i
@@ -39,7 +39,7 @@ leaf-of-requires : tie.Need-leaf-of-requires Inv-loop μ-loop
 leaf-of-requires c κs =
     let lines = c .before .before .before in
     let depth = lines .before .depth-of .ensures in
-    (lines .lines-of .ensures, depth .1, depth .2)
+    (lines .lines-of .ensures, depth .1 .0, depth .1 .1)
 
 add-work : tie.Need-add-work Inv-loop μ-loop
 add-work c =

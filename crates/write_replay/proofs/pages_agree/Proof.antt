@@ -1,4 +1,4 @@
--- `write_replay::pages_agree` meets its contract: its callees' tests.
+-- `write_replay::pages_agree` meets its contract: `checksum`, `bytes_agree` and `stays_from` give the three parts of the definition, up to the length that `told_length` and `least` give; where one fails the answer is false.
 use mathlib.Core.Bool.{false≢true}
 use native.Mathlib.Omega.{arith}
 use Prim.Native.Nat.{ℕ, min}

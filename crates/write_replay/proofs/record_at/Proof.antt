@@ -1,4 +1,4 @@
--- `write_replay::record_at` meets its contract: its callees' equations.
+-- `write_replay::record_at` meets its contract: each place is the end that `end_of` gives of the part before it, and by its bounds they stand in order.
 use borrow.Author.Needs.{needs}
 use Rattle.write_replay.proofs.record_at.Statement.{statement}
 use Rattle.write_replay.proofs.record_at.Tie as tie

@@ -1,4 +1,4 @@
--- `write_replay::told_length` meets its contract: its callee's equations.
+-- `write_replay::told_length` meets its contract: `u32_le` gives the number, which is 0 where the record tells a length, and then the length itself.
 use mathlib.Core.Path.{sym, _∙_}
 use Rattle.write_replay.proofs.Records.{told-some, told-none}
 use borrow.Author.Needs.{needs}

@@ -17,7 +17,7 @@ first-portal-requires c κs =
     let after-bb-size = c .before .before .before .before .before in
     let after-counts = after-bb-size .before .before .before in
     let entry = after-counts .before .before .before .before in
-    entry .pre .0 .whole
+    entry .pre .0 .length-is
 
 lay-portals-requires : tie.Need-lay-portals-requires
 lay-portals-requires c κs =

@@ -18,7 +18,7 @@ first-point-requires : tie.Need-first-point-requires
 first-point-requires c κs =
     let after-work-places = c .before .before .before in
     let entry = after-work-places .before .before .before .before in
-    entry .pre .0 .whole
+    entry .pre .0 .length-is
 
 depth-of-requires : tie.Need-depth-of-requires
 depth-of-requires c κs = search needs

@@ -28,19 +28,27 @@ put-run-requires : tie.Need-put-run-requires Inv-loop μ-loop
 put-run-requires c κs = (omega (arith, c .before .before .before .loop .inv .within), omega (arith, c .before .before .before .loop .inv .fits, making-long _ _ _ _ _ (c .before .before .before .loop .inv)), c .before .run-at .ensures)
 
 add-made : tie.Need-add-made Inv-loop μ-loop
-add-made c = omega (arith, c .before .before .before .before .before .run-at .ensures .fits, c .before .before .before .before .before .before .before .loop .inv .fits, making-long _ _ _ _ _ (c .before .before .before .before .before .before .before .loop .inv))
+add-made c =
+    let after-run-at = c .before .before .before .before .before in
+    let at-loop = after-run-at .before .before in
+    omega (arith, after-run-at .run-at .ensures .fits, at-loop .loop .inv .fits, making-long _ _ _ _ _ (at-loop .loop .inv))
 
 loop-less : tie.Need-loop-less Inv-loop μ-loop
 loop-less c = omega (arith, c .before .before .before .before .before .run-at .ensures .goes-on, c .before .before .before .before .before .run-at .ensures .inside)
 
 loop-again : tie.Need-loop-again Inv-loop μ-loop
-loop-again c = making-turn _ _ _ _ _ (c .before .before .before .before .before .before .before .loop .inv) (omega (arith, c .before .before .before .before .before .before .before .loop .inv .within)) _ (c .before .before .before .before .before .run-at .ensures) _ (c .before .before .before .put-run .ensures)
+loop-again c =
+    let after-run-at = c .before .before .before .before .before in
+    let at-loop = after-run-at .before .before in
+    making-turn _ _ _ _ _ (at-loop .loop .inv) (omega (arith, at-loop .loop .inv .within)) _ (after-run-at .run-at .ensures) _ (c .before .before .before .put-run .ensures)
 
 same-length : tie.Need-same-length Inv-loop μ-loop
 same-length c = making-long _ _ _ _ _ (c .before .loop .inv)
 
 returns : tie.Need-returns Inv-loop μ-loop
-returns c = ((c .before .loop .inv .fits, making-done _ _ _ _ _ (c .before .loop .inv) (omega (arith, c .before .loop .inv .within))), making-long _ _ _ _ _ (c .before .loop .inv))
+returns c =
+    let at-loop = c .before in
+    (at-loop .loop .inv .fits, (making-done _ _ _ _ _ (at-loop .loop .inv) (omega (arith, at-loop .loop .inv .within)), making-long _ _ _ _ _ (at-loop .loop .inv)))
 
 pub make-strip-spec : {M : Type 1} → statement M
 make-strip-spec =

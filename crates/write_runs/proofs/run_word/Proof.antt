@@ -1,4 +1,4 @@
--- `write_runs::run_word` meets its contract: its callee's equation, and the sum however it is written.
+-- `write_runs::run_word` meets its contract: `u32_le` gives the word that is given; the test tells the one that grows, and `omega` compares its sum however it is written.
 use Prim.Native.Nat.{_/_}
 use native.Mathlib.Nat.{mod-lt, div-le-self}
 use native.Mathlib.Omega.{arith}

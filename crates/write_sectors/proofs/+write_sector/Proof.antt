@@ -1,22 +1,17 @@
--- The proof of the cycle of calls {write_sector}. The measure is the depth. What each step is asked is a law of proofs/Steps. Assumes nothing.
-use Prim.Native.Nat.{ℕ, suc, _+_, _-_, _*_, _^_, _<_}
-use mathlib.Core.Path.{_≡_, refl, subst}
-use mathlib.Core.List.{List}
-use native.Mathlib.Nat.{pow-suc}
+-- The proof of the cycle of calls {write_sector}. The measure is the depth. Where the box splits, what is known there (`Splitting`) goes through the laws of proofs/Steps: each sub's
+-- call has room behind what was written before it. Assumes nothing.
+use Prim.Native.Nat.{ℕ, _-_, _<_}
+use mathlib.Core.Path.{_≡_, refl}
 use native.Mathlib.Omega.{arith}
 use lib.ListN.{length}
 use denote.Ref.{now}
-use Rattle.math.specs.declared.vec3.Vec3.{Vec3 as Floats}
 use Rattle.quarters.specs.declared.quarter.QuarterBox.{QuarterBox}
-use Rattle.strip.specs.Cell.{NavPoint}
 use Rattle.strip.specs.Rows.{pointsAt}
-use Rattle.write_blocks.specs.Layout.{behind}
-use Rattle.write_pages.specs.Sectors.{leafIds, grown, from0}
+use Rattle.write_pages.specs.Sectors.{leafIds, from0}
 use Rattle.write_leaf_counts.specs.Work.{boxesIn, pickedFrom}
-use Rattle.write_quadtree.proofs.Widths.{down}
+use Rattle.write_quadtree.proofs.Dividing.{down, four}
 use Rattle.write_leaves.specs.declared.SectorCursor.{SectorCursor}
-use Rattle.write_leaves.specs.Written.{TreeRoom}
-use Rattle.write_sectors.proofs.Steps.{Stand, first-small, next0, next1, next2, next3, stand1, stand2, stand3, grown-wrote}
+use Rattle.write_sectors.proofs.Steps.{Stand, Splitting, first-small, next0, next1, next2, next3, grown-wrote}
 use borrow.Author.Needs.{needs}
 use borrow.Fn.Kinds.{In}
 use borrow.Fn.PlainCycle.{Measures, is, falls, and}
@@ -71,12 +66,6 @@ module _ (t : ℕ) where
   abbrev W1 : Type 0
   W1 = write-sector-lts.After-write-sector (calls t) (write-sector-at t) write-sector.Post
 
-  abbrev W2 : Type 0
-  W2 = write-sector-lts.After-write-sector2 (calls t) (write-sector-at t) write-sector.Post
-
-  abbrev W3 : Type 0
-  W3 = write-sector-lts.After-write-sector3 (calls t) (write-sector-at t) write-sector.Post
-
   abbrev split-of : Own → Halved
   split-of c =
       let after-pad = c .before .before .before in
@@ -90,86 +79,39 @@ module _ (t : ℕ) where
   abbrev own1 : W1 → Own
   own1 c = c .before .before
 
-  abbrev own2 : W2 → Own
-  own2 c = own1 (c .before .before .before .before)
-
-  abbrev own3 : W3 → Own
-  own3 c = own2 (c .before .before .before .before)
-
   abbrev some : (c : Own) → start c .args .depth ≡ 0 → ⊥
   some c = split-of c .before .if1 .left
 
-  module _ (s : Begin) where
-    abbrev ids : QuarterBox → List ℕ
-    ids q = leafIds q 0 (boxesIn (now (s .args .boxes)))
-
-    abbrev stored : ℕ → List NavPoint
-    stored k = pickedFrom (now (s .args .leaf-numbers)) k 0 (pointsAt (now (s .args .strip)) (s .args .points .at) (length (now (s .args .leaf-numbers))))
-
-    abbrev d : ℕ
-    d = s .args .depth - 1
-
-    module _ (h : s .args .depth ≡ 0 → ⊥) where
-      room : TreeRoom (grown ids stored (suc d) (s .args .spot .leaf) (s .args .b)) (s .args .spot .layout .at) (s .args .spot .first)
-      room =
-          subst (λ (n : ℕ). TreeRoom (grown ids stored n (s .args .spot .leaf) (s .args .b)) (s .args .spot .layout .at) (s .args .spot .first)) (down (s .args .depth) h)
-          (s .pre .1 .1)
-
-      own-small : behind (s .args .spot .layout .at) 96 < 2 ^ 28
-      own-small = first-small (grown ids stored (suc d) (s .args .spot .leaf) (s .args .b)) room
-
-      wide : s .args .spot .leaf + 4 * 4 ^ d < 2 ^ 32
-      wide =
-          let p : s .args .spot .leaf + 4 ^ suc d < 2 ^ 32 = subst (λ (n : ℕ). s .args .spot .leaf + 4 ^ n < 2 ^ 32) (down (s .args .depth) h) (s .pre .1 .0 .0) in
-          let q = pow-suc 4 d in
-          omega arith
-
-      falls-to : d < t
-      falls-to = omega (arith, s .pre .0, down (s .args .depth) h)
+  -- what is known where the box was split, and where the writer stands behind the sector's own place
+  abbrev of : Own → Splitting
+  of c =
+      let s = start c in
+      let subs-are = split-of c .split .ensures in
+      record {
+        bb-min = s .args .points .«bb_min»;
+        bb-size = s .args .points .«bb_size»;
+        ids = λ q. leafIds q 0 (boxesIn (now (s .args .boxes)));
+        stored = λ k. pickedFrom (now (s .args .leaf-numbers)) k 0 (pointsAt (now (s .args .strip)) (s .args .points .at) (length (now (s .args .leaf-numbers))));
+        depth = s .args .depth;
+        d = s .args .depth - 1;
+        b = s .args .b;
+        cursor = s .args .cursor;
+        subs = split-of c .split .result;
+        boxes = (subs-are .0, subs-are .1 .0, subs-are .1 .1 .0, subs-are .1 .1 .1);
+        deep = down (s .args .depth) (some c);
+        numbers = omega (arith, four (s .args .depth) (some c), s .pre .1 .0 .0);
+        room = s .pre .1 .1;
+      }
 
   abbrev p0 : Own → SectorCursor
-  p0 c = record { layout = c .alloc .result; leaf = start c .args .spot .leaf; first = start c .args .spot .first }
+  p0 c = record { layout = c .alloc .result; leaf = start c .args .cursor .leaf; first = start c .args .cursor .first }
 
-  stand0 : (c : Own) → Stand (p0 c) (from0 (start c .args .spot .layout .at)) (start c .args .spot .leaf) (start c .args .spot .first)
+  stand0 : (c : Own) → Stand (p0 c) (from0 (start c .args .cursor .layout .at)) (start c .args .cursor .leaf) (start c .args .cursor .first)
   stand0 c = record { ends = at-of (c .alloc .ensures); leaves = refl; points = refl }
 
-  abbrev lo : Own → Floats
-  lo c = start c .args .points .«bb_min»
-
-  abbrev size : Own → Floats
-  size c = start c .args .points .«bb_size»
-
-  room0 : (c : Own) → TreeRoom (grown (ids (start c)) (stored (start c)) (d (start c)) (p0 c .leaf) (split-of c .split .result .s0)) (p0 c .layout .at) (p0 c .first)
-  room0 c =
-      let s = start c in next0 (lo c) (size c) (ids s) (stored s) (d s) (s .args .b) (s .args .spot) (room s (some c)) (split-of c .split .ensures .0) (stand0 c)
-
-  at1 : (c : W1) → let k = own1 c in c .write-sector .result .leaf ≡ start k .args .spot .leaf + 4 ^ d (start k)
-  at1 c =
-      let k = own1 c in let s = start k in stand1 (lo k) (size k) (ids s) (stored s) (d s) (s .args .b) (s .args .spot) (room s (some k)) (split-of k .split .ensures .0) (stand0 k) (split-of k .split .ensures .1) (c .write-sector .ensures) .leaves
-
-  room1 : (c : W1) → let k = own1 c in let p = c .write-sector .result in TreeRoom (grown (ids (start k)) (stored (start k)) (d (start k)) (p .leaf) (split-of k .split .result .s1)) (p .layout .at) (p .first)
-  room1 c =
-      let k = own1 c in let s = start k in next1 (lo k) (size k) (ids s) (stored s) (d s) (s .args .b) (s .args .spot) (room s (some k)) (split-of k .split .ensures .0) (stand0 k) (split-of k .split .ensures .1) (c .write-sector .ensures)
-
-  at2 : (c : W2) → let k = own2 c in c .write-sector2 .result .leaf ≡ start k .args .spot .leaf + 2 * 4 ^ d (start k)
-  at2 c =
-      let k = own2 c in let s = start k in stand2 (lo k) (size k) (ids s) (stored s) (d s) (s .args .b) (s .args .spot) (room s (some k)) (split-of k .split .ensures .0) (stand0 k) (split-of k .split .ensures .1) (c .before .before .before .before .write-sector .ensures) (split-of k .split .ensures .2) (c .write-sector2 .ensures) .leaves
-
-  room2 : (c : W2) → let k = own2 c in let p = c .write-sector2 .result in TreeRoom (grown (ids (start k)) (stored (start k)) (d (start k)) (p .leaf) (split-of k .split .result .s2)) (p .layout .at) (p .first)
-  room2 c =
-      let k = own2 c in let s = start k in next2 (lo k) (size k) (ids s) (stored s) (d s) (s .args .b) (s .args .spot) (room s (some k)) (split-of k .split .ensures .0) (stand0 k) (split-of k .split .ensures .1) (c .before .before .before .before .write-sector .ensures) (split-of k .split .ensures .2) (c .write-sector2 .ensures)
-
-  at3 : (c : W3) → let k = own3 c in c .write-sector3 .result .leaf ≡ start k .args .spot .leaf + 3 * 4 ^ d (start k)
-  at3 c =
-      let after-write-sector2 = c .before .before .before .before in
-      let after-write-sector = after-write-sector2 .before .before .before .before in
-      let k = own3 c in let s = start k in stand3 (lo k) (size k) (ids s) (stored s) (d s) (s .args .b) (s .args .spot) (room s (some k)) (split-of k .split .ensures .0) (stand0 k) (split-of k .split .ensures .1) (after-write-sector .write-sector .ensures) (split-of k .split .ensures .2) (after-write-sector2 .write-sector2 .ensures) (split-of k .split .ensures .3) (c .write-sector3 .ensures) .leaves
-
-  room3 : (c : W3) → let k = own3 c in let p = c .write-sector3 .result in TreeRoom (grown (ids (start k)) (stored (start k)) (d (start k)) (p .leaf) (split-of k .split .result .s3)) (p .layout .at) (p .first)
-  room3 c =
-      let after-write-sector2 = c .before .before .before .before in
-      let after-write-sector = after-write-sector2 .before .before .before .before in
-      let k = own3 c in let s = start k in next3 (lo k) (size k) (ids s) (stored s) (d s) (s .args .b) (s .args .spot) (room s (some k)) (split-of k .split .ensures .0) (stand0 k) (split-of k .split .ensures .1) (after-write-sector .write-sector .ensures) (split-of k .split .ensures .2) (after-write-sector2 .write-sector2 .ensures) (split-of k .split .ensures .3) (c .write-sector3 .ensures)
+  -- the measure falls
+  below : (c : Own) → start c .args .depth - 1 < t
+  below c = omega (arith, start c .pre .0, down (start c .args .depth) (some c))
 
 write-sector-write-leaf-requires : (t : ℕ) → write-sector-lts.Need-write-leaf-requires (calls t) (write-sector-at t) write-sector.Post
 write-sector-write-leaf-requires t c κs =
@@ -193,45 +135,43 @@ write-sector-split-requires t c κs = tt
 write-sector-pad-requires : (t : ℕ) → write-sector-lts.Need-pad-requires (calls t) (write-sector-at t) write-sector.Post
 write-sector-pad-requires t c κs =
     let tested = c .before .before .before in
-    own-small t (tested .before .before .before .before .before) (tested .if1 .left)
+    first-small _ (tested .before .before .before .before .before .pre .1 .1)
 
 write-sector-alloc-requires : (t : ℕ) → write-sector-lts.Need-alloc-requires (calls t) (write-sector-at t) write-sector.Post
 write-sector-alloc-requires t c κs =
     let after-pad = c .before .before in
     let tested = after-pad .before .before .before .before in
-    own-small t (tested .before .before .before .before .before) (tested .if1 .left)
+    first-small _ (tested .before .before .before .before .before .pre .1 .1)
 
 write-sector-write-sector-requires : (t : ℕ) → write-sector-lts.Need-write-sector-requires (calls t) (write-sector-at t) write-sector.Post
 write-sector-write-sector-requires t c κs =
-    let q = c .before in
-    let k = q in
-    let s = start t k in
-    let w = wide t s (some t k) in
-    (falls-to t s (some t k), ((omega arith, s .pre .1 .0 .1), room0 t q))
+    let k = c .before in
+    let r = next0 (of t k) (stand0 t k) in
+    (below t k, ((r .numbers, start t k .pre .1 .0 .1), r .room))
 
 write-sector-write-sector-requires-2 : (t : ℕ) → write-sector-lts.Need-write-sector-requires-2 (calls t) (write-sector-at t) write-sector.Post
 write-sector-write-sector-requires-2 t c κs =
-    let q = c .before .before .before in
-    let k = own1 t q in
-    let s = start t k in
-    let w = wide t s (some t k) in
-    (falls-to t s (some t k), ((omega (arith, at1 t q), s .pre .1 .0 .1), room1 t q))
+    let c1 = c .before .before .before in
+    let k = own1 t c1 in
+    let r = next1 (of t k) (stand0 t k) (c1 .write-sector .ensures) in
+    (below t k, ((r .numbers, start t k .pre .1 .0 .1), r .room))
 
 write-sector-write-sector-requires-3 : (t : ℕ) → write-sector-lts.Need-write-sector-requires-3 (calls t) (write-sector-at t) write-sector.Post
 write-sector-write-sector-requires-3 t c κs =
-    let q = c .before .before .before in
-    let k = own2 t q in
-    let s = start t k in
-    let w = wide t s (some t k) in
-    (falls-to t s (some t k), ((omega (arith, at2 t q), s .pre .1 .0 .1), room2 t q))
+    let c2 = c .before .before .before in
+    let c1 = c2 .before .before .before .before in
+    let k = own1 t c1 in
+    let r = next2 (of t k) (stand0 t k) (c1 .write-sector .ensures) (c2 .write-sector2 .ensures) in
+    (below t k, ((r .numbers, start t k .pre .1 .0 .1), r .room))
 
 write-sector-write-sector-requires-4 : (t : ℕ) → write-sector-lts.Need-write-sector-requires-4 (calls t) (write-sector-at t) write-sector.Post
 write-sector-write-sector-requires-4 t c κs =
-    let q = c .before .before .before in
-    let k = own3 t q in
-    let s = start t k in
-    let w = wide t s (some t k) in
-    (falls-to t s (some t k), ((omega (arith, at3 t q), s .pre .1 .0 .1), room3 t q))
+    let c3 = c .before .before .before in
+    let c2 = c3 .before .before .before .before in
+    let c1 = c2 .before .before .before .before in
+    let k = own1 t c1 in
+    let r = next3 (of t k) (stand0 t k) (c1 .write-sector .ensures) (c2 .write-sector2 .ensures) (c3 .write-sector3 .ensures) in
+    (below t k, ((r .numbers, start t k .pre .1 .0 .1), r .room))
 
 write-sector-put-node-requires : (t : ℕ) → write-sector-lts.Need-put-node-requires (calls t) (write-sector-at t) write-sector.Post
 write-sector-put-node-requires t c κs =
@@ -239,11 +179,15 @@ write-sector-put-node-requires t c κs =
     let c3 = c4 .before .before .before .before in
     let c2 = c3 .before .before .before .before in
     let c1 = c2 .before .before .before .before in
-    let k = own1 t c1 in (
-      first-small _ (room0 t k),
-      first-small _ (room1 t c1),
-      first-small _ (room2 t c2),
-      first-small _ (room3 t c3),
+    let k = own1 t c1 in
+    let f = of t k in
+    let s = stand0 t k in
+    let w0 = c1 .write-sector .ensures in
+    let w1 = c2 .write-sector2 .ensures in (
+      first-small _ (next0 f s .room),
+      first-small _ (next1 f s w0 .room),
+      first-small _ (next2 f s w0 w1 .room),
+      first-small _ (next3 f s w0 w1 (c3 .write-sector3 .ensures) .room),
     )
 
 write-sector-same-length-2 : (t : ℕ) → write-sector-lts.Need-same-length-2 (calls t) (write-sector-at t) write-sector.Post
@@ -273,9 +217,9 @@ write-sector-returns-2 t c =
     let c1 = c2 .before .before .before .before in
     let k = own1 t c1 in
     let s = start t k in
-    let e = split-of t k .split .ensures in
-    grown-wrote (lo t k) (size t k) (ids t s) (stored t s) (d t s) (s .args .b) (s .args .spot) (room t s (some t k)) (e .0) (stand0 t k) (e .1) (c1 .write-sector .ensures) (e .2) (c2 .write-sector2 .ensures) (e .3) (c3 .write-sector3 .ensures)
-    (now (s .args .out)) (k .alloc .ensures) (k .before .before .before .pad .ensures .1) (c4 .write-sector4 .ensures) (k .before .before .before .pad .ensures .0) (c .before .before .put-node .ensures) (down (s .args .depth) (some t k))
+    let after-pad = k .before .before .before in
+    grown-wrote (of t k) (stand0 t k) (c1 .write-sector .ensures) (c2 .write-sector2 .ensures) (c3 .write-sector3 .ensures) (now (s .args .out)) (k .alloc .ensures) (after-pad .pad .ensures .1)
+    (c4 .write-sector4 .ensures) (after-pad .pad .ensures .0) (after-put-node .put-node .ensures)
 
 pub +write-sector-spec : {M : Type 1} → statement M
 +write-sector-spec = close μ-write-sector λ t. write-sector-lts.spec (calls t)

@@ -36,17 +36,19 @@ with-record-requires : tie.Need-with-record-requires Inv-loop μ-loop
 with-record-requires c κs = (omega arith, c .record-at .ensures .1, c .before .before .before .before .loop .inv .2)
 
 loop-less : tie.Need-loop-less Inv-loop μ-loop
-loop-less c = omega (arith, c .before .record-at .ensures .1 .starts, c .before .record-at .ensures .1 .whole, c .before .record-at .ensures .1 .behind)
+loop-less c = omega (arith, c .before .record-at .ensures .1 .starts, c .before .record-at .ensures .1 .to-bytes, c .before .record-at .ensures .1 .to-next)
 
 loop-again : tie.Need-loop-again Inv-loop μ-loop
 loop-again c =
-    let here = c .before .before .before .before .before .loop in
+    let at-loop = c .before .before .before .before .before in
+    let entry = at-loop .before .before in
+    let here = at-loop .loop in
     let r = c .before .record-at in
-    let all = now (c .before .before .before .before .before .before .before .args .list) in
+    let all = now (entry .args .list) in
     let stands = r .ensures .1 in (
       stands .within,
       one-record _ _ (λ (k : ℕ) (z : Record). Agrees all k z) (λ (k : ℕ). recordOf all k) (λ (z : Record). z .next) _ _ (r .result) _ _ (here .inv .1) (omega arith, omega (arith, c .before .before .before .u32-le .ensures)) (r .ensures .0) (c .with-record .ensures .0),
-      later _ _ _ _ (c .with-record .ensures .1) (omega (arith, stands .starts, stands .whole, stands .behind)),
+      later _ _ _ _ (c .with-record .ensures .1) (omega (arith, stands .starts, stands .to-bytes, stands .to-next)),
     )
 
 returns-2 : tie.Need-returns-2 Inv-loop μ-loop

@@ -1,4 +1,4 @@
--- `write_vectors::write_record` meets its contract: its callee's equations.
+-- `write_vectors::write_record` meets its contract: `u32_le` and `least` give how many words of work and how many bytes of pages are lent, and `serialize_ynv` decides on these; what is not lent stays.
 use native.Mathlib.Omega.{arith}
 use Prim.Native.Nat.{ℕ, min}
 use mathlib.Core.Path.{ap, _∙_}
@@ -16,7 +16,15 @@ slice-aggregate-serialize-ynv-2 : tie.Need-slice-aggregate-serialize-ynv-2
 slice-aggregate-serialize-ynv-2 c = simp length-take (omega arith)
 
 returns : tie.Need-returns
-returns c = let d = c .before .before .before .before .before .before .before .before .least .ensures ∙ ap (λ (w : ℕ). min w 856000) (c .before .before .before .before .before .before .before .before .before .u32-le .ensures) in let e = c .before .before .before .before .before .before .least2 .ensures ∙ ap (λ (w : ℕ). min w (length (now (c .before .before .before .before .before .before .before .before .before .before .before .before .before .before .args .pages)))) (c .before .before .before .before .before .before .before .u32-le2 .ensures) in (answered _ _ (now (c .before .before .before .before .before .before .before .before .before .before .before .before .before .before .args .strip)) (c .before .before .before .before .before .before .before .before .before .before .work-room .result) (now (c .before .before .before .before .before .before .before .before .before .before .before .before .before .before .args .pages)) _ d (c .before .before .before .before .before .before .before .before .before .before .work-room .ensures) _ e _ (c .before .before .before .serialize-ynv .ensures .0), pages-left _ _ (now (c .before .before .before .before .before .before .before .before .before .before .before .before .before .before .args .strip)) (c .before .before .before .before .before .before .before .before .before .before .work-room .result) (now (c .before .before .before .before .before .before .before .before .before .before .before .before .before .before .args .pages)) _ d (c .before .before .before .before .before .before .before .before .before .before .work-room .ensures) _ e _ (c .before .before .before .serialize-ynv .ensures .1 .0))
+returns c =
+    let after-work = c .before .before .before .before .before in
+    let after-least2 = after-work .before in
+    let after-u32-le2 = after-least2 .before in
+    let after-least = after-u32-le2 .before in
+    let after-u32-le = after-least .before in
+    let after-work-room = after-u32-le .before in
+    let entry = after-work-room .before .before .before .before in
+    let d = after-least .least .ensures ∙ ap (λ (w : ℕ). min w 856000) (after-u32-le .u32-le .ensures) in let e = after-least2 .least2 .ensures ∙ ap (λ (w : ℕ). min w (length (now (entry .args .pages)))) (after-u32-le2 .u32-le2 .ensures) in (answered _ _ (now (entry .args .strip)) (after-work-room .work-room .result) (now (entry .args .pages)) _ d (after-work-room .work-room .ensures) _ e _ (c .before .before .before .serialize-ynv .ensures .0), pages-left _ _ (now (entry .args .strip)) (after-work-room .work-room .result) (now (entry .args .pages)) _ d (after-work-room .work-room .ensures) _ e _ (c .before .before .before .serialize-ynv .ensures .1 .0))
 
 pub write-record-spec : {M : Type 1} → statement M
 write-record-spec =

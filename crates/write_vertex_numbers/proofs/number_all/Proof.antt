@@ -21,16 +21,22 @@ tree-count-requires : tie.Need-tree-count-requires
 tree-count-requires c κs = search needs
 
 number-in-requires : tie.Need-number-in-requires
-number-in-requires c κs = let m = length (c .before .before .before .before .before .before .args .triples .now) / 2 in
+number-in-requires c κs =
+    let after-if1 = c .before .before .before in
+    let entry = after-if1 .before .before .before in
+    let m = length (entry .args .triples .now) / 2 in
     let some : 0 < m = omega (arith, c .before .before .if2 .left) in
     let fit = trees-fit m _ some (c .before .tree-count .ensures) in
-    (fit .0, omega (arith, fit .1), omega arith, omega (arith, fit .2, c .before .before .before .if1 .left), omega (arith, c .before .tree-count .ensures))
+    (fit .0, omega (arith, fit .1), omega arith, omega (arith, fit .2, after-if1 .if1 .left), omega (arith, c .before .tree-count .ensures))
 
 same-length : tie.Need-same-length
 same-length c = search needs
 
 returns-3 : tie.Need-returns-3
-returns-3 c = enough _ _ _ _ _ _ (length-met _ _ _) (c .before .before .before .before .before .before .if1 .left) (c .before .before .before .before .tree-count .ensures) (c .before .before .number-in .ensures)
+returns-3 c =
+    let after-if2 = c .before .before .before .before .before in
+    let after-if1 = after-if2 .before in
+    enough _ _ _ _ _ _ (length-met _ _ _) (after-if1 .if1 .left) (c .before .before .before .before .tree-count .ensures) (c .before .before .number-in .ensures)
 
 pub number-all-spec : {M : Type 1} → statement M
 number-all-spec =

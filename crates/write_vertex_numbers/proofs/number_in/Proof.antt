@@ -24,32 +24,51 @@ abbrev μ-loop : tie.MeasureT-loop
 μ-loop triples m work₀ buckets n₀ i₀ work n i = m - i
 
 -- at the loop's head: the slice is as long as it was lent, so the tail begins within it
-long : (c : tie.At-loop Inv-loop μ-loop) → length (c .loop .work) ≡ length (c .before .before .before .before .before .before .before .args .work .now)
+long : (c : tie.At-loop Inv-loop μ-loop) →
+    let after-clear = c .before .before .before in
+    let entry = after-clear .before .before .before .before in
+    length (c .loop .work) ≡ length (entry .args .work .now)
 long c =
-    let a = c .before .before .before .before .before .before .before .args in
-    c .loop .inv .0 ∙ back-length (a .m) (a .work .now) (omega (arith, c .before .before .before .before .before .before .before .pre)) (c .before .before .before .clear .last .0) (c .before .before .before .clear .kept .0)
+    let after-clear = c .before .before .before in
+    let entry = after-clear .before .before .before .before in
+    let a = entry .args in
+    c .loop .inv .0 ∙ back-length (a .m) (a .work .now) (omega (arith, entry .pre)) (after-clear .clear .last .0) (after-clear .clear .kept .0)
 
-within : (c : tie.At-loop Inv-loop μ-loop) → c .before .before .before .before .before .before .before .args .m ≤ length (c .loop .work)
-within c = omega (arith, long c, c .before .before .before .before .before .before .before .pre)
+within : (c : tie.At-loop Inv-loop μ-loop) →
+    let after-clear = c .before .before .before in
+    let entry = after-clear .before .before .before .before in
+    entry .args .m ≤ length (c .loop .work)
+within c =
+    let after-clear = c .before .before .before in
+    let entry = after-clear .before .before .before .before in
+    omega (arith, long c, entry .pre)
 
 -- the words at the loop's start: the tail's roots are cleared
 abbrev begun : (c : tie.At-loop Inv-loop μ-loop) → List ℕ
-begun c = let a = c .before .before .before .before .before .before .before .args in
-    putMid (a .m) (length (a .work .now) - a .m) (a .work .now) (c .before .before .before .clear .last .0)
+begun c =
+    let after-clear = c .before .before .before in
+    let entry = after-clear .before .before .before .before in
+    let a = entry .args in
+    putMid (a .m) (length (a .work .now) - a .m) (a .work .now) (after-clear .clear .last .0)
 
 -- after a lookup
 step : (c : tie.After-vertex-index Inv-loop μ-loop) →
-    let a = c .before .before .before .before .before .before .before .before .before .before .before .args in
-    let at = c .before .before .before .before .loop in
-    Step (met (a .triples .now) 0 (a .m)) (a .m) (a .buckets) (drop (a .m) (begun (c .before .before .before .before))) (take (a .m) (begun (c .before .before .before .before)))
+    let at-loop = c .before .before .before .before in
+    let after-clear = at-loop .before .before .before in
+    let entry = after-clear .before .before .before .before in
+    let a = entry .args in
+    let at = at-loop .loop in
+    Step (met (a .triples .now) 0 (a .m)) (a .m) (a .buckets) (drop (a .m) (begun at-loop)) (take (a .m) (begun at-loop))
     (drop (a .m) (at .work)) (take (a .m) (at .work)) (at .n) (at .i) (c .before .before .whole-triple-at .result) (c .vertex-index .last .0) (c .vertex-index .result)
-step c = record {
-  going = c .before .before .before .before .loop .inv .1;
-  size = length-met _ _ _;
-  more = c .before .before .before .loop-test .taken;
-  key = given-at _ _ _ _ (c .before .before .before .loop-test .taken) (c .before .before .whole-triple-at .ensures .0);
-  looked = rw (lent _ _) at (c .vertex-index .ensures);
-}
+step c =
+    let tested = c .before .before .before in
+    record {
+      going = tested .before .loop .inv .1;
+      size = length-met _ _ _;
+      more = tested .loop-test .taken;
+      key = given-at _ _ _ _ (tested .loop-test .taken) (c .before .before .whole-triple-at .ensures .0);
+      looked = rw (lent _ _) at (c .vertex-index .ensures);
+    }
 
 mul-clear : tie.Need-mul-clear Inv-loop μ-loop
 mul-clear c = search needs
@@ -67,16 +86,22 @@ clear-requires : tie.Need-clear-requires Inv-loop μ-loop
 clear-requires c κs = search needs
 
 loop-holds : tie.Need-loop-holds Inv-loop μ-loop
-loop-holds c = let a = c .before .before .before .before .before .before .args in
+loop-holds c =
+    let after-clear = c .before .before in
+    let entry = after-clear .before .before .before .before in
+    let a = entry .args in
     let w = a .work .now in
-    let h : a .m ≤ length w = omega (arith, c .before .before .before .before .before .before .pre) in
-    (refl, start _ _ _ (drop (a .m) w) _ _ (c .before .before .before .before .before .before .pre .0) (c .before .before .before .before .before .before .pre .1) (omega (arith, c .before .before .before .before .before .before .pre, length-drop (a .m) w)) (tail-cleared (a .m) _ w h _ (c .before .before .clear .kept .0) (c .before .before .clear .ensures)))
+    let h : a .m ≤ length w = omega (arith, entry .pre) in
+    (refl, start _ _ _ (drop (a .m) w) _ _ (entry .pre .0) (entry .pre .1) (omega (arith, entry .pre, length-drop (a .m) w)) (tail-cleared (a .m) _ w h _ (after-clear .clear .kept .0) (after-clear .clear .ensures)))
 
 mul-whole-triple-at : tie.Need-mul-whole-triple-at Inv-loop μ-loop
 mul-whole-triple-at c = search needs
 
 whole-triple-at-requires : tie.Need-whole-triple-at-requires Inv-loop μ-loop
-whole-triple-at-requires c κs = omega (arith, c .loop-test .taken, c .before .before .before .before .before .before .before .before .pre .2)
+whole-triple-at-requires c κs =
+    let after-clear = c .before .before .before .before in
+    let entry = after-clear .before .before .before .before in
+    omega (arith, c .loop-test .taken, entry .pre .2)
 
 mul-vertex-index : tie.Need-mul-vertex-index Inv-loop μ-loop
 mul-vertex-index c = search needs
@@ -91,10 +116,15 @@ part-vertex-index-end : tie.Need-part-vertex-index-end Inv-loop μ-loop
 part-vertex-index-end c = search needs
 
 vertex-index-requires : tie.Need-vertex-index-requires Inv-loop μ-loop
-vertex-index-requires c κs = let g = c .before .before .before .loop .inv .1 in
-    let a = c .before .before .before .before .before .before .before .before .before .before .args in
-    rw (lent (a .m) (c .before .before .before .loop .work))
-    (record { table = g .table; trees = tree-left (a .m) _ _ (c .before .before .before .before .before .before .before .before .before .before .pre .4) (omega (arith, g .few, c .before .before .loop-test .taken)); more = omega (arith, g .few, length-drop (a .m) (c .before .before .before .loop .work), long (c .before .before .before), c .before .before .loop-test .taken, c .before .before .before .before .before .before .before .before .before .before .pre); short = c .before .whole-triple-at .ensures .1 })
+vertex-index-requires c κs =
+    let tested = c .before .before in
+    let at-loop = tested .before in
+    let after-clear = at-loop .before .before .before in
+    let entry = after-clear .before .before .before .before in
+    let g = at-loop .loop .inv .1 in
+    let a = entry .args in
+    rw (lent (a .m) (at-loop .loop .work))
+    (record { table = g .table; trees = tree-left (a .m) _ _ (entry .pre .4) (omega (arith, g .few, tested .loop-test .taken)); more = omega (arith, g .few, length-drop (a .m) (at-loop .loop .work), long at-loop, tested .loop-test .taken, entry .pre); short = c .before .whole-triple-at .ensures .1 })
 
 enum-known-known : tie.Need-enum-known-known Inv-loop μ-loop
 enum-known-known c = search needs
@@ -115,14 +145,19 @@ same-length : tie.Need-same-length Inv-loop μ-loop
 same-length c = search needs
 
 returns : tie.Need-returns Inv-loop μ-loop
-returns c = let a = c .before .before .before .before .before .before .before .before .before .before .before .before .before .before .before .args in
-    let w = c .before .before .before .before .before .before .before .before .loop .work in
-    let h = within (c .before .before .before .before .before .before .before .before) in
-    let f = c .before .before .before .before .vertex-index in
-    let first = c .before .before .before .before .before .before .before .before .before .before .before .clear in
-    let fits = c .before .before .before .before .before .before .before .before .before .before .before .before .before .before .before .pre in
+returns c =
+    let after-vertex-index = c .before .before .before .before in
+    let at-loop = after-vertex-index .before .before .before .before in
+    let after-clear = at-loop .before .before .before in
+    let entry = after-clear .before .before .before .before in
+    let a = entry .args in
+    let w = at-loop .loop .work in
+    let h = within at-loop in
+    let f = after-vertex-index .vertex-index in
+    let first = after-clear .clear in
+    let fits = entry .pre in
     finish (a .m) _ (a .work .now) (omega (arith, fits)) (first .last .0) (first .kept .0) (first .ensures) (omega (arith, fits)) _ _ _
-    (rw (back-drop (a .m) w h (f .last .0) (f .kept .0), back-take (a .m) w h (f .last .0) (f .kept .0)) (over (step (c .before .before .before .before)) (c .enum-told .given .1)))
+    (rw (back-drop (a .m) w h (f .last .0) (f .kept .0), back-take (a .m) w h (f .last .0) (f .kept .0)) (over (step after-vertex-index) (c .enum-told .given .1)))
 
 add-i : tie.Need-add-i Inv-loop μ-loop
 add-i c = search needs
@@ -131,26 +166,35 @@ loop-less : tie.Need-loop-less Inv-loop μ-loop
 loop-less c = search needs
 
 loop-again : tie.Need-loop-again Inv-loop μ-loop
-loop-again c = let m = c .before .before .before .before .before .before .before .before .before .before .before .before .before .before .before .before .args .m in
-    let at = c .before .before .before .before .before .before .before .before .before .loop in
-    let h = within (c .before .before .before .before .before .before .before .before .before) in
-    let f = c .before .before .before .before .before .vertex-index in
+loop-again c =
+    let after-vertex-index = c .before .before .before .before .before in
+    let tested = after-vertex-index .before .before .before in
+    let at-loop = tested .before in
+    let after-clear = at-loop .before .before .before in
+    let entry = after-clear .before .before .before .before in
+    let m = entry .args .m in
+    let at = at-loop .loop in
+    let h = within at-loop in
+    let f = after-vertex-index .vertex-index in
     let e = f .last .0 in
     let l = f .kept .0 in
     let k = c .before .known .given .0 .0 in
-    let q = c .before .before .before .before .before .before .before .before .loop-test .taken in (
+    let q = tested .loop-test .taken in (
       store-length m (at .work) h e l (at .i) k ∙ at .inv .0,
       rw (store-drop m (at .work) h e l (at .i) k (omega arith), store-take m (at .work) h e l (at .i) k (omega arith))
-          (turn (step (c .before .before .before .before .before)) (c .before .known .given .1) (omega (arith, at .inv .1 .left .long, length-take-le m (at .work) h))),
+          (turn (step after-vertex-index) (c .before .known .given .1) (omega (arith, at .inv .1 .left .long, length-take-le m (at .work) h))),
     )
 
 same-length-2 : tie.Need-same-length-2 Inv-loop μ-loop
 same-length-2 c = search needs
 
 returns-2 : tie.Need-returns-2 Inv-loop μ-loop
-returns-2 c = let a = c .before .before .before .before .before .before .before .before .args in
-    let first = c .before .before .before .before .clear in
-    let fits = c .before .before .before .before .before .before .before .before .pre in
+returns-2 c =
+    let after-clear = c .before .before .before .before in
+    let entry = after-clear .before .before .before .before in
+    let a = entry .args in
+    let first = after-clear .clear in
+    let fits = entry .pre in
     finish (a .m) _ (a .work .now) (omega (arith, fits)) (first .last .0) (first .kept .0) (first .ensures) (omega (arith, fits)) _ _ _
     (done _ _ _ _ _ _ _ _ _ (length-met _ _ _) (c .loop-test .left) (c .before .loop .inv .1))
 

@@ -4,7 +4,7 @@ use Prim.Native.Nat.{ℕ, _+_, _*_, _-_, _<_}
 use native.Mathlib.Omega.{arith}
 use mathlib.Core.Path.{sym, ap, _∙_}
 use borrow.Author.Needs.{needs}
-use Rattle.write_vertices.specs.Table.{halfAt, child}
+use Rattle.write_vertices.specs.Table.{halfWordAt, child}
 use Rattle.write_vertices.proofs.Links.{apart}
 use Rattle.write_vertices.proofs.Walking.{Walking, beyond, begin, below, onward, later, stands-here, stands-last, ended}
 use Rattle.write_vertices.proofs.find.Statement.{statement}
@@ -26,11 +26,11 @@ hash-requires c κs = search needs
 mul-place : tie.Need-mul-place Inv-loop μ-loop
 mul-place c = search needs
 
-half-at-requires : tie.Need-half-at-requires Inv-loop μ-loop
-half-at-requires c κs = omega (arith, c .before .before .pre .0 .room, c .hash .ensures .1)
+half-word-at-requires : tie.Need-half-word-at-requires Inv-loop μ-loop
+half-word-at-requires c κs = omega (arith, c .before .before .pre .0 .room, c .hash .ensures .1)
 
 loop-holds : tie.Need-loop-holds Inv-loop μ-loop
-loop-holds c = begin _ _ _ _ (c .before .before .before .pre .0) _ _ (ap (λ (h : ℕ). 2 * h) (c .before .hash .ensures .0)) (c .half-at .ensures)
+loop-holds c = begin _ _ _ _ (c .before .before .before .pre .0) _ _ (ap (λ (h : ℕ). 2 * h) (c .before .hash .ensures .0)) (c .half-word-at .ensures)
 
 sub-i : tie.Need-sub-i Inv-loop μ-loop
 sub-i c = search needs
@@ -45,36 +45,62 @@ whole-triple-at-requires : tie.Need-whole-triple-at-requires Inv-loop μ-loop
 whole-triple-at-requires c κs = omega (arith, under c, c .before .before .before .before .before .pre .0 .room)
 
 returns : tie.Need-returns Inv-loop μ-loop
-returns c = stands-here _ _ _ _ (c .before .before .before .before .before .before .before .pre .0) _ _ _ (c .before .before .before .loop .inv) (omega arith) (sym (c .before .whole-triple-at .ensures .0) ∙ c .if1 .taken)
+returns c =
+    let at-loop = c .before .before .before in
+    let entry = at-loop .before .before .before .before in
+    stands-here _ _ _ _ (entry .pre .0) _ _ _ (at-loop .loop .inv) (omega arith) (sym (c .before .whole-triple-at .ensures .0) ∙ c .if1 .taken)
 
 child-of-requires : tie.Need-child-of-requires Inv-loop μ-loop
-child-of-requires c κs = (c .before .before .before .before .before .before .before .pre .0 .narrow, omega (arith, under (c .before .before), c .before .before .before .before .before .before .before .pre .0 .few))
+child-of-requires c κs =
+    let at-loop = c .before .before .before in
+    let entry = at-loop .before .before .before .before in
+    (entry .pre .0 .narrow, omega (arith, under (c .before .before), entry .pre .0 .few))
 
-half-at-requires-2 : tie.Need-half-at-requires-2 Inv-loop μ-loop
-half-at-requires-2 c κs =
-    let w = apart (c .before .before .before .before .before .before .before .before .pre .0 .wide) (child (c .before .before .before .before .loop .p - 1) (c .before .before .before .before .loop .key) (under (c .before .before .before))) .within in
-    rw (c .child-of .ensures) (omega (arith, w, c .before .before .before .before .before .before .before .before .pre .0 .room))
+half-word-at-requires-2 : tie.Need-half-word-at-requires-2 Inv-loop μ-loop
+half-word-at-requires-2 c κs =
+    let at-loop = c .before .before .before .before in
+    let entry = at-loop .before .before .before .before in
+    let w = apart (entry .pre .0 .wide) (child (at-loop .loop .p - 1) (at-loop .loop .key) (under (c .before .before .before))) .within in
+    rw (c .child-of .ensures) (omega (arith, w, entry .pre .0 .room))
 
 loop-less : tie.Need-loop-less Inv-loop μ-loop
-loop-less c = later _ _ _ _ (c .before .before .before .before .before .before .before .before .before .pre .0) _ _ _ (c .before .before .before .before .before .loop .inv) (omega arith) _ (c .half-at2 .ensures ∙ ap (halfAt (c .before .before .before .before .before .before .before .before .before .args .table .now)) (c .before .child-of .ensures))
+loop-less c =
+    let at-loop = c .before .before .before .before .before in
+    let entry = at-loop .before .before .before .before in
+    later _ _ _ _ (entry .pre .0) _ _ _ (at-loop .loop .inv) (omega arith) _ (c .half-word-at2 .ensures ∙ ap (halfWordAt (entry .args .table .now)) (c .before .child-of .ensures))
 
 loop-again : tie.Need-loop-again Inv-loop μ-loop
-loop-again c = onward _ _ _ _ (c .before .before .before .before .before .before .before .before .before .pre .0) _ _ _ (c .before .before .before .before .before .loop .inv) (omega arith) (c .before .before .before .before .before .before .before .before .before .pre .1) (λ e. c .before .before .if1 .left (c .before .before .before .whole-triple-at .ensures .0 ∙ e)) _ _ _ (c .before .child-of .ensures) (c .half-at2 .ensures) (omega arith)
+loop-again c =
+    let at-loop = c .before .before .before .before .before in
+    let entry = at-loop .before .before .before .before in
+    onward _ _ _ _ (entry .pre .0) _ _ _ (at-loop .loop .inv) (omega arith) (entry .pre .1) (λ e. c .before .before .if1 .left (c .before .before .before .whole-triple-at .ensures .0 ∙ e)) _ _ _ (c .before .child-of .ensures) (c .half-word-at2 .ensures) (omega arith)
 
 add-triple-at : tie.Need-add-triple-at Inv-loop μ-loop
-add-triple-at c = omega (arith, c .before .before .before .before .before .before .pre .0 .narrow)
+add-triple-at c =
+    let at-loop = c .before .before in
+    let entry = at-loop .before .before .before .before in
+    omega (arith, entry .pre .0 .narrow)
 
 triple-at-requires : tie.Need-triple-at-requires Inv-loop μ-loop
 triple-at-requires c κs = search needs
 
 returns-2 : tie.Need-returns-2 Inv-loop μ-loop
-returns-2 c = stands-last _ _ _ _ (c .before .before .before .before .before .before .before .before .pre .0) _ _ _ (c .before .before .before .before .loop .inv) (omega arith) (omega (arith, c .before .before .if2 .taken)) (sym (c .before .triple-at .ensures .0) ∙ c .if3 .taken)
+returns-2 c =
+    let at-loop = c .before .before .before .before in
+    let entry = at-loop .before .before .before .before in
+    stands-last _ _ _ _ (entry .pre .0) _ _ _ (at-loop .loop .inv) (omega arith) (omega (arith, c .before .before .if2 .taken)) (sym (c .before .triple-at .ensures .0) ∙ c .if3 .taken)
 
 returns-3 : tie.Need-returns-3 Inv-loop μ-loop
-returns-3 c = ended _ _ _ _ (c .before .before .before .before .before .before .before .before .pre .0) _ _ _ (c .before .before .before .before .loop .inv) (omega arith) (λ _ e. c .if3 .left (c .before .triple-at .ensures .0 ∙ e))
+returns-3 c =
+    let at-loop = c .before .before .before .before in
+    let entry = at-loop .before .before .before .before in
+    ended _ _ _ _ (entry .pre .0) _ _ _ (at-loop .loop .inv) (omega arith) (λ _ e. c .if3 .left (c .before .triple-at .ensures .0 ∙ e))
 
 returns-4 : tie.Need-returns-4 Inv-loop μ-loop
-returns-4 c = ended _ _ _ _ (c .before .before .before .before .before .before .pre .0) _ _ _ (c .before .before .loop .inv) (omega arith) (λ h _. omega (arith, c .if2 .left))
+returns-4 c =
+    let at-loop = c .before .before in
+    let entry = at-loop .before .before .before .before in
+    ended _ _ _ _ (entry .pre .0) _ _ _ (at-loop .loop .inv) (omega arith) (λ h _. omega (arith, c .if2 .left))
 
 pub find-spec : {M : Type 1} → statement M
 find-spec =
@@ -84,7 +110,7 @@ find-spec =
     μ-loop
     hash-requires
     mul-place
-    half-at-requires
+    half-word-at-requires
     loop-holds
     sub-i
     mul-whole-triple-at
@@ -92,7 +118,7 @@ find-spec =
     whole-triple-at-requires
     returns
     child-of-requires
-    half-at-requires-2
+    half-word-at-requires-2
     loop-less
     loop-again
     add-triple-at

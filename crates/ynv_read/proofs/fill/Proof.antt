@@ -12,8 +12,8 @@ use Rattle.ynv_read.proofs.fill.Tie as tie
 
 put-cell-requires : tie.Need-put-cell-requires
 put-cell-requires c κs =
-    let midway = c .before .before .before .before .before in
-    let start = midway .before .before in
+    let at-strip-known = c .before .before in
+    let start = at-strip-known .before .before .before .before .before in
     let m = room (start .args .system .now) (start .args .graphics .now) (start .pre .1) in omega (arith, m .all)
 
 fill-polygons-requires : tie.Need-fill-polygons-requires

@@ -6,8 +6,8 @@ use Rattle.ynv_read.proofs.fill_polygons.Tie as tie
 
 links-of-requires : tie.Need-links-of-requires
 links-of-requires c κs =
-    let midway = c .before .before .before .before .before in
-    let start = midway .before .before .before .before in
+    let at-list-addresses = c .before .before .before .before in
+    let start = at-list-addresses .before .before .before .before .before in
     start .pre .0 .header-is
 
 put-polygons-requires : tie.Need-put-polygons-requires

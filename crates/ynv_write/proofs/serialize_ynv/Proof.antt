@@ -48,7 +48,9 @@ cast-stored c = search needs
 sub-dropped : tie.Need-sub-dropped
 sub-dropped c =
     let after-fill = c .before .before .before .before .before in
-    let planned = after-fill .before .before .before .before .before .before .before .before .before .before .before in
+    let after-pages-end = after-fill .before .before .before .before .before in
+    let fine = after-pages-end .before .before in
+    let planned = fine .before .before .before .before in
     let entry = planned .before .before .before .before .before in
     omega (arith, after-fill .fill .ensures .1, all-points (entry .args .strip .now) (planned .plan .result .counts))
 

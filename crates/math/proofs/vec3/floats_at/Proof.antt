@@ -1,4 +1,4 @@
--- `floats_at` meets its contract: its callee's equations.
+-- `floats_at` meets its contract: `float_of_bits` gives each of the three floats from its word.
 use borrow.Author.Needs.{needs}
 use Rattle.math.proofs.vec3.floats_at.Statement.{statement}
 use Rattle.math.proofs.vec3.floats_at.Tie as tie

@@ -36,13 +36,14 @@ use denote.Triple.Call.{calls-at}
 use denote.Triple.Entry.{Vals, onEntry}
 use denote.Triple.Spec.{Meets, tripleOf}
 use denote.Triple.Table.{entered, cited}
-use denote.Triple.Walked.{says, Stays, stay-none, walkOf, goes-none, Walks, ends-at, walked, walk-meets}
+use denote.Triple.Walked.{Stays, stay-none, walkOf, goes-none, Walks, ends-at, walked, walk-meets}
 use denote.Exit.{yes}
 use denote.Triple.Clauses.{ensured, lasts}
 use Rattle.res_reader.specs.Looked.{Looked, pointerTo}
 use Rattle.res_reader.specs.declared.ResReader.{ResReader}
 use Rattle.res_reader.specs.declared.Pointer.{Pointer}
 use Rattle.res_reader.specs.declared.OptionalPart.{OptionalPart}
+use Rattle.res_reader.proofs.Clauses.{say-both}
 use Rattle.res_reader.proofs.ResReader as T
 use Rattle.res_reader.proofs.ResReader.Laws as T′
 use Rattle.res_reader.proofs.Pointer as S
@@ -140,7 +141,7 @@ module _ {M : Type 1} (𝓤 : URA M) (H : Heap 𝓤) (A : Atoms 𝓤) (W : Given
   exits : va < 2 ^ 64 → len < 2 ^ 64 → (r : Pointer) (p : RefT (List ℕ)) (w : Val) → Pointed r → Found p → ent 𝓤 (⋆ 𝓤 H A (‵ (R .own (made r p) (w ∷ [])) ∷ (‵ (flft κ q) ⊛ ‵ ftrue) ∷ ‵ (Own κ d) ∷ [])) (Post w)
   exits fits-va fits-len r p w e e′ =
       qed W (‵ (R .own (made r p) (w ∷ [])) ∷ (‵ (flft κ q) ⊛ ‵ ftrue) ∷ ‵ (Own κ d) ∷ []) ∵
-      suffices ! _ (ends-at 𝓤 H A optional.ended stayed (optional.clauses 𝓤 H A mem run) W (((κ, tt), (q, tt), tt, args, at), tt) w (made r p) (tt, (tt, (tt, tt))) (tt, (tt, (tt, tt)))) $ says ! (e, e′) $
+      suffices ! _ (ends-at 𝓤 H A optional.ended stayed (optional.clauses 𝓤 H A mem run) W (((κ, tt), (q, tt), tt, args, at), tt) w (made r p) (tt, (tt, (tt, tt))) (tt, (tt, (tt, tt)))) $ say-both ! e e′ $
       move ! (1 ∷ []) $ frame ! $ nothing ! $ owned ! usize (Is usize) (uint-makes 𝓤 H A W w64) len _ (refl, fits-len) $ fjoin ! $ owned ! u64 (Is u64) (uint-makes 𝓤 H A W w64) va _ (refl, fits-va) $ fjoin ! $
       move ! (2 ∷ 0 ∷ []) $ fjoin ! $ frame ! $ done !
 

@@ -6,10 +6,10 @@ use Rattle.write_quadtree.proofs.boxes.depth_of.Statement.{statement}
 use Rattle.write_quadtree.proofs.boxes.depth_of.Tie as tie
 
 returns : tie.Need-returns
-returns c = (sym (depth-two _ (c .if1 .taken)), omega arith, omega arith)
+returns c = (sym (depth-two _ (c .if1 .taken)), (omega arith, omega arith))
 
 returns-2 : tie.Need-returns-2
-returns-2 c = (sym (depth-none _ (c .if1 .left)), omega arith, omega arith)
+returns-2 c = (sym (depth-none _ (c .if1 .left)), (omega arith, omega arith))
 
 pub depth-of-spec : {M : Type 1} → statement M
 depth-of-spec = tie.close (tie.spec returns returns-2)

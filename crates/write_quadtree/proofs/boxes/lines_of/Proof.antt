@@ -3,14 +3,14 @@ use borrow.Author.Needs.{needs}
 use Rattle.write_quadtree.proofs.boxes.lines_of.Statement.{statement}
 use Rattle.write_quadtree.proofs.boxes.lines_of.Tie as tie
 
-axis-of-requires : tie.Need-axis-of-requires
-axis-of-requires c κs = search needs
+axis-lines-requires : tie.Need-axis-lines-requires
+axis-lines-requires c κs = search needs
 
-axis-of-requires-2 : tie.Need-axis-of-requires-2
-axis-of-requires-2 c κs = search needs
+axis-lines-requires-2 : tie.Need-axis-lines-requires-2
+axis-lines-requires-2 c κs = search needs
 
 returns : tie.Need-returns
-returns c = rw (c .before .axis-of .ensures, c .axis-of2 .ensures)
+returns c = rw (c .before .axis-lines .ensures, c .axis-lines2 .ensures)
 
 pub lines-of-spec : {M : Type 1} → statement M
-lines-of-spec = tie.close (tie.spec axis-of-requires axis-of-requires-2 returns)
+lines-of-spec = tie.close (tie.spec axis-lines-requires axis-lines-requires-2 returns)

@@ -17,9 +17,10 @@ returns c =
     let b = c .before .before .before .args .b in
     let e = c .before .before .centre-of .ensures in (
       ap (λ (v : Vec3). box v (b .max)) e,
-      ap (λ (v : Vec3). box (vec (v .x) (b .min .y) nought) (vec (b .max .x) (v .y) nought)) e,
-      ap (λ (v : Vec3). box (b .min) v) e,
-      ap (λ (v : Vec3). box (vec (b .min .x) (v .y) nought) (vec (v .x) (b .max .y) nought)) e,
+      (
+        ap (λ (v : Vec3). box (vec (v .x) (b .min .y) nought) (vec (b .max .x) (v .y) nought)) e,
+        (ap (λ (v : Vec3). box (b .min) v) e, ap (λ (v : Vec3). box (vec (b .min .x) (v .y) nought) (vec (v .x) (b .max .y) nought)) e),
+      ),
     )
 
 pub split-spec : {M : Type 1} → statement M

@@ -1,11 +1,11 @@
--- `write_edges::half_at` meets its contract: where the edge is there its fields, otherwise those of NONE.
+-- `write_edges::half_item` meets its contract: where the edge is there its fields, otherwise those of NONE.
 use mathlib.Core.Path.{_∙_}
 use native.Mathlib.Omega.{arith}
 use borrow.Author.Tests.{lt-ltb, le-ltb}
 use Rattle.write_edges.proofs.Halves.{half-cut}
 use borrow.Author.Needs.{needs}
-use Rattle.write_edges.proofs.half_at.Statement.{statement}
-use Rattle.write_edges.proofs.half_at.Tie as tie
+use Rattle.write_edges.proofs.half_item.Statement.{statement}
+use Rattle.write_edges.proofs.half_item.Tie as tie
 
 add-last : tie.Need-add-last
 add-last c =
@@ -68,8 +68,8 @@ half-word-requires-2 c κs = search needs
 returns-2 : tie.Need-returns-2
 returns-2 c = c .half-word2 .ensures ∙ (rw (c .before .index-bits2 .ensures, le-ltb _ _ (c .before .before .if1 .left)) (half-cut _ _ _ _))
 
-pub half-at-spec : {M : Type 1} → statement M
-half-at-spec =
+pub half-item-spec : {M : Type 1} → statement M
+half-item-spec =
     tie.close
     (tie.spec
     add-last
