@@ -35,7 +35,8 @@ fn touch(own: u32, area: u32) -> bool
 // 1 if the half at `at` is counted, otherwise 0.
 fn half_seams(strip: &[u32], at: usize, own: u32) -> u64
     requires { ⌜ at + 3 ≤ length (now strip) ⌝ }
-    ensures { λ r. ⌜ (r ≡ oneIf (counted own (halfAt (now (strip .entry)) at))) × (r ≤ 1) ⌝ }
+    ensures count { λ r. ⌜ r ≡ oneIf (counted own (halfAt (now (strip .entry)) at)) ⌝ }
+    ensures bound { λ r. ⌜ r ≤ 1 ⌝ }
 {
     if touch(own, strip[at]) { 1 } else { 0 }
 }
@@ -43,7 +44,8 @@ fn half_seams(strip: &[u32], at: usize, own: u32) -> u64
 // The counted halves of `n` edges from `at` on.
 fn edge_seams(strip: &[u32], at: usize, n: usize, own: u32) -> u64
     requires { ⌜ at + 6 * n ≤ length (now strip) ⌝ }
-    ensures { λ r. ⌜ (r ≡ edgeCount (counted own) (edgesAt (now (strip .entry)) at n)) × (r ≤ 2 * n) ⌝ }
+    ensures count { λ r. ⌜ r ≡ edgeCount (counted own) (edgesAt (now (strip .entry)) at n) ⌝ }
+    ensures bound { λ r. ⌜ r ≤ 2 * n ⌝ }
 {
     let mut count: u64 = 0;
     let mut place = at;
