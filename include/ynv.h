@@ -81,6 +81,7 @@
 #define YNV_REFUSED_BAD_INDEX 38                 /* polygon */
 #define YNV_REFUSED_BAD_PORTALS 39
 #define YNV_REFUSED_PAGES_BOX_NOT_FINITE 40
+#define YNV_REFUSED_THIN_POLYGON 41              /* polygon */
 
 /* Kinds of records, and the first word of one. */
 #define YNV_KIND_CELL 1
@@ -177,6 +178,17 @@ uint32_t ynv_spot_for_position(const uint32_t *strip, size_t strip_len, float x,
  * Time: each call looks through the strip, in 0.2 ms with 5,000 polygons. */
 uint32_t ynv_pick_poly(const uint32_t *strip, size_t strip_len, uint16_t x, uint16_t y, uint64_t answer[8]);
 
+/* Writes a strip's polygons into `text` as Wavefront OBJ, for a modelling program: `v X Y Z` for each vertex of each polygon
+ * in order, in shorts of the cell's box as saving stores them, then `f` and its vertices' numbers for each polygon, counted
+ * from 1 through the whole text. Each line ends in a newline; the text has no NUL behind it. Vertices are not shared;
+ * portals and points are left behind. Takes any number of polygons, of 3 to 4,095 vertices; none make no text.
+ * Answer: bytes of the text.
+ * Refusals: 3 badly formed strip (place: word); 10 box; 41 a polygon with fewer than 3 vertices (place: its number); 2 the
+ * text is too short.
+ * Lend: with ynv_obj_bytes() bytes 2 never comes, which is proved. With less the vertices may be gone through twice, since
+ * the text's length is decided before a byte is written. */
+uint32_t ynv_export_obj(const uint32_t *strip, size_t strip_len, uint8_t *text, size_t text_len, uint64_t answer[8]);
+
 /* The cell of the map's grid, 100 by 100 cells of 150 from -6000, in which a position lies. A position outside the map
  * gives the nearest cell, a NaN coordinate 0.
  * Answer: cx, cy.
@@ -216,6 +228,13 @@ static inline size_t ynv_work_words(size_t strip_len)
 static inline size_t ynv_pages_bytes(size_t strip_len)
 {
     return strip_len > (YNV_MOST_BYTES - 8192) / 20 ? YNV_MOST_BYTES : 20 * strip_len + 8192;
+}
+
+/* Bytes of text to lend for a strip's drawing (proved: crate `obj`, room-enough). A vertex takes three words, 20 bytes of its
+ * line and 21 of its number at most. */
+static inline size_t ynv_obj_bytes(size_t strip_len)
+{
+    return strip_len > SIZE_MAX / 14 ? SIZE_MAX : 14 * strip_len;
 }
 
 /* The float of a word that holds its bits. */
@@ -264,7 +283,7 @@ static inline const char *ynv_place(uint32_t number)
         return "word";
     case YNV_REFUSED_VERTEX_COUNT: case YNV_REFUSED_VERTEX_START: case YNV_REFUSED_MANY_VERTICES:
     case YNV_REFUSED_MANY_AREAS: case YNV_REFUSED_MANY_LINKS_OF_POLYGON: case YNV_REFUSED_BAD_RUN:
-    case YNV_REFUSED_BAD_INDEX:
+    case YNV_REFUSED_BAD_INDEX: case YNV_REFUSED_THIN_POLYGON:
         return "polygon";
     case YNV_REFUSED_MANY_POLYGONS_IN_LEAF: case YNV_REFUSED_MANY_POINTS_IN_LEAF:
         return "leaf";
@@ -337,6 +356,8 @@ static inline const char *ynv_sentence(uint32_t number)
         return "The portals do not lie inside their section.";
     case YNV_REFUSED_PAGES_BOX_NOT_FINITE:
         return "The box in the pages has a number that is infinite or not a number.";
+    case YNV_REFUSED_THIN_POLYGON:
+        return "The polygon has fewer than 3 vertices, so there is nothing of it to draw.";
     default:
         return "The refusal table has no such number.";
     }

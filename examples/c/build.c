@@ -134,6 +134,20 @@ static void print_strip(const struct strip *strip)
     }
 }
 
+/* The cell for a modelling program. */
+static void print_drawing(const struct strip *strip)
+{
+    uint64_t answer[8];
+    size_t room = ynv_obj_bytes(strip->length);
+    uint8_t *text = malloc(room);
+    if (text == NULL)
+        trouble("there is no memory");
+    if (ynv_export_obj(strip->at, strip->length, text, room, answer) != 0)
+        trouble("the cell has no drawing");
+    printf("drawing: %" PRIu64 " bytes\n%.*s", answer[0], (int)answer[0], (const char *)text);
+    free(text);
+}
+
 static void write_file(const char *name, struct bytes pages)
 {
     FILE *out = fopen(name, "wb");
@@ -156,6 +170,7 @@ int main(int argc, char **argv)
     printf("points: %" PRIu64 " stored, %" PRIu64 " outside the box and dropped\n", answer[1], answer[2]);
     again = open_saved(pages, answer);
     print_strip(&again);
+    print_drawing(&again);
     if (argc > 1)
         write_file(argv[1], pages);
     free(strip.at);

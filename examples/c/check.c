@@ -34,6 +34,8 @@ static struct told ask(int call, uint8_t *bytes, uint32_t *words)
     case 8: number = ynv_count_seams(words, 0, answer); break;
     case 9: number = ynv_spot_for_position(words, 0, 1, 1, answer); break;
     case 10: number = ynv_pick_poly(words, 0, 1, 1, answer); break;
+    case 11: number = ynv_export_obj(words, 0, pages, sizeof pages, answer); break;
+    case 12: number = ynv_export_obj(cell, n, bytes, 0, answer); break;
     }
     told.words[0] = number;
     return told;
@@ -50,12 +52,12 @@ static int compare(const char *what, int call)
     return 1;
 }
 
-/* Calls 0 to 10, and call 5 with each address of the header turned to the graphics section, which is nothing. */
+/* Calls 0 to 12, and call 5 with each address of the header turned to the graphics section, which is nothing. */
 static int compare_all(void)
 {
     static const size_t addresses[] = { 0x70, 0x80, 0x88, 0x118, 0x120, 0x128, 0x130 };
     int differences = 0;
-    for (int call = 0; call <= 10; call++)
+    for (int call = 0; call <= 12; call++)
         differences += compare("call", call);
     for (size_t i = 0; i < sizeof addresses / sizeof addresses[0]; i++) {
         uint8_t *at = vehicle_pages.at + addresses[i], kept[4];
@@ -90,7 +92,7 @@ int main(int argc, char **argv)
     if (save(&vehicle, &vehicle_pages, answer) != 0)
         trouble("the empty vehicle must be saved");
     differences = compare_all();
-    printf("NULL with length 0: 18 calls, %d differences\n", differences);
+    printf("NULL with length 0: 20 calls, %d differences\n", differences);
     free(vehicle.at);
     free(vehicle_pages.at);
     return differences != 0;

@@ -50,6 +50,7 @@ extern "C" {
     fn ynv_count_seams(strip: *const u32, strip_len: usize, answer: *mut u64) -> u32;
     fn ynv_spot_for_position(strip: *const u32, strip_len: usize, x: f32, y: f32, answer: *mut u64) -> u32;
     fn ynv_pick_poly(strip: *const u32, strip_len: usize, x: u16, y: u16, answer: *mut u64) -> u32;
+    fn ynv_export_obj(strip: *const u32, strip_len: usize, text: *mut u8, text_len: usize, answer: *mut u64) -> u32;
     fn ynv_cell_for_position(x: f32, y: f32, answer: *mut u64) -> u32;
     fn ynv_cell_bounds(cx: u32, cy: u32, answer: *mut u64) -> u32;
 }
@@ -83,6 +84,12 @@ pub fn spot_for_position(strip: &[u32], x: f32, y: f32, answer: &mut Answer) -> 
 pub fn pick_poly(strip: &[u32], x: u16, y: u16, answer: &mut Answer) -> u32 {
     // SAFETY: as in `parse`; only the answer is written.
     unsafe { ynv_pick_poly(strip.as_ptr(), strip.len(), x, y, answer.as_mut_ptr()) }
+}
+
+pub fn export_obj(strip: &[u32], text: &mut [u8], answer: &mut Answer) -> u32 {
+    let (out, room) = (text.as_mut_ptr(), text.len());
+    // SAFETY: as in `parse`; what is written is text and answer, each borrowed mutably.
+    unsafe { ynv_export_obj(strip.as_ptr(), strip.len(), out, room, answer.as_mut_ptr()) }
 }
 
 pub fn cell_for_position(x: f32, y: f32, answer: &mut Answer) -> u32 {

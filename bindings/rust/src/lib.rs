@@ -393,6 +393,72 @@ pub fn pick_poly(strip: &[u32], x: u16, y: u16) -> Result<Option<usize>, Refusal
     Ok((found == 1).then_some(poly as usize))
 }
 
+/// A strip's polygons as Wavefront OBJ text, which any modelling program opens: `v X Y Z` for each vertex of each
+/// polygon in order, in shorts from 0 to 65535 of the cell's box as saving stores them, then `f` and its vertices'
+/// numbers for each polygon, counted from 1 through the whole text. Vertices are not shared; portals and points are
+/// left behind.
+///
+/// It lends [`obj_bytes`], so it is not refused with 2, which is proved.
+///
+/// # Errors
+/// [`Refusal::BAD_STRIP`], [`Refusal::BOX_NOT_FINITE`], [`Refusal::THIN_POLYGON`], in this order;
+/// [`Refusal::NO_MEMORY`].
+///
+/// ```
+/// // A cell from 0 to 150 in x and y with one triangle, (0, 0), (150, 0), (0, 150).
+/// let far = 150f32.to_bits();
+/// let mut strip = vec![0; 14];
+/// strip[0] = 1 << 28;
+/// strip[11..14].fill(far);
+/// strip.extend([2 << 28 | 3, 0, 0, 0]);
+/// strip.extend([0, 0, 0, far, 0, 0, 0, far, 0]);
+/// strip.push(5 << 28);
+/// assert_eq!(ynv::export_obj(&strip)?, "v 0 0 0\nv 65535 0 0\nv 0 65535 0\nf 1 2 3\n");
+///
+/// strip[14] = 2 << 28 | 2; // two vertices, and three words too many
+/// strip.drain(24..27);
+/// let refusal = ynv::export_obj(&strip).unwrap_err();
+/// assert_eq!((refusal.number, refusal.place), (ynv::Refusal::THIN_POLYGON, 0));
+/// # Ok::<(), ynv::Refusal>(())
+/// ```
+pub fn export_obj(strip: &[u32]) -> Result<String, Refusal> {
+    // What is no strip is refused before memory is asked for on its behalf.
+    count_seams(strip)?;
+    let mut text = lent(obj_bytes(strip))?;
+    let length = export_obj_into(strip, &mut text)?;
+    text.truncate(length);
+    text.shrink_to_fit();
+    Ok(String::from_utf8(text).expect("letters, digits, spaces and newlines"))
+}
+
+/// The same into the lent text, whose first bytes, as many as are answered, are the drawing then; the others stay as they
+/// were, and a refusal changes none. With less than [`obj_bytes`] the vertices may be gone through twice, since the text's
+/// length is decided before a byte is written.
+///
+/// # Errors
+/// [`Refusal::BAD_STRIP`], [`Refusal::BOX_NOT_FINITE`], [`Refusal::THIN_POLYGON`], then [`Refusal::TOO_SHORT`] for the
+/// lent text.
+///
+/// ```
+/// # let far = 150f32.to_bits();
+/// # let mut strip = vec![0; 14];
+/// # strip[0] = 1 << 28;
+/// # strip[11..14].fill(far);
+/// # strip.extend([2 << 28 | 3, 0, 0, 0]);
+/// # strip.extend([0, 0, 0, far, 0, 0, 0, far, 0]);
+/// # strip.push(5 << 28);
+/// let mut text = [b'?'; 42];
+/// assert_eq!(ynv::export_obj_into(&strip, &mut text)?, 40);
+/// assert!(text.ends_with(b"f 1 2 3\n??"));
+/// assert_eq!(ynv::export_obj_into(&strip, &mut text[..39]).unwrap_err().number, 2);
+/// # Ok::<(), ynv::Refusal>(())
+/// ```
+pub fn export_obj_into(strip: &[u32], text: &mut [u8]) -> Result<usize, Refusal> {
+    let mut answer = [0; 8];
+    let number = ffi::export_obj(strip, text, &mut answer);
+    Ok(accepted(number, answer)?[0] as usize)
+}
+
 /// The cell (x, y) of the map's grid in which a position lies: 100 by 100 cells of 150 from -6000. A position outside
 /// the map gives the nearest cell, a NaN coordinate 0.
 ///
@@ -458,6 +524,17 @@ pub fn work_words(strip: &[u32]) -> usize {
 #[must_use]
 pub fn pages_bytes(strip: &[u32]) -> usize {
     strip.len().saturating_mul(20).saturating_add(8_192).min(MOST_BYTES)
+}
+
+/// Bytes of text to lend for a strip's drawing: 14 for each of its words. A vertex takes three words, 20 bytes of its line
+/// and 21 of its number at most. That it is enough is proved.
+///
+/// ```
+/// assert_eq!(ynv::obj_bytes(&[0; 15]), 210);
+/// ```
+#[must_use]
+pub fn obj_bytes(strip: &[u32]) -> usize {
+    strip.len().saturating_mul(14)
 }
 
 #[cfg(test)]

@@ -206,7 +206,7 @@ fn usage() {
     for arguments in [&["--help"][..], &["check", "--help"], &["-h"]] {
         let help = run(arguments);
         assert_eq!((help.status.code(), err(&help).as_str()), (Some(0), ""));
-        for verb in ["info", "check", "seams", "pick", "draw", "read", "write", "where"] {
+        for verb in ["info", "check", "seams", "pick", "draw", "obj", "read", "write", "where"] {
             assert!(out(&help).contains(&format!("\n  ynv {verb} ")));
         }
     }
@@ -295,6 +295,40 @@ fn the_picture() {
     assert_eq!(numbered.matches("class=\"number\"").count(), 2);
 }
 
+#[test]
+fn the_drawing() {
+    let folder = folder("drawing");
+    let (path, drawing) = (yard_strip(&folder), folder.join("yard.obj"));
+    let output = run(["obj", text(&path), text(&drawing)]);
+    let obj = fs::read_to_string(&drawing).unwrap();
+    assert_eq!((output.status.code(), out(&output)), (Some(0), format!("bytes {}\n", obj.len())));
+    assert_eq!(obj.matches("v ").count(), 8);
+    assert!(obj.ends_with("\nf 1 2 3 4\nf 5 6 7 8\n"), "{obj}");
+    // Pages give the same drawing as the strip that is read from them.
+    let (pages, strip) = (folder.join("yard.pages"), folder.join("again.strip"));
+    assert_eq!(run(["write", text(&path), text(&pages)]).status.code(), Some(0));
+    assert_eq!(run(["read", text(&pages), text(&strip)]).status.code(), Some(0));
+    let of_pages = out(&run(["obj", text(&pages), "-"]));
+    assert_eq!((out(&run(["obj", text(&strip), "-"])), of_pages.lines().count()), (of_pages.clone(), 10));
+}
+
+/// A polygon that has fewer than three vertices has no drawing, and its number is told.
+#[test]
+fn a_thin_polygon_is_not_drawn() {
+    let path = folder("thin").join("thin.strip");
+    let mut cell = yard();
+    cell.polys[1].vertices.truncate(2);
+    let strip: Vec<u8> = cell.to_strip().unwrap().iter().flat_map(|word| word.to_le_bytes()).collect();
+    fs::write(&path, strip).unwrap();
+    let output = run(["obj", text(&path), "-"]);
+    assert_eq!((output.status.code(), out(&output).as_str()), (Some(1), ""));
+    assert!(
+        err(&output).contains("refused 41 at polygon 1: The polygon has fewer than 3 vertices"),
+        "{}",
+        err(&output)
+    );
+}
+
 /// Whatever a cell's numbers are, its picture is made of numbers.
 #[test]
 fn any_cell_can_be_drawn() {
@@ -339,7 +373,7 @@ mod unix {
         fs::hard_link(&strip, &hard).unwrap();
         let before = fs::read(&strip).unwrap();
         for output in [&strip, &link, &hard] {
-            for verb in ["write", "draw"] {
+            for verb in ["write", "draw", "obj"] {
                 let refused = run([verb, text(&strip), text(output)]);
                 assert_eq!(refused.status.code(), Some(2));
                 assert!(err(&refused).contains("is the input"), "{}", err(&refused));

@@ -16,7 +16,8 @@ use Rattle.read_decide.specs.Reading.{Reading}
 use Rattle.read_decide.specs.Reading as Reading
 use Rattle.read_decide.specs.Answer.{countsOf}
 use Rattle.ynv_read.specs.Parse.{fitted, parseOutcome}
-use Rattle.cellsum_line.specs.Line.{cellOutcome, acceptedText, refusedText, cellText, Stored}
+use Rattle.decimal.specs.Stored.{Stored}
+use Rattle.cellsum_line.specs.Line.{cellOutcome, acceptedText, refusedText, cellText}
 
 pub short-input : (input : List ℕ) (n : ℕ) → length input ≤ 65536 → cellOutcome input n ≡ parseOutcome input [] n
 unfolding cellOutcome
@@ -70,4 +71,4 @@ pub promised : {given o : Outcome Parsed} {text old new : List ℕ} {r : ℕ} (s
     (r ≡ length (cellText given)) × ((new ≡ put 0 (cellText given) old) × (strip' ≡ left given strip))
 promised {given} {o} {text} {old} {new} {r} strip strip' d e s l =
     let count : r ≡ length text = omega (arith, s .place) in
-    rw d (count ∙ ap length e, (s .line ∙ ap (λ (t : List ℕ). put 0 t old) e, l))
+    rw d (count ∙ ap length e, (s .bytes ∙ ap (λ (t : List ℕ). put 0 t old) e, l))

@@ -1,24 +1,18 @@
 -- The line that `cellsum` prints of a cell's system pages. Definitions only.
-use Prim.Native.Nat.{ℕ, _+_}
-use mathlib.Core.Path.{_≡_}
+use Prim.Native.Nat.{ℕ}
 use mathlib.Core.Bool.{cond}
-use mathlib.Core.List.{List, [], _∷_, _++_}
+use mathlib.Core.List.{List, [], _∷_}
 use lib.Dec.{leb}
 use lib.ListN.{length, getD}
 use Rattle.fields.specs.Bytes.{cat}
-use Rattle.fields.specs.Put.{put}
 use Rattle.strip.specs.Outcome.{Outcome, refused, done}
-use Rattle.decimal.specs.Text.{ascii, decimal}
+use Rattle.decimal.specs.Text.{ascii, named}
 use Rattle.read_decide.specs.declared.Parsed.{Parsed}
 use Rattle.ynv_read.specs.Parse.{parseOutcome}
 
 -- what reading the input into a strip of n words comes to: there are no graphics, and an input above 65,536 bytes is refused before anything else
 unfoldable pub cellOutcome : List ℕ → ℕ → Outcome Parsed
 cellOutcome input n = cond (leb (length input) 65536) (parseOutcome input [] n) (refused 4 0)
-
--- a text with a number behind it
-abbrev pub named : List ℕ → ℕ → List ℕ
-named name n = name ++ decimal n
 
 -- the counts of a cell
 unfoldable pub countsText : Parsed → List ℕ
@@ -40,8 +34,3 @@ refusedText number place = cat (named (ascii "refused ") number ∷ named (ascii
 abbrev pub cellText : Outcome Parsed → List ℕ
 cellText (done p words) = acceptedText (getD words 2 0) p
 cellText (refused number place) = refusedText number place
-
--- a text that was stored in a line from a place on, and the place behind it
-pub record Stored (at : ℕ) (text old new : List ℕ) (next : ℕ) : Type 0 where
-  pub line : new ≡ put at text old
-  pub place : next ≡ at + length text

@@ -2,7 +2,7 @@
 use mathlib.Core.Path.{_≡_, refl}
 use mathlib.Core.List.{List, [], _∷_, _++_}
 use Prim.Native.Nat.{ℕ, zero, suc, _+_, _-_, _*_, _/_, _%_, _^_, _≤_, _<_}
-use native.Mathlib.Nat.{pow-suc, div-lt-iff-lt-mul, not-suc-le-zero}
+use native.Mathlib.Nat.{pow-suc, one-le-pow, div-lt-iff-lt-mul, le-div-iff-mul-le, not-suc-le-zero}
 use native.Mathlib.Decide.{decLt}
 use native.Mathlib.Omega.{arith}
 use lib.Dec.{lit<, lit≤}
@@ -79,6 +79,12 @@ length-below zero n h = omega (arith, length-one n h)
 length-below (suc k) n h =
     let tenth : n / 10 < 10 ^ suc k = div-lt-iff-lt-mul (lit< tt) .1 (rw pow-suc at h) in
     split n (λ l. omega (arith, length-one n l)) (λ g. omega (arith, length-more n g, length-below k (n / 10) tenth))
+
+pub length-above : (k n : ℕ) → 10 ^ k ≤ n → k < length (decimal n)
+length-above zero n h = some-digit n
+length-above (suc k) n h =
+    let tenth : 10 ^ k ≤ n / 10 = le-div-iff-mul-le (lit< tt) .1 (rw pow-suc at h) in
+    omega (arith, length-more n (omega (arith, one-le-pow k 10 (lit< tt))), length-above k (n / 10) tenth)
 
 pub length-u64 : (n : ℕ) → n < 2 ^ 64 → length (decimal n) ≤ 20
 length-u64 n h = length-below 19 n (omega (arith, lit≤ {m = 2 ^ 64} {n = 10 ^ 20} tt))

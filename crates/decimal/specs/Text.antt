@@ -25,6 +25,10 @@ decimalIn (suc turns) n = cond (ltb n 10) (digit n ∷ []) (decimalIn turns (n /
 unfoldable pub decimal : ℕ → List ℕ
 decimal n = decimalIn (suc n) n
 
+-- a text with a number behind it
+abbrev pub named : List ℕ → ℕ → List ℕ
+named name n = name ++ decimal n
+
 -- the number that digits stand for, behind others that stand for v
 unfoldable pub valueFrom : ℕ → List ℕ → ℕ
 valueFrom v [] = v

@@ -1,4 +1,4 @@
--- What the leaves, and `pick_poly`, make of a record's words in, by its tag, and when a record agrees with them. Definitions only.
+-- What the leaves, `pick_poly` and `export_obj` make of a record's words in, by its tag, and when a record agrees with them. Definitions only.
 use Prim.Native.Nat.{ℕ, _+_, _-_, _*_, _%_, _≤_, _<_}
 use mathlib.Core.Path.{_≡_}
 use mathlib.Core.Bool.{Bool, true, false, cond}
@@ -19,6 +19,7 @@ use Rattle.answers.specs.Words as Words
 use Rattle.pick_contains.specs.declared.Spot.{Spot}
 use Rattle.picking.specs.Picking.{pickOutcome}
 use Rattle.pick_entry.specs.Entries.{foundWords}
+use Rattle.obj_replay.specs.Agreement.{DrawingAgrees}
 use Rattle.replay.specs.Ends.{recordEnd}
 use Rattle.replay.specs.Tallies.{Within, Passed, Counted}
 use Rattle.replay.specs.declared.Tally.{Tally}
@@ -92,6 +93,7 @@ pub data Agrees : ℕ → List ℕ → List ℕ → Type 0 where
   as-place : {i o : List ℕ} → placeIn i ≡ getD o 0 0 + 0x1_0000_0000 * getD o 1 0 → Agrees 5 i o
   as-strip : {i o : List ℕ} → (stripNumber i ≡ getD o 0 0) × FirstThree (stripWords i) o → Agrees 6 i o
   as-pick : {i o : List ℕ} → (pickNumber i ≡ getD o 0 0) × FirstThree (pickWords i) o → Agrees 7 i o
+  as-drawing : {i o : List ℕ} → DrawingAgrees i o → Agrees 8 i o
 
 -- where the parts of the record at a place stand: what the list lacks is left out
 abbrev pub outputAt : List ℕ → ℕ → ℕ

@@ -1,4 +1,4 @@
-// The records of the leaves' list: where their parts stand, and whether the words out are what the leaves, and `pick_poly`, make of the words in.
+// The records of the leaves' list: where their parts stand, and whether the words out are what the leaves, `pick_poly` and `export_obj` make of the words in.
 // The list is made of 32-bit little-endian words; a record is its tag, how many words go in and how many come out, and these words. The last
 // record has the tag 0, as what lies behind the list has.
 ghost use mathlib.Core.Path.{_≡_};
@@ -11,16 +11,15 @@ ghost use Rattle.areas.specs.Tables.{stored};
 ghost use Rattle.leaf_replay.specs.Agreement.{shortOf, backOf, floorOf, ceilOf, placeIn, stripNumber, stripWords, pickNumber, pickWords, taking, AreasAgree, FirstThree, Agrees, recordOf, LeafRecordInside};
 use areas::AreaAnswer;
 use areas::Areas;
+use obj_replay::drawing_agrees;
 use replay::end_of;
+use replay::word_or;
 
 // Word i, and 0 past the end.
 fn word(words: &[u32], i: usize) -> u32
     ensures { λ r. ⌜ r ≡ getD (now (words .entry)) i 0 ⌝ }
 {
-    if i < words.len() {
-        return words[i];
-    }
-    0
+    word_or(words, i, 0)
 }
 
 // For each kind, whether the words out are what the leaf makes of the words in.
@@ -183,7 +182,8 @@ pub fn agrees(tag: u32, input: &[u32], output: &[u32]) -> bool
         5 => place_agrees(input, output),
         6 => strip_agrees(input, output),
         7 => pick_agrees(input, output),
-        0 | 8..=4294967295 => false,
+        8 => drawing_agrees(input, output),
+        0 | 9..=4294967295 => false,
     }
 }
 

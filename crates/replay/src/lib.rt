@@ -2,6 +2,7 @@
 ghost use mathlib.Core.Path.{_≡_};
 ghost use mathlib.Core.Bool.{true, false};
 ghost use Prim.Native.Nat.{_+_, _≤_, _<_};
+ghost use lib.ListN.{getD};
 ghost use Rattle.replay.specs.Ends.{recordEnd, padded};
 ghost use Rattle.replay.specs.Tallies.{Tallied, Within, counting};
 use fields::least;
@@ -22,6 +23,16 @@ pub fn padded(count: u32) -> usize
     ensures { λ r. ⌜ r ≡ padded count ⌝ }
 {
     ((count as usize) + 3) / 4 * 4
+}
+
+// Word i, and another one past the end.
+pub fn word_or(words: &[u32], i: usize, other: u32) -> u32
+    ensures { λ r. ⌜ r ≡ getD (now (words .entry)) i other ⌝ }
+{
+    if i < words.len() {
+        return words[i];
+    }
+    other
 }
 
 // How many records there are, how many of them agree, and where the first stands that doesn't, or the end of the list.

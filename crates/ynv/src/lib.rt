@@ -11,6 +11,8 @@ ghost use Rattle.seams.specs.Seams.{seamOutcome};
 ghost use Rattle.seams.specs.Entries.{seamWords};
 ghost use Rattle.picking.specs.Picking.{pickOutcome, spotOutcome};
 ghost use Rattle.pick_entry.specs.Entries.{foundWords, spotWords};
+ghost use Rattle.obj.specs.Obj.{objOutcome};
+ghost use Rattle.obj_entry.specs.Entries.{objWords};
 ghost use Rattle.cell_grid.specs.Grid.{cellAt, boundsOutcome};
 ghost use Rattle.cell_grid.specs.Entries.{cellWords, boundsWords};
 ghost use Rattle.answers.specs.Words.{numberOf, answerWords};
@@ -71,6 +73,16 @@ pub extern "C" fn ynv_spot_for_position(strip: &[u32], x: f32, y: f32, answer: &
     ensures answer { λ _. ⌜ now (answer .exit) ≡ over (answerWords spotWords (shown (spotOutcome (now (strip .entry)) x y))) (now (answer .entry)) ⌝ }
 {
     pick_entry::spot_entry(strip, x, y, answer)
+}
+
+// Writes the strip's polygons into the lent text as Wavefront OBJ: the bytes of the text.
+#[no_mangle]
+pub extern "C" fn ynv_export_obj(strip: &[u32], text: &mut [u8], answer: &mut [u64; 8]) -> u32
+    ensures number { λ r. ⌜ r ≡ numberOf (shown (objOutcome (now (strip .entry)) (length (now (text .entry))))) ⌝ }
+    ensures answer { λ _. ⌜ now (answer .exit) ≡ over (answerWords objWords (shown (objOutcome (now (strip .entry)) (length (now (text .entry)))))) (now (answer .entry)) ⌝ }
+    ensures text { λ _. ⌜ now (text .exit) ≡ left (objOutcome (now (strip .entry)) (length (now (text .entry)))) (now (text .entry)) ⌝ }
+{
+    obj_entry::obj_entry(strip, text, answer)
 }
 
 // The two coordinates of the cell that contains a position. It refuses nothing.

@@ -2,6 +2,7 @@
 
 pub mod cells;
 pub mod damage;
+pub mod drawings;
 pub mod floats;
 pub mod limits;
 pub mod pages;

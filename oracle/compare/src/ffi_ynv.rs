@@ -25,6 +25,9 @@ extern "C" {
     /// The two shorts.
     fn ynv_spot_for_position(strip: *const u32, strip_len: usize, x: f32, y: f32, answer: *mut u64) -> u32;
 
+    /// The bytes of the text.
+    fn ynv_export_obj(strip: *const u32, strip_len: usize, text: *mut u8, text_len: usize, answer: *mut u64) -> u32;
+
     /// The two coordinates; it refuses nothing.
     fn ynv_cell_for_position(x: f32, y: f32, answer: *mut u64) -> u32;
 
@@ -67,6 +70,10 @@ pub fn pick_poly(strip: &[u32], x: u16, y: u16, answer: &mut [u64; 8]) -> u32 {
 
 pub fn spot_for_position(strip: &[u32], x: f32, y: f32, answer: &mut [u64; 8]) -> u32 {
     unsafe { ynv_spot_for_position(strip.as_ptr(), strip.len(), x, y, answer.as_mut_ptr()) }
+}
+
+pub fn export_obj(strip: &[u32], text: &mut [u8], answer: &mut [u64; 8]) -> u32 {
+    unsafe { ynv_export_obj(strip.as_ptr(), strip.len(), text.as_mut_ptr(), text.len(), answer.as_mut_ptr()) }
 }
 
 pub fn cell_for_position(x: f32, y: f32, answer: &mut [u64; 8]) -> u32 {

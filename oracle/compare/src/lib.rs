@@ -8,7 +8,9 @@ pub mod ffi;
 pub mod ffi_ynv;
 pub mod guarded;
 pub mod heap;
+pub mod obj;
 pub mod plain;
+pub mod plain_obj;
 pub mod plot;
 #[cfg(feature = "ynv")]
 pub mod races;

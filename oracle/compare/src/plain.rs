@@ -1,20 +1,21 @@
 //! The polygon under the cursor as plain Rust: one pass over the strip that checks it, then
 //! polygon by polygon and vertex by vertex up to the first that contains the spot. Nothing is
 //! allocated, and a vertex's x becomes a short only where its side may be crossed, as in the
-//! library, which is timed against it, since the Rust source has no such call.
+//! library, which is timed against it, since the Rust source has no such call. `plain_obj` takes
+//! the checks and shorts from here.
 
 use strips::Refusal;
 
 /// Words of a cell's record; bb_min stands at 5, bb_max at 8, bb_size at 11.
-const CELL_WORDS: usize = 14;
+pub(crate) const CELL_WORDS: usize = 14;
 
 /// The counts in a polygon's first word: vertices, edges, links.
-fn counts(first: u32) -> (usize, usize, usize) {
+pub(crate) fn counts(first: u32) -> (usize, usize, usize) {
     ((first & 0xFFF) as usize, (first >> 12 & 0xFFF) as usize, (first >> 24 & 0xF) as usize)
 }
 
 /// The words that follow a record's first word.
-fn follow_up(first: u32) -> usize {
+pub(crate) fn follow_up(first: u32) -> usize {
     match first >> 28 {
         1 => CELL_WORDS - 1,
         2 => {
@@ -55,7 +56,7 @@ fn good_rest(first: u32, rest: &[u32]) -> bool {
 }
 
 /// The place of refusal 3, if the strip is badly formed.
-fn check(strip: &[u32]) -> Result<(), usize> {
+pub(crate) fn check(strip: &[u32]) -> Result<(), usize> {
     let (mut at, mut last) = (0, 0);
     while let Some(&first) = strip.get(at) {
         if !good_first(first, last) {
@@ -75,7 +76,7 @@ fn check(strip: &[u32]) -> Result<(), usize> {
 }
 
 /// The short of a coordinate on an axis with its lo and extent.
-fn short(bits: u32, (lo, extent): (f32, f32)) -> i64 {
+pub(crate) fn short(bits: u32, (lo, extent): (f32, f32)) -> i64 {
     if extent.abs() < f32::EPSILON {
         return 0;
     }
@@ -104,29 +105,29 @@ fn contains(vertices: &[u32], axes: [(f32, f32); 2], x: i64, y: i64) -> bool {
     inside
 }
 
-/// The box's numbers, with lo and extent of x and y, or 10.
-fn axes(strip: &[u32]) -> Result<[(f32, f32); 2], Refusal> {
+/// Lo and extent of x, y and z, or 10.
+pub(crate) fn axes(strip: &[u32]) -> Result<[(f32, f32); 3], Refusal> {
     let bounds: [f32; 9] = std::array::from_fn(|n| f32::from_bits(strip[5 + n]));
     if bounds.iter().all(|side| side.is_finite()) {
-        Ok([(bounds[0], bounds[6]), (bounds[1], bounds[7])])
+        Ok([(bounds[0], bounds[6]), (bounds[1], bounds[7]), (bounds[2], bounds[8])])
     } else {
         Err(Refusal::new(10, 0))
     }
 }
 
 /// The vertices of a polygon, from its first word and the rest.
-fn vertices(first: u32, rest: &[u32]) -> &[u32] {
+pub(crate) fn vertices(first: u32, rest: &[u32]) -> &[u32] {
     let (vertices, _, links) = counts(first);
     &rest[3 + links..3 + links + 3 * vertices]
 }
 
 pub fn pick(strip: &[u32], x: u16, y: u16) -> Result<Option<usize>, Refusal> {
     check(strip).map_err(|place| Refusal::new(3, place))?;
-    let axes = axes(strip)?;
+    let [across, up, _] = axes(strip)?;
     let (mut at, mut number) = (CELL_WORDS, 0);
     while strip[at] >> 28 == 2 {
         let next = at + 1 + follow_up(strip[at]);
-        if contains(vertices(strip[at], &strip[at + 1..next]), axes, x.into(), y.into()) {
+        if contains(vertices(strip[at], &strip[at + 1..next]), [across, up], x.into(), y.into()) {
             return Ok(Some(number));
         }
         (at, number) = (next, number + 1);

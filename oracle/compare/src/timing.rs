@@ -85,10 +85,14 @@ fn rust(race: &mut impl Race, calls: u32) -> Duration {
     time
 }
 
+/// How many calls of such a time make a run.
+fn repeats(time: Duration) -> u32 {
+    (RUN.as_nanos() / time.as_nanos().max(1)).clamp(1, MOST_CALLS as u128) as u32
+}
+
 /// Times of a race, ours first, and how many runs each side had.
 pub fn run(race: &mut impl Race) -> (Times, Times, usize) {
     let (first, other) = (ours(race, 1), rust(race, 1));
-    let repeats = |time: Duration| (RUN.as_nanos() / time.as_nanos().max(1)).clamp(1, MOST_CALLS as u128) as u32;
     let (our_calls, rust_calls) = (repeats(first), repeats(other));
     let runs = if first.max(other) > SLOW { SLOW_RUNS } else { RUNS };
     let (mut our_times, mut rust_times) = (Vec::new(), Vec::new());
@@ -97,6 +101,24 @@ pub fn run(race: &mut impl Race) -> (Times, Times, usize) {
         rust_times.push(micros(rust(race, rust_calls), rust_calls));
     }
     (Times::of(our_times), Times::of(rust_times), runs)
+}
+
+/// The least microseconds of a call of each side, the sides in turn.
+pub fn least(sides: &mut [&mut dyn FnMut()]) -> Vec<f64> {
+    let timed = |side: &mut dyn FnMut(), calls: u32| {
+        let start = now();
+        (0..calls).for_each(|_| side());
+        micros(now() - start, calls)
+    };
+    let first = |side: &mut &mut dyn FnMut()| repeats(Duration::from_secs_f64(timed(side, 1) / 1e6));
+    let calls: Vec<u32> = sides.iter_mut().map(first).collect();
+    let mut times = vec![f64::INFINITY; sides.len()];
+    for _ in 0..RUNS {
+        for ((side, &calls), time) in sides.iter_mut().zip(&calls).zip(&mut times) {
+            *time = time.min(timed(side, calls));
+        }
+    }
+    times
 }
 
 pub fn heading(title: &str) {

@@ -1,6 +1,7 @@
 //! The functions that are compared: the leaves of libunits.a with the feature `lib`, the
-//! reader, writer, seam count and polygon under the cursor of libynv.a with the feature `ynv`, else the judge's own. Floats,
-//! numbers and answers as the C entries have them.
+//! reader, writer, seam count, polygon under the cursor and drawing of libynv.a with the feature
+//! `ynv`, else the judge's own, of the drawing the plain Rust. Floats, numbers and answers as the
+//! C entries have them.
 
 #[cfg(feature = "lib")]
 pub use crate::ffi::{areas, back, check_strip, place, quarter, short};
@@ -47,7 +48,7 @@ mod own {
 pub use own::*;
 
 #[cfg(feature = "ynv")]
-pub use crate::ffi_ynv::{count_seams, parse, pick_poly, serialize};
+pub use crate::ffi_ynv::{count_seams, export_obj, parse, pick_poly, serialize};
 
 pub const READER: &str = if cfg!(feature = "ynv") {
     "the library (libynv.a)"
@@ -137,6 +138,26 @@ pub fn pick_poly(strip: &[u32], x: u16, y: u16, answer: &mut [u64; 8]) -> u32 {
         Ok(poly) => {
             let [found, number] = poly.map_or([0, 0], |number| [1, number as u64]);
             *answer = [found, number, 0, 0, 0, 0, 0, 0];
+            0
+        }
+    }
+}
+
+pub const DRAWING: &str =
+    if cfg!(feature = "ynv") { "the library (libynv.a)" } else { "plain Rust (the library with --features ynv)" };
+
+/// The drawing by the plain Rust that the library is timed against.
+#[cfg(not(feature = "ynv"))]
+pub fn export_obj(strip: &[u32], text: &mut [u8], answer: &mut [u64; 8]) -> u32 {
+    let mut bytes = Vec::new();
+    match crate::plain_obj::obj(strip, text.len(), &mut bytes) {
+        Err(refusal) => {
+            answer[0] = refusal.place as u64;
+            refusal.number
+        }
+        Ok(()) => {
+            text[..bytes.len()].copy_from_slice(&bytes);
+            *answer = [bytes.len() as u64, 0, 0, 0, 0, 0, 0, 0];
             0
         }
     }

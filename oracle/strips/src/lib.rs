@@ -6,6 +6,7 @@ mod guard;
 mod layout;
 mod leaf;
 mod messages;
+mod obj;
 mod picking;
 mod points;
 mod read;
@@ -18,6 +19,7 @@ pub use guard::{caught, claimed_bytes, rust_read, rust_write, RustRead, RustWrit
 pub use layout::laid_out;
 pub use leaf::{areas, back, place, quarter_ceil, quarter_floor, short, AreaTable, PAGE_SIZE};
 pub use messages::{refuses_reading, refuses_writing};
+pub use obj::obj;
 pub use picking::{outlines, pick, spot};
 pub use points::{leaves_of_points, point_counts, PointCounts};
 pub use read::{derive, derived_words, expected_read, Derived, ReadAnswer};

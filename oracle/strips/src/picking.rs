@@ -4,21 +4,8 @@
 use rage::math::Vec3;
 use rage::ynv::Ynv;
 
-use crate::{scan, short, Refusal};
-
-fn finite(v: Vec3) -> bool {
-    v.x.is_finite() && v.y.is_finite() && v.z.is_finite()
-}
-
-/// The strip's cell: 3, then 10.
-fn checked(strip: &[u32]) -> Result<Ynv, Refusal> {
-    let cell = scan(strip).map_err(|place| Refusal::new(3, place))?;
-    if finite(cell.bb_min) && finite(cell.bb_max) && finite(cell.bb_size) {
-        Ok(cell)
-    } else {
-        Err(Refusal::new(10, 0))
-    }
-}
+use crate::strip::checked;
+use crate::{short, Refusal};
 
 /// The shorts of a position, by the cell's box.
 fn shorts(cell: &Ynv, x: f32, y: f32) -> (u16, u16) {

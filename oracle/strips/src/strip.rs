@@ -3,6 +3,8 @@
 use rage::math::Vec3;
 use rage::ynv::{NavEdge, NavEdgeEnd, NavPoint, NavPoly, NavPortal, Ynv};
 
+use crate::Refusal;
+
 const CELL: u32 = 1;
 const POLYGON: u32 = 2;
 const PORTAL: u32 = 3;
@@ -152,6 +154,20 @@ pub fn scan(strip: &[u32]) -> Result<Ynv, usize> {
         }
         at += 1 + length;
         last = kind;
+    }
+}
+
+fn finite(v: Vec3) -> bool {
+    v.x.is_finite() && v.y.is_finite() && v.z.is_finite()
+}
+
+/// The cell of a strip whose shorts are asked for: 3, then 10.
+pub(crate) fn checked(strip: &[u32]) -> Result<Ynv, Refusal> {
+    let cell = scan(strip).map_err(|place| Refusal::new(3, place))?;
+    if finite(cell.bb_min) && finite(cell.bb_max) && finite(cell.bb_size) {
+        Ok(cell)
+    } else {
+        Err(Refusal::new(10, 0))
     }
 }
 

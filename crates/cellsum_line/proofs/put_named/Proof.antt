@@ -1,7 +1,7 @@
 -- `cellsum_line::put_named` meets its contract: the number's text is stored behind the name's.
 use native.Mathlib.Omega.{arith}
 use Rattle.decimal.proofs.Decimal.{length-u64}
-use Rattle.cellsum_line.proofs.Line.{stored, stored-then}
+use Rattle.decimal.proofs.Stored.{stored, stored-then}
 use borrow.Author.Needs.{needs}
 use Rattle.cellsum_line.proofs.put_named.Statement.{statement}
 use Rattle.cellsum_line.proofs.put_named.Tie as tie

@@ -1,6 +1,6 @@
 -- `leaf_replay::agrees` meets its contract: each kind has its callee's promise.
 use mathlib.Core.Bool.{false≢true}
-use Rattle.leaf_replay.specs.Agreement.{as-short, as-back, as-quarter, as-areas, as-place, as-strip, as-pick}
+use Rattle.leaf_replay.specs.Agreement.{as-short, as-back, as-quarter, as-areas, as-place, as-strip, as-pick, as-drawing}
 use borrow.Author.Needs.{needs}
 use Rattle.leaf_replay.proofs.agrees.Statement.{statement}
 use Rattle.leaf_replay.proofs.agrees.Tie as tie
@@ -26,6 +26,9 @@ strip-agrees-requires c κs = search needs
 pick-agrees-requires : tie.Need-pick-agrees-requires
 pick-agrees-requires c κs = search needs
 
+drawing-agrees-requires : tie.Need-drawing-agrees-requires
+drawing-agrees-requires c κs = search needs
+
 returns : tie.Need-returns
 returns c = λ h. rw (c .before .match .keys1) (as-short (c .short-agrees .ensures h))
 
@@ -48,10 +51,13 @@ returns-7 : tie.Need-returns-7
 returns-7 c = λ h. rw (c .before .match .keys7) (as-pick (c .pick-agrees .ensures h))
 
 returns-8 : tie.Need-returns-8
-returns-8 c = λ h. absurd (false≢true h)
+returns-8 c = λ h. rw (c .before .match .keys8) (as-drawing (c .drawing-agrees .ensures h))
 
 returns-9 : tie.Need-returns-9
 returns-9 c = λ h. absurd (false≢true h)
+
+returns-10 : tie.Need-returns-10
+returns-10 c = λ h. absurd (false≢true h)
 
 pub agrees-spec : {M : Type 1} → statement M
 agrees-spec =
@@ -64,6 +70,7 @@ agrees-spec =
     place-agrees-requires
     strip-agrees-requires
     pick-agrees-requires
+    drawing-agrees-requires
     returns
     returns-2
     returns-3
@@ -72,4 +79,5 @@ agrees-spec =
     returns-6
     returns-7
     returns-8
-    returns-9)
+    returns-9
+    returns-10)

@@ -4,6 +4,7 @@
 //! reader's list and the writer's have forms of their own: `reading`, `writing`.
 
 mod areas;
+mod obj;
 mod picking;
 mod places;
 mod quarters;
@@ -48,5 +49,6 @@ pub fn all() -> Vectors {
     places::places(&mut out);
     strip::strips(&mut out);
     picking::picks(&mut out);
+    obj::objs(&mut out);
     out
 }

@@ -14,6 +14,7 @@ ynv: navmesh cells, by a proved library
   ynv seams FILE...        how many halves of edges lead to a neighbouring cell
   ynv pick X Y FILE...     the polygon at a position
   ynv draw FILE SVG        a picture of the cell seen from above
+  ynv obj FILE OBJ         the polygons as Wavefront OBJ text, for a modelling program
   ynv read PAGES STRIP     pages to a strip
   ynv write STRIP PAGES    a strip to pages
   ynv where X Y            the cell of the map's grid at a position
@@ -83,6 +84,7 @@ pub enum Verb {
     Seams(Vec<PathBuf>),
     Pick(f32, f32, Vec<PathBuf>),
     Draw(PathBuf, PathBuf),
+    Obj(PathBuf, PathBuf),
     Read(PathBuf, PathBuf),
     Write(PathBuf, PathBuf),
     Where(f32, f32),
@@ -101,6 +103,7 @@ impl Verb {
             ("seams", [_, ..]) => Ok(Verb::Seams(paths(rest))),
             ("pick", [x, y, files @ ..]) if !files.is_empty() => Ok(Verb::Pick(number(x)?, number(y)?, paths(files))),
             ("draw", [from, to]) => Ok(Verb::Draw(from.into(), to.into())),
+            ("obj", [from, to]) => Ok(Verb::Obj(from.into(), to.into())),
             ("read", [from, to]) => Ok(Verb::Read(from.into(), to.into())),
             ("write", [from, to]) => Ok(Verb::Write(from.into(), to.into())),
             ("where", [x, y]) => Ok(Verb::Where(number(x)?, number(y)?)),

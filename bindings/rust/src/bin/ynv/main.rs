@@ -1,4 +1,5 @@
-//! The tool `ynv`: what a cell is, whether it would save, pages to strips and back, a picture.
+//! The tool `ynv`: what a cell is, whether it would save, pages to strips and back, a picture, a drawing
+//! for modelling programs.
 //!
 //! `ynv --help` has its verbs. Status: 0 done, 1 a cell is refused, 2 trouble with a file or the arguments.
 
@@ -51,6 +52,7 @@ fn run() -> Result<u8, Trouble> {
             each(&paths, |path| report::pick(path, &files::load(path, options.kind, None)?, x, y))
         }
         Verb::Draw(from, to) => draw(&options, &from, &to).map_err(|trouble| trouble.of(&from)),
+        Verb::Obj(from, to) => obj(&options, &from, &to).map_err(|trouble| trouble.of(&from)),
         Verb::Read(from, to) => read(&options, &from, &to).map_err(|trouble| trouble.of(&from)),
         Verb::Write(from, to) => write(&options, &from, &to).map_err(|trouble| trouble.of(&from)),
         Verb::Where(x, y) => say(&report::location(x, y)?),
@@ -127,4 +129,11 @@ fn draw(options: &Options, from: &Path, to: &Path) -> Result<u8, Trouble> {
     let picture = draw::svg(&loaded.cell()?, options.numbers);
     put(options, from, to, picture.as_bytes())?;
     done(to, format!("bytes {}\n", picture.len()))
+}
+
+fn obj(options: &Options, from: &Path, to: &Path) -> Result<u8, Trouble> {
+    let loaded = files::load(from, options.kind, None)?;
+    let text = ynv::export_obj(&loaded.strip)?;
+    put(options, from, to, text.as_bytes())?;
+    done(to, format!("bytes {}\n", text.len()))
 }
