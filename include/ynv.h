@@ -6,8 +6,9 @@
  *   to do about it in docs/REFUSALS.md.
  * - `answer` is eight lent words. An accepted call writes them all, 0 where nothing is named below. A refusal writes
  *   answer[0] alone: its place, 0 where none is named.
- * - A refusal changes nothing else that was lent, except work, which may hold anything afterwards. An accepted call
- *   leaves what lies behind its result as it was.
+ * - A refusal changes nothing else that was lent, except work. An accepted call leaves what lies behind its result as
+ *   it was. Work may hold anything afterwards in its first words, two for each word of the strip; the words behind these
+ *   are as they were, accepted or refused.
  * - Every content of the lent memory is allowed. A length counts elements: words of a strip, bytes of pages.
  *
  * What a caller owes, since no call can test it: pointers aligned for their type, with that many elements behind them;
@@ -146,7 +147,9 @@ uint32_t ynv_parse(const uint8_t *system, size_t system_len, const uint8_t *grap
  * Refusals: 3 badly formed strip (place: word); 1 too little work; 10 box; 11, 19, 20 too many polygons, portals or
  * links; 12 to 16 a polygon (place: its number); 17, 18 a leaf (place: its number); 2 the pages' room is too short.
  * Lend: ynv_work_words() words of work and ynv_pages_bytes() bytes of pages. With so much neither 1 nor 2 ever comes,
- * which is proved.
+ * which is proved. Of work the first ynv_work_used() words alone are written to; those behind them come back unchanged,
+ * refused or not, whatever the refusal, which is proved too. So where memory is scarce, the half behind may hold
+ * something else of the caller's meanwhile, but nothing that is lent to this call.
  * Time: milliseconds for the largest cells, whatever their vertices are. */
 uint32_t ynv_serialize(const uint32_t *strip, size_t strip_len, uint32_t *work, size_t work_len,
                        uint8_t *pages, size_t pages_len, uint64_t answer[8]);
@@ -220,6 +223,12 @@ static inline size_t ynv_strip_words(size_t system_len, size_t graphics_len)
 static inline size_t ynv_work_words(size_t strip_len)
 {
     return 4 * strip_len;
+}
+
+/* Words at the front of work that ynv_serialize may change; it changes none behind them. */
+static inline size_t ynv_work_used(size_t strip_len)
+{
+    return 2 * strip_len;
 }
 
 /* Bytes of pages to lend for a strip, from its length alone (proved: crate `rooms`, pages-room). A block and what is

@@ -290,7 +290,9 @@ pub fn serialize(strip: &[u32]) -> Result<(Vec<u8>, Written), Refusal> {
 }
 
 /// Writes a strip's cell into the lent pages, whose first `length` bytes are the cell then; the others stay as they were,
-/// and a refusal changes none. Work may hold anything, before and after.
+/// and a refusal changes none. Work may hold anything before; after the call its first [`work_used`] words may hold
+/// anything, and those behind them are what they were, accepted or refused, which is proved. So the half behind may hold
+/// something else meanwhile.
 ///
 /// # Errors
 /// [`Refusal::BAD_STRIP`], [`Refusal::TOO_LITTLE_WORK`]; the reasons why a cell can't be saved,
@@ -502,7 +504,7 @@ pub fn strip_words(system: &[u8], graphics: &[u8]) -> usize {
     system.len().saturating_add(graphics.len()).min(MOST_WORDS)
 }
 
-/// Words of work to lend for a strip: four for each of its words.
+/// Words of work to lend for a strip: four for each of its words. Saving writes to the first [`work_used`] of them alone.
 ///
 /// ```
 /// assert_eq!(ynv::work_words(&[0; 15]), 60);
@@ -510,6 +512,22 @@ pub fn strip_words(system: &[u8], graphics: &[u8]) -> usize {
 #[must_use]
 pub fn work_words(strip: &[u32]) -> usize {
     strip.len().saturating_mul(4)
+}
+
+/// Words at the front of work that [`serialize_into`] may change: two for each word of the strip. It changes none behind
+/// them, accepted or refused, whatever the refusal, which is proved.
+///
+/// ```
+/// # let mut strip = vec![0; 15];
+/// # (strip[0], strip[1], strip[14]) = (1 << 28, 4, 5 << 28);
+/// let mut work = vec![7; ynv::work_words(&strip)];
+/// ynv::serialize_into(&strip, &mut work, &mut [0; 1000])?;
+/// assert!(work[ynv::work_used(&strip)..].iter().all(|&word| word == 7));
+/// # Ok::<(), ynv::Refusal>(())
+/// ```
+#[must_use]
+pub fn work_used(strip: &[u32]) -> usize {
+    strip.len().saturating_mul(2)
 }
 
 /// Bytes of pages to lend for a strip, from its length alone: 20 for each word and 8,192, at most [`MOST_BYTES`].

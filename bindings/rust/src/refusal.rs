@@ -4,7 +4,7 @@
 use std::error::Error;
 use std::fmt;
 
-/// Why a call turned its input away. Nothing that was lent to it has changed, except work.
+/// Why a call turned its input away. Nothing that was lent to it has changed, except the first words of work ([`work_used`](crate::work_used)).
 ///
 /// Its number is one of the constants below. Those under 100 are the library's; from 100 on they are this crate's own,
 /// and the library never answers them. Displayed, it is the table's sentence with number and place before it:

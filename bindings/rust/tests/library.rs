@@ -116,10 +116,37 @@ fn refusals_change_nothing() {
     assert!(pages.iter().all(|&byte| byte == 7));
 }
 
+/// A map cell whose second polygon has two corners.
+fn two_corners() -> Vec<u32> {
+    let mut words = cell();
+    words.extend([polygon(0, 3), polygon(1, 2), vec![5 << 28]].concat());
+    words
+}
+
+#[test]
+fn work_behind_comes_back() {
+    let (saved, refused) = (strip(100, 3), two_corners());
+    let mut endless = refused.clone();
+    endless.pop();
+    // Accepted; room, work too short; a bad polygon; no end.
+    for (strip, less_work, room, number) in [
+        (&saved, 0, ynv::pages_bytes(&saved), 0),
+        (&saved, 0, 100, 2),
+        (&saved, 1, ynv::pages_bytes(&saved), 1),
+        (&refused, 0, ynv::pages_bytes(&refused), 12),
+        (&endless, 0, ynv::pages_bytes(&endless), 3),
+    ] {
+        let mut work: Vec<u32> = (0..(ynv::work_words(strip) - less_work) as u32).collect();
+        let answer = serialize_into(strip, &mut work, &mut vec![0; room]);
+        assert_eq!(answer.map_or_else(|refusal| refusal.number, |_| 0), number);
+        let used = ynv::work_used(strip);
+        assert!(work[used..].iter().zip(used as u32..).all(|(&word, number)| word == number), "after {number}");
+    }
+}
+
 #[test]
 fn refusals_name_their_place() {
-    let mut two_corners = cell();
-    two_corners.extend([polygon(0, 3), polygon(1, 2), vec![5 << 28]].concat());
+    let two_corners = two_corners();
     assert_eq!(serialize(&two_corners), Err(refusal(12, 1)));
 
     let mut no_end = strip(2, 3);

@@ -6,6 +6,7 @@ use mathlib.Core.List.{List, _++_}
 use mathlib.Core.Logic.{_⊎_, inl, inr, ⊎-elim}
 use lib.ListN.{length, take, drop, length-append}
 use lib.Seq.{take-append-add}
+use Rattle.distinct.proofs.Left.{drop-more}
 use Rattle.strip.specs.Cell.{Cell, encode}
 use Rattle.strip.specs.Fits.{Words, InRange}
 use Rattle.strip.specs.Scan.{Scanned, ok, fault, scan}
@@ -25,13 +26,13 @@ use Rattle.write_pages.proofs.Accepted.{accepted}
 use Rattle.ynv_write.specs.declared.Written.{Written}
 use Rattle.ynv_write.specs.Serialize.{writtenOf, serializeOutcome}
 use Rattle.roundtrip.proofs.RoundTrip.{enough, saved, behind-stays, length-is}
-use Rattle.rooms.specs.Rooms.{pagesRoom, stripRoom}
+use Rattle.rooms.specs.Rooms.{workRoom, workUsed, pagesRoom, stripRoom}
 use Rattle.rooms.proofs.Rooms.{pages-room, strip-room}
 use Rattle.rooms.proofs.Last.{refused-accepted}
 
 -- ---- writing: with so much lent, a refusal is the strip's own, neither 1 nor 2
 
-module _ (strip : List ℕ) (work out : ℕ) (work-lent : 4 * length strip ≤ work) (pages-lent : pagesRoom (length strip) ≤ out) where
+module _ (strip : List ℕ) (work out : ℕ) (work-lent : workRoom (length strip) ≤ work) (pages-lent : pagesRoom (length strip) ≤ out) where
   verdict-late : (c : Cell) → scan strip ≡ ok c → (number place : ℕ) → cellVerdict (length strip) work out c ≡ refused number place → 10 ≤ number
   verdict-late c formed number place e = late below
     where
@@ -60,6 +61,11 @@ module _ (strip : List ℕ) (work out : ℕ) (work-lent : 4 * length strip ≤ w
 
   pub never-too-short : (place : ℕ) → shown (serializeOutcome strip work out) ≡ refusal 2 place → ⊥
   never-too-short place said = ⊎-elim (λ e. omega arith) (λ h. omega arith) (writing-enough 2 place said)
+
+-- n words that the caller keeps in work, at k behind those that the writer uses, are there after the call: `beyond` of the promise is all that this asks
+-- of work w before and w' after it
+pub kept-in-work : (strip w w' : List ℕ) → drop (2 * length strip) w' ≡ drop (2 * length strip) w → (k n : ℕ) → workUsed (length strip) ≤ k → take n (drop k w') ≡ take n (drop k w)
+kept-in-work strip w w' beyond k n h = ap (take n) (drop-more (2 * length strip) k h w' w beyond)
 
 -- ---- reading what was written: with so much lent, it is read
 

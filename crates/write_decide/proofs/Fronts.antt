@@ -1,9 +1,9 @@
 -- The checks before the polygons, and what the polygons' loop leaves, as `decide` promises it. Assumes nothing.
-use Prim.Native.Nat.{ℕ, _+_, _*_, _/_, _≤_, _<_}
+use Prim.Native.Nat.{ℕ, zero, suc, _+_, _*_, _/_, _≤_, _<_}
 use native.Mathlib.Omega.{arith}
 use native.Mathlib.Nat.{zero-add}
 use mathlib.Core.Bool.{not}
-use mathlib.Core.Path.{_≡_, refl, ap, sym, _∙_}
+use mathlib.Core.Path.{_≡_, refl, ap, sym, subst, _∙_}
 use mathlib.Core.List.{List, [], _∷_, map}
 use lib.ListN.{length, take, drop}
 use lib.Seq.{drop-drop}
@@ -26,7 +26,8 @@ use Rattle.distinct.specs.Numbers.{numbersFrom}
 use Rattle.distinct.proofs.Left.{drop-more}
 use Rattle.distinct.proofs.Final.{numbers-at-the-end}
 use Rattle.areas.specs.Areas.{seeded}
-use Rattle.write_vertices.specs.Table.{met, cleared}
+use Rattle.fields.specs.Bytes.{over}
+use Rattle.write_vertices.specs.Table.{met, cleared, Table}
 use Rattle.write_vertices.proofs.Clearing.{table-cleared, length-cleared, drop-cleared}
 use Rattle.write_vertices.proofs.Trees.{trees-fit}
 use Rattle.write_pages.specs.Items.{floats, Corner, corners, triples}
@@ -46,25 +47,40 @@ use Rattle.write_decide.specs.declared.Decision.{Decision}
 pub trees-in : (words : ℕ) → 14 ≤ words → (0 < trees words) × (trees words ≤ 65536) × (trees words ≤ words / 3)
 trees-in words h = trees-fit (words / 3) (trees words) (omega arith) refl
 
-module _ (s w wc : List ℕ) (l14 : 14 ≤ length s) (l4 : 4 * length s ≤ length w) (ec : wc ≡ cleared w (trees (length s))) where
-  within : trees (length s) ≤ length w
-  within = omega (arith, trees-in (length s) l14 .2)
+-- ---- the cleared table: k words of work, as many as the trees or more
 
+-- to clear the first of them again changes nothing
+cleared-again : (w : List ℕ) (b k : ℕ) → b ≤ k → cleared (cleared w k) b ≡ cleared w k
+unfolding cleared over
+cleared-again w zero k h = refl
+cleared-again [] (suc b) zero h = absurd (omega arith)
+cleared-again (x ∷ w) (suc b) zero h = absurd (omega arith)
+cleared-again [] (suc b) (suc k) h = refl
+cleared-again (x ∷ w) (suc b) (suc k) h = ap (λ (l : List ℕ). 0 ∷ l) (cleared-again w b k (omega arith))
+
+module _ (s w wc : List ℕ) (l14 : 14 ≤ length s) (l4 : 4 * length s ≤ length w) (k : ℕ) (all : trees (length s) ≤ k) (lk : k ≤ length w) (ec : wc ≡ cleared w k) where
   cleared-long : length wc ≡ length w
-  cleared-long = rw ec (length-cleared w (trees (length s)) within)
+  cleared-long = rw ec (length-cleared w k lk)
+
+  within : trees (length s) ≤ length wc
+  within = omega (arith, cleared-long)
+
+  same-table : cleared wc (trees (length s)) ≡ wc
+  same-table = rw ec (cleared-again w (trees (length s)) k all)
 
   pub ready : (ids : List ℕ) → length ids ≡ 32 → TablesReady wc ids (trees (length s)) (most (length s)) 0 0
   ready ids li = record {
-    table = rw ec (table-cleared w (trees (length s)) within (trees-in (length s) l14 .0) (omega (arith, trees-in (length s) l14 .1)));
+    table = subst (λ (t : List ℕ). Table t (trees (length s)) 0) same-table
+        (table-cleared wc (trees (length s)) within (trees-in (length s) l14 .0) (omega (arith, trees-in (length s) l14 .1)));
     few = omega arith;
     room = omega (arith, cleared-long, trees-in (length s) l14 .2);
     trees = omega arith;
     areas = li;
   }
 
-  same-behind : drop (tablesEnd (length s)) wc ≡ drop (tablesEnd (length s)) w
-  same-behind =
-      drop-more (indicesAt (length s)) (tablesEnd (length s)) (omega arith) wc w (rw ec (drop-cleared w (trees (length s)) within (most (length s))))
+  -- nothing behind the tables is cleared
+  same-behind : k ≤ tablesEnd (length s) → drop (tablesEnd (length s)) wc ≡ drop (tablesEnd (length s)) w
+  same-behind h = drop-more (k + 2 * 0) (tablesEnd (length s)) (omega arith) wc w (rw ec (drop-cleared w k lk 0))
 
 -- ---- the tables at the end
 
@@ -73,7 +89,7 @@ map-vertex f [] = refl
 map-vertex f (k ∷ ks) = ap (λ (l : List ℕ). f (k .vertex) ∷ l) (map-vertex f ks)
 
 module _ (s : List ℕ) (n : Counts) (h : Head) (cell : CellRecord) (same-cell : cell ≡ recordOf h) (w wc w' ids ids' : List ℕ) (t : Tables) (d : Decided)
-    (l14 : 14 ≤ length s) (l4 : 4 * length s ≤ length w) (ec : wc ≡ cleared w (trees (length s))) (ev : t .vertices ≡ 0) (ea : take (t .areas) ids ≡ seeded (h .area))
+    (l14 : 14 ≤ length s) (l4 : 4 * length s ≤ length w) (k : ℕ) (all : trees (length s) ≤ k) (lk : k ≤ length w) (ec : wc ≡ cleared w k) (ev : t .vertices ≡ 0) (ea : take (t .areas) ids ≡ seeded (h .area))
     (p : PolygonsDone (floats (h .bb-min)) (floats (h .bb-size)) wc w' ids ids' (trees (length s)) (most (length s)) t 0 0 0 (polygonsAt s 14 (n .polys)) d) where
   abbrev answer : Decision
   answer = record {
@@ -108,15 +124,15 @@ module _ (s : List ℕ) (n : Counts) (h : Head) (cell : CellRecord) (same-cell :
         cell = same-cell;
       }
 
-  pub polygons-done : WellDone s h n w w' answer
-  polygons-done =
+  pub polygons-done : k ≤ tablesEnd (length s) → WellDone s h n w w' answer
+  polygons-done few =
       let b = trees (length s) in
       let m = most (length s) in
       let same : drop (b + 2 * m + m) w' ≡ drop (b + 2 * m + m) wc = sym (drop-drop m (b + 2 * m) w') ∙ p .back ∙ drop-drop m (b + 2 * m) wc in
       record {
         verdict = λ rest. p .verdict rest ∙ rw (empty, ea);
-        long = p .long ∙ cleared-long s w wc l14 l4 ec;
-        beyond = same ∙ same-behind s w wc l14 l4 ec;
+        long = p .long ∙ cleared-long s w wc l14 l4 k all lk ec;
+        beyond = same ∙ same-behind s w wc l14 l4 k all lk ec few;
         counts-are = refl;
         tabled = λ z. tables-done z;
       }

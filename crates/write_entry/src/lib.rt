@@ -1,6 +1,7 @@
 // `serialize_ynv` for C: how its answer stands in eight words. `ynv` exports it.
 ghost use mathlib.Core.Path.{_≡_};
-ghost use lib.ListN.{length};
+ghost use Prim.Native.Nat.{_*_};
+ghost use lib.ListN.{length, drop};
 ghost use Rattle.fields.specs.Bytes.{over};
 ghost use Rattle.strip.specs.Outcome.{shown, left};
 ghost use Rattle.ynv_write.specs.Serialize.{serializeOutcome};
@@ -21,6 +22,7 @@ pub fn serialize_entry(
     ensures words { λ _. ⌜ now (answer .exit) ≡ over (answerWords writtenWords (shown (serializeOutcome (now (strip .entry)) (length (now (work .entry))) (length (now (pages .entry)))))) (now (answer .entry)) ⌝ }
     ensures pages { λ _. ⌜ now (pages .exit) ≡ left (serializeOutcome (now (strip .entry)) (length (now (work .entry))) (length (now (pages .entry)))) (now (pages .entry)) ⌝ }
     ensures work { λ _. ⌜ length (now (work .exit)) ≡ length (now (work .entry)) ⌝ }
+    ensures beyond { λ _. ⌜ drop (2 * length (now (strip .entry))) (now (work .exit)) ≡ drop (2 * length (now (strip .entry))) (now (work .entry)) ⌝ }
 {
     match ynv_write::serialize_ynv(strip, work, pages) {
         SerializeAnswer::Written(w) => accept(

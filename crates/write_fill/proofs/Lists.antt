@@ -24,7 +24,7 @@ use Rattle.write_pages.proofs.Sizes.{list-size, wide-vertices, wide-indices, wi
 use Rattle.write_decide.specs.Decide.{trees, indicesAt, tablesEnd, workPlaces}
 use Rattle.write_decide.specs.declared.Decision.{Decision}
 use Rattle.write_decide.specs.declared.WorkPlaces.{WorkPlaces}
-use Rattle.write_plan.specs.Plan.{boxes}
+use Rattle.write_plan.specs.Plan.{boxes, WorkHeld}
 use Rattle.strip.specs.Laid.{cellAt}
 use Rattle.write_plan.specs.Ready.{Ready}
 use Rattle.write_lists.specs.Words.{numberItems}
@@ -112,15 +112,27 @@ module _ (s w : List ℕ) (d : Decision) (R : Ready s w d) where
   indices-ask q e at here =
       (omega (arith, here, R .tabled .few-corners, R .room), rw (R .tabled .corner-count) (rooms cell (R .accepted) .indices q e))
 
-  pub edges-ask : (q : ℕ) → q ≡ endIndices (counts cell) (sectors cell) → (at : ℕ) → at ≡ trees (length s)
+  -- edges may be made wherever work has room for them
+  pub edges-ask : (q : ℕ) → q ≡ endIndices (counts cell) (sectors cell) → (at : ℕ) → at ≤ 3 * length s
       → (afterPolygons s 14 (d .counts .polys) ≤ length s) × (d .corners ≡ length (cornersAt s (d .counts .polys))) × (at + 2 * d .corners ≤ length w)
       × ListRoom q 8 (d .corners) (listSizes 8 (d .corners))
   unfolding endIndices endVertices endHeader counts
   edges-ask q e at here = (
     polys-inside,
     R .tabled .corner-count,
-    omega (arith, here, R .tabled .few-corners, R .room),
+    omega (arith, R .tabled .few-corners, R .room),
     rw (R .tabled .corner-count) (rooms cell (R .accepted) .edges q e),
+  )
+
+  pub polygons-ask : (w' : List ℕ) → WorkHeld s (d .counts) w' → (q : ℕ) → q ≡ endEdges (counts cell) (sectors cell) → (places : WorkPlaces) → places ≡ workPlaces (length s) (d .counts)
+      → (afterPolygons s 14 (d .counts .polys) ≤ length s)
+      × (take (places .leaves - places .boxes) (drop (places .boxes) w') ≡ boxes (polygonsAt s 14 (d .counts .polys)))
+      × ListRoom q 48 (d .counts .polys) (listSizes 48 (d .counts .polys))
+  unfolding endEdges endIndices endVertices endHeader counts
+  polygons-ask w' held q e places here = (
+    polys-inside,
+    box-part s w' (d .counts) held places here,
+    rw many-polys at (rooms cell (R .accepted) .polygons q e),
   )
 
   -- ---- the items that they lay out are the cell's
@@ -156,14 +168,14 @@ module _ (s w : List ℕ) (d : Decision) (R : Ready s w d) where
       let area = headAt s 0 .area in
       list-step (endEdges (counts cell) (sectors cell)) LIST-VFT-POLYS 48 (length ps) (polygonItems area 0 0 0 ps) (wide-polygons area 0 0 0 ps) (length-polygons area 0 0 0 ps) e (rw (area-is (headAt s 0) (d .cell) (R .tabled .cell))) f
 
-  -- ---- work, where the edges were made
+  -- ---- work, where the edges were made: before the quarter boxes, and before twice the strip's words
 
-  module _ (ids : List ℕ) (at : ℕ) (here : at ≡ trees (length s)) (w' : List ℕ) (e : w' ≡ put at (edgeWords ids (cornersAt s (d .counts .polys))) w) where
-    edges-end : at + length (edgeWords ids (cornersAt s (d .counts .polys))) ≤ indicesAt (length s)
-    edges-end = omega (arith, here, length-words ids (cornersAt s (d .counts .polys)), R .tabled .corner-count, R .tabled .few-corners)
-
-    behind-edges : (k : ℕ) → indicesAt (length s) ≤ k → drop k w' ≡ drop k w
-    behind-edges k h = rw e (drop-behind at (edgeWords ids (cornersAt s (d .counts .polys))) w k (omega (arith, edges-end)))
+  module _ (ids : List ℕ) (at : ℕ) (w' : List ℕ) (e : w' ≡ put at (edgeWords ids (cornersAt s (d .counts .polys))) w)
+      (inside : at + 2 * d .corners ≤ 2 * length s) (apart : at + 2 * d .corners ≤ tablesEnd (length s)) where
+    behind-edges : (k : ℕ) → at + 2 * d .corners ≤ k → drop k w' ≡ drop k w
+    behind-edges k h =
+        let made = edgeWords ids (cornersAt s (d .counts .polys)) in
+        rw e (drop-behind at made w k (omega (arith, length-words ids (cornersAt s (d .counts .polys)), R .tabled .corner-count)))
 
     pub work-left : Left s (d .counts) w w'
     work-left = record {
@@ -171,26 +183,15 @@ module _ (s w : List ℕ) (d : Decision) (R : Ready s w d) where
         accepted = R .accepted;
         held = record {
           room = omega (arith, R .held .room, same);
-          boxes-held = rw (behind-edges (tablesEnd (length s)) (omega arith)) (R .held .boxes-held);
+          boxes-held = rw (behind-edges (tablesEnd (length s)) apart) (R .held .boxes-held);
           leaves-held = rw (behind-edges (tablesEnd (length s) + 3 * d .counts .polys) (omega arith)) (R .held .leaves-held);
         };
         length-is = R .length-is;
         long = R .long;
       };
       long = same;
-      beyond = behind-edges (2 * length s) (omega arith);
+      beyond = behind-edges (2 * length s) inside;
     }
       where
         same : length w' ≡ length w
         same = rw e (length-put at (edgeWords ids (cornersAt s (d .counts .polys))) w)
-
-    pub polygons-ask : (q : ℕ) → q ≡ endEdges (counts cell) (sectors cell) → (places : WorkPlaces) → places ≡ workPlaces (length s) (d .counts)
-        → (afterPolygons s 14 (d .counts .polys) ≤ length s)
-        × (take (places .leaves - places .boxes) (drop (places .boxes) w') ≡ boxes (polygonsAt s 14 (d .counts .polys)))
-        × ListRoom q 48 (d .counts .polys) (listSizes 48 (d .counts .polys))
-    unfolding endEdges endIndices endVertices endHeader counts
-    polygons-ask q e places here = (
-      polys-inside,
-      box-part s w' (d .counts) (work-left .kept .held) places here,
-      rw many-polys at (rooms cell (R .accepted) .polygons q e),
-    )

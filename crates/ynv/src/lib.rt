@@ -1,6 +1,7 @@
 // The exported library: C entries, each of which takes every argument. Their bodies stand in the crates of their calls, and how they answer in `answers`.
 ghost use mathlib.Core.Path.{_≡_};
-ghost use lib.ListN.{length};
+ghost use Prim.Native.Nat.{_*_};
+ghost use lib.ListN.{length, drop};
 ghost use Rattle.fields.specs.Bytes.{over};
 ghost use Rattle.strip.specs.Outcome.{shown, left};
 ghost use Rattle.ynv_read.specs.Parse.{parseOutcome};
@@ -32,7 +33,8 @@ pub extern "C" fn ynv_parse<'a>(
     read_entry::parse_entry(system, graphics, strip, answer)
 }
 
-// Writes a strip's cell into the lent pages: their length in bytes, and how many points are stored and dropped. `work` is for the call's own use: four words to a word of the strip.
+// Writes a strip's cell into the lent pages: their length in bytes, and how many points are stored and dropped. `work` is for the call's own use, four
+// words to a word of the strip, of which no word from twice the strip's words on is changed, refused or not.
 #[no_mangle]
 pub extern "C" fn ynv_serialize(
     strip: &[u32],
@@ -44,6 +46,7 @@ pub extern "C" fn ynv_serialize(
     ensures answer { λ _. ⌜ now (answer .exit) ≡ over (answerWords writtenWords (shown (serializeOutcome (now (strip .entry)) (length (now (work .entry))) (length (now (pages .entry)))))) (now (answer .entry)) ⌝ }
     ensures pages { λ _. ⌜ now (pages .exit) ≡ left (serializeOutcome (now (strip .entry)) (length (now (work .entry))) (length (now (pages .entry)))) (now (pages .entry)) ⌝ }
     ensures work { λ _. ⌜ length (now (work .exit)) ≡ length (now (work .entry)) ⌝ }
+    ensures beyond { λ _. ⌜ drop (2 * length (now (strip .entry))) (now (work .exit)) ≡ drop (2 * length (now (strip .entry))) (now (work .entry)) ⌝ }
 {
     write_entry::serialize_entry(strip, work, pages, answer)
 }

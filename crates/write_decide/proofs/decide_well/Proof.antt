@@ -1,10 +1,11 @@
 -- `write_decide::decide_well` meets its contract: the seeds and the cleared table are where the polygons begin, and what they leave is the answer.
 use mathlib.Core.Path.{refl}
 use native.Mathlib.Omega.{arith}
+use lib.ListN.{length}
 use Rattle.strip.specs.Reading.{headAt}
 use Rattle.cell_record.specs.Record.{recordOf}
 use Rattle.areas.proofs.Seeds.{seeds-long, seeds-are}
-use Rattle.write_decide.proofs.Fronts.{ready, polygons-done}
+use Rattle.write_decide.proofs.Fronts.{trees-in, ready, polygons-done}
 use borrow.Author.Needs.{needs}
 use Rattle.write_decide.proofs.decide_well.Statement.{statement}
 use Rattle.write_decide.proofs.decide_well.Tie as tie
@@ -28,8 +29,9 @@ decide-polygons-requires c κs =
     let counted = seeded .before in
     let after-record-at = counted .before .before .before in
     let entry = after-record-at .before .before .before in
-    let clear = rw (counted .tree-count .ensures) at (cleared .clear .ensures) in
-    (entry .pre .1, omega arith, rw (counted .tree-count .ensures) (ready (entry .args .strip .now) _ _ (entry .pre .0) (entry .pre .2) clear _ (seeds-long _ _ (seeded .seed-areas .ensures))))
+    let trees = counted .tree-count .ensures in
+    let fit = trees-in (length (entry .args .strip .now)) (entry .pre .0) .2 in
+    (entry .pre .1, omega arith, rw trees (ready (entry .args .strip .now) _ _ (entry .pre .0) (entry .pre .2) _ (omega (arith, trees, fit)) (omega (arith, trees, fit, entry .pre .2)) (cleared .clear .ensures) _ (seeds-long _ _ (seeded .seed-areas .ensures))))
 
 areas-of-requires : tie.Need-areas-of-requires
 areas-of-requires c κs = search needs
@@ -48,10 +50,11 @@ returns c =
     let entry = after-record-at .before .before .before in
     let decided = after-decide-polygons .decide-polygons in
     let s = entry .args .strip .now in
-    let clear = rw (after-tree-count .tree-count .ensures) at (after-clear .clear .ensures) in
+    let trees = after-tree-count .tree-count .ensures in
+    let fit = trees-in (length s) (entry .pre .0) .2 in
     let done = rw (after-tree-count .tree-count .ensures, after-record-at .record-at .ensures) at (decided .ensures) in
     let seeds = rw (after-record-at .record-at .ensures) at (seeds-are _ _ (after-seed-areas .seed-areas .ensures)) in
-    rw (c .areas-of .ensures) (polygons-done s (entry .args .counts) (headAt s 0) _ (after-record-at .record-at .ensures) _ _ _ _ _ _ _ (entry .pre .0) (entry .pre .2) clear refl seeds done)
+    rw (c .areas-of .ensures) (polygons-done s (entry .args .counts) (headAt s 0) _ (after-record-at .record-at .ensures) _ _ _ _ _ _ _ (entry .pre .0) (entry .pre .2) _ (omega (arith, trees, fit)) (omega (arith, trees, fit, entry .pre .2)) (after-clear .clear .ensures) refl seeds done (omega (arith, trees, fit)))
 
 pub decide-well-spec : {M : Type 1} → statement M
 decide-well-spec =

@@ -7,6 +7,7 @@ use Rattle.write_blocks.specs.declared.Layout.{Layout}
 use Rattle.write_blocks.proofs.Layouts.{place-near, at-of}
 use Rattle.write_pages.specs.Pages.{counts, sectors, endHeader}
 use Rattle.write_decide.proofs.Places.{Cut, cut}
+use Rattle.write_plan.proofs.Rest.{rest-fits}
 use Rattle.strip.specs.Cell.{Cell}
 use Rattle.strip.specs.Laid.{cellAt}
 use Rattle.write_fill.specs.Filled.{Left}
@@ -71,11 +72,12 @@ edges-laid c =
 abbrev behind-edges : tie.After-cell → tie.After-lay-edges
 behind-edges c = c .before .before .before .before .before
 
--- work, where the edges were made
+-- the edges' items are made before twice the strip's words, and before the quarter boxes
 left-by : (c : tie.After-lay-edges) → let entry = entry-of (origin c) in Left (entry .args .strip .now) (entry .args .d .counts) (entry .args .work .now) (c .lay-edges .last .1 .1 .1 .1 .1 .1 .0)
 left-by c =
     let entry = entry-of (origin c) in
-    work-left (entry .args .strip .now) (entry .args .work .now) (entry .args .d) (entry .pre) _ _ (places (origin c) .vertices) _ (c .lay-edges .ensures .1)
+    let few = entry .pre .tabled .few-corners in
+    work-left (entry .args .strip .now) (entry .args .work .now) (entry .args .d) (entry .pre) _ _ _ (c .lay-edges .ensures .1) (omega (arith, places (origin c), few)) (omega (arith, places (origin c), few))
 
 -- ---- what each call asks for
 
@@ -96,7 +98,8 @@ lay-edges-requires c κs =
     let laid = c .before .before .before .before in
     let at = placed (behind-vertices laid) in
     let entry = entry-of at in
-    edges-ask (entry .args .strip .now) (entry .args .work .now) (entry .args .d) (entry .pre) _ (indices-laid laid .ends) _ (places at .vertices)
+    let rest-inside = rest-fits (entry .args .strip .now) (entry .args .d .counts) (entry .pre .long) (entry .pre .length-is) in
+    edges-ask (entry .args .strip .now) (entry .args .work .now) (entry .args .d) (entry .pre) _ (indices-laid laid .ends) _ (omega (arith, places at, rest-inside))
 
 mul-lay-polygons : tie.Need-mul-lay-polygons
 mul-lay-polygons c =
@@ -119,7 +122,7 @@ lay-polygons-requires c κs =
     let laid = behind-edges (c .before .before .before) in
     let at = origin laid in
     let entry = entry-of at in
-    polygons-ask (entry .args .strip .now) (entry .args .work .now) (entry .args .d) (entry .pre) _ _ (places at .vertices) _ (laid .lay-edges .ensures .1) _ (edges-laid laid .ends) _ (at .work-places .ensures)
+    polygons-ask (entry .args .strip .now) (entry .args .work .now) (entry .args .d) (entry .pre) _ (left-by laid .kept .held) _ (edges-laid laid .ends) _ (at .work-places .ensures)
 
 same-length : tie.Need-same-length
 same-length c = search needs

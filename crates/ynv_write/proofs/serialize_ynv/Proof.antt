@@ -1,4 +1,4 @@
--- `ynv_write::serialize_ynv` meets its contract: a plan's fault is the answer (`refuses`), then a length that doesn't fit (`too-short`), and otherwise what `fill` stored are the pages (`writes`). Assumes nothing.
+-- `ynv_write::serialize_ynv` meets its contract: a plan's fault is the answer (`refuses`), then a length that doesn't fit (`too-short`), and otherwise what `fill` stored are the pages (`writes`). That work stays behind twice the strip's words is the plan's part, and where nothing is refused also that of `fill`. Assumes nothing.
 use Prim.Native.Nat.{_≤_}
 use native.Mathlib.Omega.{arith}
 use mathlib.Core.Path.{_∙_}
@@ -13,6 +13,25 @@ use borrow.Author.Needs.{needs}
 use Rattle.ynv_write.proofs.serialize_ynv.Statement.{statement}
 use Rattle.ynv_write.proofs.serialize_ynv.Tie as tie
 
+-- ---- places: where `fill`, `pages_end`, the test of the verdict and `plan` have answered, each seen from the next, and where the call begins
+
+abbrev filled : tie.After-struct-known → tie.After-fill
+filled c = c .before .before .before .before .before
+
+abbrev ended : tie.After-fill → tie.After-pages-end
+ended c = c .before .before .before .before .before
+
+abbrev fine : tie.After-pages-end → tie.After-enum-told
+fine c = c .before .before
+
+abbrev planned : tie.After-enum-told → tie.After-plan
+planned c = c .before .before .before .before
+
+abbrev entry : tie.After-plan → tie.Start
+entry c = c .before .before .before .before .before
+
+-- ---- what each call asks for
+
 plan-requires : tie.Need-plan-requires
 plan-requires c κs = search needs
 
@@ -20,26 +39,13 @@ enum-told : tie.Need-enum-told
 enum-told c = search needs
 
 pages-end-requires : tie.Need-pages-end-requires
-pages-end-requires c κs = ready _ _ _ _ (c .before .before .before .before .before .plan .ensures) (c .before .enum-told .given .1)
-
-same-length : tie.Need-same-length
-same-length c = search needs
-
-returns : tie.Need-returns
-returns c =
-    let fine = c .before .before .before in
-    let planned = fine .before .before .before .before in
-    let a = planned .before .before .before .before .before .args in
-    let P = planned .plan .ensures in
-    let short = too-short (a .strip .now) (a .work .now) _ _ P (length (a .pages .now)) (fine .enum-told .given .1) (omega (arith, c .if1 .taken, pages-reached (cellAt (a .strip .now) (planned .plan .result .counts)) (c .before .pages-end .ensures .0))) in
-    (rw short, (rw short, P .long))
+pages-end-requires c κs = ready _ _ _ _ (planned (c .before) .plan .ensures) (c .before .enum-told .given .1)
 
 fill-requires : tie.Need-fill-requires
 fill-requires c κs =
-    let after-pages-end = c .before .before .before .before in
-    let after-enum-told = after-pages-end .before .before in
-    let after-plan = after-enum-told .before .before .before .before in
-    (ready _ _ _ _ (after-plan .plan .ensures) (after-enum-told .enum-told .given .1), after-pages-end .pages-end .ensures .1)
+    let reached = c .before .before .before .before in
+    let told = fine reached in
+    (ready _ _ _ _ (planned told .plan .ensures) (told .enum-told .given .1), reached .pages-end .ensures .1)
 
 cast-stored : tie.Need-cast-stored
 cast-stored c = search needs
@@ -47,51 +53,51 @@ cast-stored c = search needs
 -- no more are stored than there are
 sub-dropped : tie.Need-sub-dropped
 sub-dropped c =
-    let after-fill = c .before .before .before .before .before in
-    let after-pages-end = after-fill .before .before .before .before .before in
-    let fine = after-pages-end .before .before in
-    let planned = fine .before .before .before .before in
-    let entry = planned .before .before .before .before .before in
-    omega (arith, after-fill .fill .ensures .1, all-points (entry .args .strip .now) (planned .plan .result .counts))
+    let at-plan = planned (fine (ended (filled c))) in
+    omega (arith, filled c .fill .ensures .1, all-points (entry at-plan .args .strip .now) (at-plan .plan .result .counts))
 
 enum-known-verdict : tie.Need-enum-known-verdict
 enum-known-verdict c = search needs
 
-same-length-2 : tie.Need-same-length-2
-same-length-2 c = search needs
+-- ---- the three ends
 
-same-length-3 : tie.Need-same-length-3
-same-length-3 c = search needs
+-- the pages don't fit, and none of their bytes is stored
+returns : tie.Need-returns
+returns c =
+    let reached = c .before in
+    let told = fine reached in
+    let at-plan = planned told in
+    let a = entry at-plan .args in
+    let P = at-plan .plan .ensures in
+    let long = pages-reached (cellAt (a .strip .now) (at-plan .plan .result .counts)) (reached .pages-end .ensures .0) in
+    let short = too-short (a .strip .now) (a .work .now) _ _ P (length (a .pages .now)) (told .enum-told .given .1) (omega (arith, c .if1 .taken, long)) in
+    (rw short, (rw short, (P .long, P .beyond)))
 
+-- they fit, and are filled
 returns-2 : tie.Need-returns-2
 returns-2 c =
-    let after-fill = c .before .before .before .before .before in
-    let at-if1 = after-fill .before .before .before .before in
-    let after-pages-end = at-if1 .before in
-    let fine = after-pages-end .before .before in
-    let planned = fine .before .before .before .before in
-    let entry = planned .before .before .before .before .before in
-    let ended = after-pages-end .pages-end in
-    let a = entry .args in
-    let P = planned .plan .ensures in
+    let reached = ended (filled c) in
+    let told = fine reached in
+    let at-plan = planned told in
+    let a = entry at-plan .args in
+    let P = at-plan .plan .ensures in
     let out = length (a .pages .now) in
-    let none = fine .enum-told .given .1 in
-    let long = pages-reached (cellAt (a .strip .now) (planned .plan .result .counts)) (ended .ensures .0) in
-    let room : length (pages (cellAt (a .strip .now) (planned .plan .result .counts))) ≤ out = omega (arith, at-if1 .if1 .left, long) in
-    let F = after-fill .fill .ensures .0 in
-    let stored = after-fill .fill .ensures .1 in
-    (answers (a .strip .now) (a .work .now) _ _ P out none room long (omega (arith, stored)) (omega (arith, stored, all-points (a .strip .now) (planned .plan .result .counts))), (rw (writes (a .strip .now) (a .work .now) _ _ P out none room) (F .bytes ∙ put-whole _ _ room), F .long ∙ P .long))
+    let none = told .enum-told .given .1 in
+    let long = pages-reached (cellAt (a .strip .now) (at-plan .plan .result .counts)) (reached .pages-end .ensures .0) in
+    let enough = filled c .before .before .before .before .if1 .left in
+    let room : length (pages (cellAt (a .strip .now) (at-plan .plan .result .counts))) ≤ out = omega (arith, enough, long) in
+    let F = filled c .fill .ensures .0 in
+    let stored = filled c .fill .ensures .1 in
+    (answers (a .strip .now) (a .work .now) _ _ P out none room long (omega (arith, stored)) (omega (arith, stored, all-points (a .strip .now) (at-plan .plan .result .counts))), (rw (writes (a .strip .now) (a .work .now) _ _ P out none room) (F .bytes ∙ put-whole _ _ room), (F .long ∙ P .long, F .beyond ∙ P .beyond)))
 
-same-length-4 : tie.Need-same-length-4
-same-length-4 c = search needs
-
+-- the plan refuses
 returns-3 : tie.Need-returns-3
 returns-3 c =
-    let planned = c .before .before .before .before .before in
-    let a = planned .before .before .before .before .before .args in
-    let P = planned .plan .ensures in
+    let at-plan = c .before .before .before .before .before in
+    let a = entry at-plan .args in
+    let P = at-plan .plan .ensures in
     let refusal = refuses (a .strip .now) (a .work .now) _ _ P (length (a .pages .now)) _ (c .before .verdict .given .1) in
-    (rw refusal, (rw refusal, P .long))
+    (rw refusal, (rw refusal, (P .long, P .beyond)))
 
 pub serialize-ynv-spec : {M : Type 1} → statement M
 serialize-ynv-spec =
@@ -100,14 +106,14 @@ serialize-ynv-spec =
     plan-requires
     enum-told
     pages-end-requires
-    same-length
+    (λ c. search needs)
     returns
     fill-requires
     cast-stored
     sub-dropped
     enum-known-verdict
-    same-length-2
-    same-length-3
+    (λ c. search needs)
+    (λ c. search needs)
     returns-2
-    same-length-4
+    (λ c. search needs)
     returns-3)
