@@ -154,7 +154,10 @@ uint32_t ynv_parse(const uint8_t *system, size_t system_len, const uint8_t *grap
 uint32_t ynv_serialize(const uint32_t *strip, size_t strip_len, uint32_t *work, size_t work_len,
                        uint8_t *pages, size_t pages_len, uint64_t answer[8]);
 
-/* Counts the seams of a strip: halves of its edges, surplus ones too, whose area differs from the cell's by 1 or 100.
+/* Counts the seams of a strip: halves of its edges, surplus ones too, whose area touches the cell's. Two areas below
+ * 10000 touch when they differ by 100, or by 1 within the same row of a hundred: when their cells share a side, which is
+ * proved. An area of 10000 or more touches none: neither a vehicle's, nor 16383, which stands for none. Up to 0.1.0 any
+ * areas that differ by 1 or 100 counted.
  * Answer: the count.
  * Refusals: 3 badly formed strip (place: word). */
 uint32_t ynv_count_seams(const uint32_t *strip, size_t strip_len, uint64_t answer[8]);

@@ -136,7 +136,7 @@ static void put_yard(struct strip *strip)
 
 /* A beach at x = 9000, where the grid of cells ends. Five pieces of sand from south to north, which lead west to cell
  * 4098. The edge of the third that looks out to sea names area 4100 and a polygon there: that cell lies at the far
- * west, a row further north, and touches this one by its number alone. */
+ * west, a row further north, and is no neighbour, though it has the next number. */
 static void put_sand(struct strip *strip, uint32_t i)
 {
     enum { AREA = 4099, LAST = 4, ODD = 2 };

@@ -318,7 +318,9 @@ pub fn serialize_into(strip: &[u32], work: &mut [u32], pages: &mut [u8]) -> Resu
     Ok(Written { length, points_stored, points_dropped })
 }
 
-/// Counts the seams of a strip: halves of its edges, surplus ones too, whose area differs from the cell's by 1 or 100.
+/// Counts the seams of a strip: halves of its edges, surplus ones too, whose area touches the cell's. Two areas below
+/// 10000 touch when they differ by 100, or by 1 within the same row of a hundred: when their cells share a side. An area
+/// of 10000 or more touches none.
 ///
 /// # Errors
 /// [`Refusal::BAD_STRIP`] alone: so this call is also the test whether words are a strip.
@@ -334,6 +336,10 @@ pub fn serialize_into(strip: &[u32], work: &mut [u32], pages: &mut [u8]) -> Resu
 /// strip.extend(edge);
 /// strip.push(5 << 28);
 /// assert_eq!(ynv::count_seams(&strip)?, 1);
+///
+/// // At the east edge of the map cell 4100 is no neighbour of 4099: it lies at the far west of the next row.
+/// (strip[2], strip[27]) = (4099, 4100);
+/// assert_eq!(ynv::count_seams(&strip)?, 0);
 /// # Ok::<(), ynv::Refusal>(())
 /// ```
 pub fn count_seams(strip: &[u32]) -> Result<u64, Refusal> {

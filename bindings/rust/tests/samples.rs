@@ -2,16 +2,19 @@
 
 use std::fs;
 use std::path::Path;
-use ynv::{parse_ynv, serialize_ynv, Refusal, Ynv};
+use ynv::{count_seams, parse_ynv, serialize_ynv, Refusal, Ynv};
 
 /// A sample's file.
 fn sample(name: &str) -> Vec<u8> {
     fs::read(Path::new(env!("CARGO_MANIFEST_DIR")).join("../../samples").join(name)).unwrap()
 }
 
+fn words(strip: &[u8]) -> Vec<u32> {
+    strip.chunks_exact(4).map(|word| u32::from_le_bytes(word.try_into().unwrap())).collect()
+}
+
 fn cell(strip: &[u8]) -> Ynv {
-    let words: Vec<u32> = strip.chunks_exact(4).map(|word| u32::from_le_bytes(word.try_into().unwrap())).collect();
-    Ynv::from_strip(&words).unwrap()
+    Ynv::from_strip(&words(strip)).unwrap()
 }
 
 #[test]
@@ -28,6 +31,14 @@ fn samples_save_as_they_lie_there() {
         assert_eq!(opened.points.len() + dropped, drawn.points.len(), "{name}");
         let again = serialize_ynv(&opened).unwrap();
         assert_eq!((again.points_dropped, again.numbers_cut), (0, 0), "{name}");
+    }
+}
+
+/// The beach's two halves towards area 4100 are no seams: that cell lies at the other end of the map.
+#[test]
+fn seams_lead_to_cells_beside() {
+    for (name, seams) in [("yard", 6), ("east", 10), ("vehicle", 0)] {
+        assert_eq!(count_seams(&words(&sample(&format!("{name}.strip")))), Ok(seams), "{name}");
     }
 }
 

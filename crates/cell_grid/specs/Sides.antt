@@ -1,4 +1,4 @@
--- What is said of the sides of a coordinate's cells: where they stand, exactly, and whose the low one is. Definitions only.
+-- What is said of the sides of a coordinate's cells: where they stand, exactly, whose the low one is, and that the high one is the next one's low. Definitions only.
 use Prim.Native.Nat.{ℕ, suc, _+_, _*_}
 use mathlib.Core.Path.{_≡_}
 use mathlib.Core.Bool.{true, false}
@@ -16,3 +16,4 @@ pub record Sides (c : ℕ) : Type 0 where
   pub low : IsSide (lowSide c) c
   pub high : IsSide (highSide c) (suc c)
   pub own : coordinate (lowSide c) ≡ c
+  pub next : highSide c ≡ lowSide (suc c)

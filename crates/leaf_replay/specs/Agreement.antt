@@ -1,4 +1,4 @@
--- What the leaves, `pick_poly` and `export_obj` make of a record's words in, by its tag, and when a record agrees with them. Definitions only.
+-- What the leaves, `pick_poly`, `export_obj` and `count_seams` make of a record's words in, by its tag, and when a record agrees with them. Definitions only.
 use Prim.Native.Nat.{ℕ, _+_, _-_, _*_, _%_, _≤_, _<_}
 use mathlib.Core.Path.{_≡_}
 use mathlib.Core.Bool.{Bool, true, false, cond}
@@ -20,6 +20,8 @@ use Rattle.pick_contains.specs.declared.Spot.{Spot}
 use Rattle.picking.specs.Picking.{pickOutcome}
 use Rattle.pick_entry.specs.Entries.{foundWords}
 use Rattle.obj_replay.specs.Agreement.{DrawingAgrees}
+use Rattle.seams.specs.Seams.{seamOutcome}
+use Rattle.seams.specs.Entries.{seamWords}
 use Rattle.replay.specs.Ends.{recordEnd}
 use Rattle.replay.specs.Tallies.{Within, Passed, Counted}
 use Rattle.replay.specs.declared.Tally.{Tally}
@@ -61,6 +63,13 @@ pickNumber i = Words.numberOf (shown (pickOutcome (drop 2 i) (spotIn i)))
 abbrev pub pickWords : List ℕ → List ℕ
 pickWords i = over (Words.answerWords foundWords (shown (pickOutcome (drop 2 i) (spotIn i)))) (zeros 8)
 
+-- what counting a strip's seams answers for C
+abbrev pub seamsNumber : List ℕ → ℕ
+seamsNumber i = Words.numberOf (shown (seamOutcome i))
+
+abbrev pub seamsWords : List ℕ → List ℕ
+seamsWords i = over (Words.answerWords seamWords (shown (seamOutcome i))) (zeros 8)
+
 abbrev pub isRefused : Paper ℕ → Bool
 isRefused (values i) = false
 isRefused (refusal number place) = true
@@ -94,6 +103,7 @@ pub data Agrees : ℕ → List ℕ → List ℕ → Type 0 where
   as-strip : {i o : List ℕ} → (stripNumber i ≡ getD o 0 0) × FirstThree (stripWords i) o → Agrees 6 i o
   as-pick : {i o : List ℕ} → (pickNumber i ≡ getD o 0 0) × FirstThree (pickWords i) o → Agrees 7 i o
   as-drawing : {i o : List ℕ} → DrawingAgrees i o → Agrees 8 i o
+  as-seams : {i o : List ℕ} → (seamsNumber i ≡ getD o 0 0) × FirstThree (seamsWords i) o → Agrees 9 i o
 
 -- where the parts of the record at a place stand: what the list lacks is left out
 abbrev pub outputAt : List ℕ → ℕ → ℕ

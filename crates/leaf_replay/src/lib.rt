@@ -1,4 +1,4 @@
-// The records of the leaves' list: where their parts stand, and whether the words out are what the leaves, `pick_poly` and `export_obj` make of the words in.
+// The records of the leaves' list: where their parts stand, and whether the words out are what the leaves, `pick_poly`, `export_obj` and `count_seams` make of the words in.
 // The list is made of 32-bit little-endian words; a record is its tag, how many words go in and how many come out, and these words. The last
 // record has the tag 0, as what lies behind the list has.
 ghost use mathlib.Core.Path.{_≡_};
@@ -8,7 +8,7 @@ ghost use lib.ListN.{length, getD, drop};
 ghost use Rattle.fields.specs.Bytes.{zeros};
 ghost use Rattle.areas.specs.Areas.{seeded};
 ghost use Rattle.areas.specs.Tables.{stored};
-ghost use Rattle.leaf_replay.specs.Agreement.{shortOf, backOf, floorOf, ceilOf, placeIn, stripNumber, stripWords, pickNumber, pickWords, taking, AreasAgree, FirstThree, Agrees, recordOf, LeafRecordInside};
+ghost use Rattle.leaf_replay.specs.Agreement.{shortOf, backOf, floorOf, ceilOf, placeIn, stripNumber, stripWords, pickNumber, pickWords, seamsNumber, seamsWords, taking, AreasAgree, FirstThree, Agrees, recordOf, LeafRecordInside};
 use areas::AreaAnswer;
 use areas::Areas;
 use obj_replay::drawing_agrees;
@@ -72,6 +72,14 @@ fn pick_agrees(input: &[u32], output: &[u32]) -> bool
     let y = (input[1] % 65536) as u16;
     let mut answer = [0u64; 8];
     let number = pick_entry::pick_entry(&input[2..], x, y, &mut answer);
+    answer_agrees(number, &answer, output)
+}
+
+fn seams_agree(input: &[u32], output: &[u32]) -> bool
+    ensures { λ r. ⌜ (r ≡ true → (seamsNumber (now (input .entry)) ≡ getD (now (output .entry)) 0 0) × FirstThree (seamsWords (now (input .entry))) (now (output .entry))) ⌝ }
+{
+    let mut answer = [0u64; 8];
+    let number = seams::seams_entry(input, &mut answer);
     answer_agrees(number, &answer, output)
 }
 
@@ -183,7 +191,8 @@ pub fn agrees(tag: u32, input: &[u32], output: &[u32]) -> bool
         6 => strip_agrees(input, output),
         7 => pick_agrees(input, output),
         8 => drawing_agrees(input, output),
-        0 | 9..=4294967295 => false,
+        9 => seams_agree(input, output),
+        0 | 10..=4294967295 => false,
     }
 }
 

@@ -1,2 +1,4 @@
-pub mod Near
+pub mod Row
+pub mod Halves
 pub mod Theorems
+pub mod Before

@@ -1,23 +1,15 @@
--- The seam count: the halves of all of a strip's edges, surplus ones too, whose area differs from the cell's by 1 or 100 as whole numbers. Definitions only.
-use Prim.Native.Nat.{ℕ, _+_, _-_}
+-- The seam count: the halves of all of a strip's edges, surplus ones too, whose area touches the cell's. Definitions only.
+use Prim.Native.Nat.{ℕ, _+_}
 use mathlib.Core.List.{List, [], _∷_}
-use mathlib.Core.Bool.{Bool, _||_}
-use lib.Dec.{eqb}
+use mathlib.Core.Bool.{Bool}
 use Rattle.strip.specs.Cell.{Cell, NavEdgeEnd, NavEdge, NavPoly}
 use Rattle.strip.specs.Tests.{oneIf}
 use Rattle.strip.specs.Scan.{scan}
 use Rattle.strip.specs.Outcome.{Outcome, done, Paper, values, refusalOf}
 use Rattle.strip.specs.Check.{onCell}
+use Rattle.touching.specs.Touch.{touch}
 use Rattle.seams.specs.declared.SeamAnswer.{SeamAnswer}
 use Rattle.seams.specs.declared.SeamAnswer.the-variants.{Count, Refused}
-
--- how far apart two areas are, as whole numbers: nothing wraps
-abbrev pub apart : ℕ → ℕ → ℕ
-apart a b = (a - b) + (b - a)
-
--- which areas touch
-unfoldable pub touch : ℕ → ℕ → Bool
-touch a b = eqb (apart a b) 1 || eqb (apart a b) 100
 
 -- which halves are counted in the cell of an area
 unfoldable pub counted : ℕ → NavEdgeEnd → Bool

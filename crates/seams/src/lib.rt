@@ -8,28 +8,17 @@ ghost use Rattle.strip.specs.Reading.{halfAt, edgesAt};
 ghost use Rattle.strip.specs.Rows.{polygonsAt, afterPolygons};
 ghost use Rattle.strip.specs.Tests.{oneIf};
 ghost use Rattle.strip.specs.Outcome.{shown};
-ghost use Rattle.seams.specs.Seams as Seams;
 ghost use Rattle.seams.specs.Seams.{counted, edgeCount, halfCount, paper, seamOutcome};
 ghost use Rattle.seams.specs.Entries.{seamWords};
 use answers::accept;
 use answers::refuse;
 use strip::Refusal;
 use strip::StripAnswer;
+use touching::touch;
 
 pub enum SeamAnswer {
     Count(u64),
     Refused(Refusal),
-}
-
-// Whether the cells of two areas touch.
-fn touch(own: u32, area: u32) -> bool
-    ensures { λ r. ⌜ r ≡ Seams.touch own area ⌝ }
-{
-    let apart = if own < area { area - own } else { own - area };
-    match apart {
-        1 | 100 => true,
-        _ => false,
-    }
 }
 
 // 1 if the half at `at` is counted, otherwise 0.
@@ -41,8 +30,23 @@ fn half_seams(strip: &[u32], at: usize, own: u32) -> u64
     if touch(own, strip[at]) { 1 } else { 0 }
 }
 
-// The counted halves of `n` edges from `at` on.
-fn edge_seams(strip: &[u32], at: usize, n: usize, own: u32) -> u64
+// The counted halves of `n` edges from `at` on, by halves, which stand there in one row, two to an edge.
+fn few_seams(strip: &[u32], at: usize, n: usize, own: u32) -> u64
+    requires { ⌜ at + 6 * n ≤ length (now strip) ⌝ }
+    ensures count { λ r. ⌜ r ≡ edgeCount (counted own) (edgesAt (now (strip .entry)) at n) ⌝ }
+    ensures bound { λ r. ⌜ r ≤ 2 * n ⌝ }
+{
+    let mut count: u64 = 0;
+    let mut place = at;
+    for i in 0..2 * n {
+        count += half_seams(strip, place, own);
+        place += 3;
+    }
+    count
+}
+
+// The same by edges.
+fn many_seams(strip: &[u32], at: usize, n: usize, own: u32) -> u64
     requires { ⌜ at + 6 * n ≤ length (now strip) ⌝ }
     ensures count { λ r. ⌜ r ≡ edgeCount (counted own) (edgesAt (now (strip .entry)) at n) ⌝ }
     ensures bound { λ r. ⌜ r ≤ 2 * n ⌝ }
@@ -55,6 +59,20 @@ fn edge_seams(strip: &[u32], at: usize, n: usize, own: u32) -> u64
         place += 6;
     }
     count
+}
+
+// The same, whichever way is the faster one. Where the compiler knows that there are fewer than 16 halves, it lays out the turns of the loop over them
+// one behind the other, two halves to a turn, so that only the number of edges is left to guess for the processor; of more edges it takes four at a
+// time and has to count the rest apart.
+fn edge_seams(strip: &[u32], at: usize, n: usize, own: u32) -> u64
+    requires { ⌜ at + 6 * n ≤ length (now strip) ⌝ }
+    ensures count { λ r. ⌜ r ≡ edgeCount (counted own) (edgesAt (now (strip .entry)) at n) ⌝ }
+    ensures bound { λ r. ⌜ r ≤ 2 * n ⌝ }
+{
+    if n < 8 {
+        return few_seams(strip, at, n, own);
+    }
+    many_seams(strip, at, n, own)
 }
 
 // The counted halves of the first `n` polygons, surplus edges included.

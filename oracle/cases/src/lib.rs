@@ -5,6 +5,7 @@ pub mod damage;
 pub mod drawings;
 pub mod floats;
 pub mod limits;
+pub mod neighbours;
 pub mod pages;
 pub mod points;
 mod rng;

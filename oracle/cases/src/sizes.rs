@@ -56,6 +56,35 @@ pub fn squares(polys: usize, vertices: usize) -> Ynv {
     cell
 }
 
+/// How far areas are from a cell's: half of them touch it, where it is no cell at the grid's edge.
+const APART: [i32; 16] = [0, 1, -1, 100, -100, 2, 99, -99, 0, 1, -1, 100, -100, 12_343, 7, -7];
+
+/// An area about another.
+pub fn about(own: u32) -> impl FnMut(&mut Rng) -> u32 {
+    move |rng| own.wrapping_add_signed(rng.pick(&APART))
+}
+
+/// A cell of an area, of so many polygons, each with as many edges as vertices; how many, and the
+/// areas of the halves, as they are drawn.
+pub fn with_edges(
+    polys: usize,
+    own: u32,
+    mut edges: impl FnMut(&mut Rng) -> usize,
+    mut area: impl FnMut(&mut Rng) -> u32,
+) -> Ynv {
+    let mut rng = Rng::new(43);
+    let mut cell = squares(polys, 4 * polys);
+    cell.area_id = own;
+    for poly in &mut cell.polys {
+        let count = edges(&mut rng);
+        let corner = poly.vertices[0];
+        poly.vertices.resize(count, corner);
+        poly.edges.clear();
+        poly.edges.resize_with(count, || NavEdge { a: edge_end(area(&mut rng), 0), b: edge_end(area(&mut rng), 0) });
+    }
+    cell
+}
+
 /// A list's parts in written pages: addresses and counts.
 fn parts(pages: &Pages, list: usize) -> Vec<(u64, u32)> {
     let table = pages.offset(list + 0x10).unwrap();

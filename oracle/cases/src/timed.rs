@@ -4,7 +4,10 @@ use rage::ynv::Ynv;
 
 use crate::cells::empty_vehicle;
 use crate::pages::Pages;
-use crate::sizes::{divided, leaping, repeated, scattered, squares, wide, with_empty_parts, with_points};
+use crate::sizes::{
+    about, divided, leaping, repeated, scattered, squares, wide, with_edges, with_empty_parts, with_points,
+};
+use crate::Rng;
 
 pub struct Named<T> {
     pub name: &'static str,
@@ -42,6 +45,29 @@ pub const COSTLY: [Named<Ynv>; 4] = [
     named("8,192 polygons in each of 16 leaves", || wide(8192)),
     named("2,048 points in each of 16 leaves", || with_points(16 * 2048, in_leaf)),
     named("100,000 points in no leaf", || with_points(100_000, |_| (-900.0, 0.0))),
+];
+
+/// A cell in the grid's middle, with areas about its own.
+fn of_edges(polys: usize, edges: fn(&mut Rng) -> usize) -> Ynv {
+    with_edges(polys, 4040, edges, about(4040))
+}
+
+fn three_to_six(rng: &mut Rng) -> usize {
+    3 + rng.below(4) as usize
+}
+
+/// Cells for the seam count, by how many edges their polygons have.
+pub const EDGES: [Named<Ynv>; 10] = [
+    named("5,000 polygons of 4 edges", || of_edges(5000, |_| 4)),
+    named("the same, all areas NONE", || with_edges(5000, 4040, |_| 4, |_| 16_383)),
+    named("the same, in cell 4099", || with_edges(5000, 4099, |_| 4, about(4099))),
+    named("the same, in a vehicle's cell", || with_edges(5000, 10_000, |_| 4, about(10_000))),
+    named("5,000 polygons of 3 edges", || of_edges(5000, |_| 3)),
+    named("5,000 polygons of 6 edges", || of_edges(5000, |_| 6)),
+    named("5,000 polygons of 3 to 6 edges", || of_edges(5000, three_to_six)),
+    named("50 polygons of 400 edges", || of_edges(50, |_| 400)),
+    named("16,383 polygons of 4 edges", || of_edges(16_383, |_| 4)),
+    named("16,383 polygons of 3 to 6 edges", || of_edges(16_383, three_to_six)),
 ];
 
 fn cell() -> Pages {

@@ -8,9 +8,11 @@ pub mod ffi;
 pub mod ffi_ynv;
 pub mod guarded;
 pub mod heap;
+pub mod lent;
 pub mod obj;
 pub mod plain;
 pub mod plain_obj;
+pub mod plain_seams;
 pub mod plot;
 #[cfg(feature = "ynv")]
 pub mod races;

@@ -1,8 +1,8 @@
 //! The polygon under the cursor as plain Rust: one pass over the strip that checks it, then
 //! polygon by polygon and vertex by vertex up to the first that contains the spot. Nothing is
 //! allocated, and a vertex's x becomes a short only where its side may be crossed, as in the
-//! library, which is timed against it, since the Rust source has no such call. `plain_obj` takes
-//! the checks and shorts from here.
+//! library, which is timed against it, since the Rust source has no such call. `plain_obj` and
+//! `plain_seams` take the checks from here, the first one shorts too.
 
 use strips::Refusal;
 

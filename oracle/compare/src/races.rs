@@ -14,10 +14,10 @@ use cases::pages::Pages;
 use cases::spots::Spot;
 use rage::resource::{container, NO_COPY};
 use rage::ynv::{parse_ynv, serialize_ynv, Ynv};
-use strips::{encode, pick};
+use strips::{encode, pick, seams};
 
 use crate::timing::{Race, MOST_CALLS};
-use crate::{ffi_ynv, plain};
+use crate::{ffi_ynv, plain, plain_seams};
 
 /// Cells with fewer strip words are dropped at the end of a run, others after each call:
 /// many small ones need no fresh memory, and the clock would count for much.
@@ -147,6 +147,41 @@ impl Race for Picking {
     fn rust_call(&mut self) {
         let (strip, (x, y)) = black_box((&self.strip, self.spot));
         let _ = black_box(plain::pick(strip, x, y));
+    }
+
+    fn drop_kept(&mut self) {}
+
+    fn keeps_many(&self) -> bool {
+        true
+    }
+}
+
+/// The seam count, against plain Rust on the same strip that finds the areas which touch the
+/// cell's before it goes through the halves.
+pub struct Seams {
+    strip: Vec<u32>,
+}
+
+impl Seams {
+    /// Both sides' counts must be the judge's.
+    pub fn of(cell: &Ynv) -> Seams {
+        let strip = encode(cell);
+        let judged = seams(&strip).expect("a strip that is accepted");
+        assert_eq!(plain_seams::seams_by_neighbours(&strip), Ok(judged), "plain Rust differs");
+        let mut answer = [0; 8];
+        assert_eq!(ffi_ynv::count_seams(&strip, &mut answer), 0, "refused");
+        assert_eq!(answer[0], judged, "the library differs");
+        Seams { strip }
+    }
+}
+
+impl Race for Seams {
+    fn our_call(&mut self) {
+        black_box(ffi_ynv::count_seams(black_box(&self.strip), &mut [0; 8]));
+    }
+
+    fn rust_call(&mut self) {
+        let _ = black_box(plain_seams::seams_by_neighbours(black_box(&self.strip)));
     }
 
     fn drop_kept(&mut self) {}

@@ -38,6 +38,12 @@ fn replayed(tag: u32, input: &[u32]) -> Vec<u32> {
             text.resize(written.next_multiple_of(4), 0xD1);
             [vec![number, answer[0] as u32], words(&text)].concat()
         }
+        9 => {
+            let mut answer = [0; 8];
+            let number = under_test::count_seams(input, &mut answer);
+            assert_eq!(answer[1..], [0; 7], "behind the count");
+            vec![number, answer[0] as u32]
+        }
         tag => panic!("unknown tag {tag}"),
     }
 }

@@ -1,6 +1,6 @@
 -- `leaf_replay::agrees` meets its contract: each kind has its callee's promise.
 use mathlib.Core.Bool.{false≢true}
-use Rattle.leaf_replay.specs.Agreement.{as-short, as-back, as-quarter, as-areas, as-place, as-strip, as-pick, as-drawing}
+use Rattle.leaf_replay.specs.Agreement.{as-short, as-back, as-quarter, as-areas, as-place, as-strip, as-pick, as-drawing, as-seams}
 use borrow.Author.Needs.{needs}
 use Rattle.leaf_replay.proofs.agrees.Statement.{statement}
 use Rattle.leaf_replay.proofs.agrees.Tie as tie
@@ -29,6 +29,9 @@ pick-agrees-requires c κs = search needs
 drawing-agrees-requires : tie.Need-drawing-agrees-requires
 drawing-agrees-requires c κs = search needs
 
+seams-agree-requires : tie.Need-seams-agree-requires
+seams-agree-requires c κs = search needs
+
 returns : tie.Need-returns
 returns c = λ h. rw (c .before .match .keys1) (as-short (c .short-agrees .ensures h))
 
@@ -54,10 +57,13 @@ returns-8 : tie.Need-returns-8
 returns-8 c = λ h. rw (c .before .match .keys8) (as-drawing (c .drawing-agrees .ensures h))
 
 returns-9 : tie.Need-returns-9
-returns-9 c = λ h. absurd (false≢true h)
+returns-9 c = λ h. rw (c .before .match .keys9) (as-seams (c .seams-agree .ensures h))
 
 returns-10 : tie.Need-returns-10
 returns-10 c = λ h. absurd (false≢true h)
+
+returns-11 : tie.Need-returns-11
+returns-11 c = λ h. absurd (false≢true h)
 
 pub agrees-spec : {M : Type 1} → statement M
 agrees-spec =
@@ -71,6 +77,7 @@ agrees-spec =
     strip-agrees-requires
     pick-agrees-requires
     drawing-agrees-requires
+    seams-agree-requires
     returns
     returns-2
     returns-3
@@ -80,4 +87,5 @@ agrees-spec =
     returns-7
     returns-8
     returns-9
-    returns-10)
+    returns-10
+    returns-11)

@@ -1,16 +1,16 @@
 //! Instructions of one call, ours and the Rust's, as callgrind counts them: no other work on
 //! the machine changes them. Without arguments runs itself under valgrind for each cell,
 //! call and side, and prints a markdown table; with `parts` one for the costly part tables,
-//! which takes longer. `count read|write ours|Rust NAME` makes that one call in
-//! `counted_call`, for callgrind to count or to profile; before it both sides were called
-//! once and agreed.
+//! which takes longer; with `seams` one for the seam count. `count read|write|seams ours|Rust
+//! NAME` makes that one call in `counted_call`, for callgrind to count or to profile; before it
+//! both sides were called once and agreed.
 
 use std::env;
 use std::process::{exit, Command};
 
 use cases::pages::Pages;
-use cases::timed::{COSTLY, PART_TABLES, SIZES};
-use compare::races::{Reading, Writing};
+use cases::timed::{COSTLY, EDGES, PART_TABLES, SIZES};
+use compare::races::{Reading, Seams, Writing};
 use compare::timing::Race;
 use rage::ynv::Ynv;
 
@@ -22,7 +22,7 @@ fn counted_call(call: &mut dyn FnMut()) {
 }
 
 fn cell(name: &str) -> Option<Ynv> {
-    SIZES.iter().chain(&COSTLY).find(|case| case.name == name).map(|case| (case.make)())
+    SIZES.iter().chain(&COSTLY).chain(&EDGES).find(|case| case.name == name).map(|case| (case.make)())
 }
 
 fn pages(name: &str) -> Option<Pages> {
@@ -45,6 +45,7 @@ fn named_call(call: &str, side: &str, name: &str) -> Option<()> {
     match call {
         "read" => one_call(&mut Reading::of(pages(name)?), side),
         "write" => one_call(&mut Writing::of(cell(name)?), side),
+        "seams" => one_call(&mut Seams::of(&cell(name)?), side),
         _ => return None,
     }
     Some(())
@@ -97,15 +98,27 @@ fn part_tables() {
     }
 }
 
+fn seams() {
+    println!("Instructions per call.\n");
+    println!("| strip | ours | Rust, by neighbours | ours / Rust |");
+    println!("|---|---|---|---|");
+    for case in EDGES {
+        println!("| {} |{}", case.name, columns("seams", case.name));
+    }
+}
+
 fn main() {
     let arguments: Vec<String> = env::args().skip(1).collect();
     let arguments: Vec<&str> = arguments.iter().map(String::as_str).collect();
     match arguments[..] {
         [] => cells(),
         ["parts"] => part_tables(),
+        ["seams"] => seams(),
         [call, side, name] if named_call(call, side, name).is_some() => {}
         _ => {
-            eprintln!("count, count parts, or count read|write ours|Rust NAME (a name of the tables)");
+            eprintln!(
+                "count, count parts, count seams, or count read|write|seams ours|Rust NAME (a name of the tables)"
+            );
             exit(2);
         }
     }

@@ -1,15 +1,17 @@
 //! Compares `cell_for_position` and `cell_bounds` with the Rust itself, and `count_seams`
-//! with the judge. Prints cases and differences per function; exits 1 if there is any
-//! difference.
+//! with the judge, its strip and its answer lent at four places in guarded memory. Prints cases
+//! and differences per function; exits 1 if there is any difference.
 
 use std::process::exit;
 
 use cases::floats::{any, ODD};
-use cases::{damage, Rng};
+use cases::{damage, neighbours, Rng};
 use compare::ffi_ynv;
+use compare::guarded::PLACES;
+use compare::lent::{self, Memory};
 use compare::tally::Tally;
 use rage::ynv;
-use strips::{encode, seams, Refusal};
+use strips::{seams, Refusal};
 
 /// What stands in the answer before a call.
 const DIRTY: [u64; 8] = [0xD1_5EA5ED; 8];
@@ -93,37 +95,18 @@ fn cell_bounds() -> u64 {
     tally.done()
 }
 
-/// How far apart areas are tried, both ways and wrapping.
-const APART: [u32; 12] = [0, 1, 1, 1, 2, 10, 99, 100, 100, 101, 16_383, 1 << 31];
-
-/// A well-formed strip whose halves lie in and beside the cell's row and column.
-fn neighbours(rng: &mut Rng) -> Vec<u32> {
-    let mut cell = damage::small(rng);
-    if rng.once_in(2) {
-        cell.area_id = rng.pick(&[0, 1, 99, 100, 9_999, 10_000, 16_283, 16_382, 16_383, u32::MAX, u32::MAX - 99]);
-    }
-    let own = cell.area_id;
-    for edge in cell.polys.iter_mut().flat_map(|poly| &mut poly.edges) {
-        for half in [&mut edge.a, &mut edge.b] {
-            if !rng.once_in(8) {
-                let apart = rng.pick(&APART);
-                half.area_id = if rng.once_in(2) { own.wrapping_add(apart) } else { own.wrapping_sub(apart) };
-            }
-        }
-    }
-    encode(&cell)
-}
-
 fn count_seams() -> u64 {
-    let mut tally = Tally::new("count_seams");
-    let mut rng = Rng::new(23);
+    let (mut tally, mut rng, mut memory) = (Tally::new("count_seams"), Rng::new(23), Memory::default());
     let mut halves = 0;
     for n in 0..1_200_000 {
-        let strip = if n % 2 == 0 { neighbours(&mut rng) } else { damage::strip(&mut rng) };
+        let strip = if n % 2 == 0 { neighbours::strip(&mut rng) } else { damage::strip(&mut rng) };
         let judged = seams(&strip);
         halves += judged.unwrap_or(0);
-        let ours = called(|answer| ffi_ynv::count_seams(&strip, answer));
-        tally.compare(&strip, ours, expected(judged.map(|count| [count])));
+        // Well-formed strips and damaged ones lie at each place.
+        let place = PLACES[n / 2 % PLACES.len()];
+        memory.hold(place, &strip);
+        let left = memory.called(place, &strip, ffi_ynv::count_seams);
+        tally.compare(&strip, left, lent::expected(judged.map(|count| [count])));
     }
     println!("{halves} halves counted");
     tally.done()

@@ -9,7 +9,8 @@ use std::process::exit;
 use cases::spots::{self, Spot};
 use cases::{damage, floats, Rng};
 use compare::ffi_ynv;
-use compare::guarded::{Lender, PLACES};
+use compare::guarded::{Place, PLACES};
+use compare::lent::{expected, Memory};
 use compare::tally::Tally;
 use strips::{encode, outlines, pick, scan, spot, Refusal};
 
@@ -17,36 +18,9 @@ const CALLS: u64 = 1_000_000;
 /// Calls with the same strip in a row.
 const EACH: u64 = 4;
 
-/// What a call left: its number, the words of the answer that are its own, and whether the
-/// answer's other words, the strip and what lies around both are as they were.
-type Left = (u32, Vec<u64>, bool);
-
-fn expected(judged: Result<[u64; 2], Refusal>) -> Left {
-    match judged {
-        Ok([first, second]) => (0, vec![first, second, 0, 0, 0, 0, 0, 0], true),
-        Err(refusal) => (refusal.number, vec![refusal.place as u64], true),
-    }
-}
-
-/// What is lent.
-#[derive(Default)]
-struct Memory {
-    strip: Lender<u32>,
-    answer: Lender<u64>,
-}
-
-impl Memory {
-    fn called(&mut self, n: u64, strip: &[u32], call: impl FnOnce(&[u32], &mut [u64; 8]) -> u32) -> Left {
-        let place = PLACES[(n / EACH) as usize % PLACES.len()];
-        if n.is_multiple_of(EACH) {
-            self.strip.holding(place, strip);
-        }
-        self.answer.dirty(place, 8);
-        let number = call(self.strip.lent(), self.answer.lent().try_into().unwrap());
-        let own = if number == 0 { 8 } else { 1 };
-        let stays = self.answer.stays_from(own) && self.strip.stays_as(strip);
-        (number, self.answer.items()[..own].to_vec(), stays)
-    }
+/// Where the memory of a call lies.
+fn place(n: u64) -> Place {
+    PLACES[(n / EACH) as usize % PLACES.len()]
 }
 
 /// Whether the spot lies on the side between two corners, ends included.
@@ -91,14 +65,15 @@ fn picks() -> u64 {
         if n.is_multiple_of(EACH) {
             strip = spots::strip(&mut rng);
             corners = scan(&strip).map_or(Vec::new(), |cell| outlines(&cell));
+            memory.hold(place(n), &strip);
         }
         let (x, y) = spots::spot(&mut rng, &corners);
         let judged = pick(&strip, x, y);
         let found = judged.map(|poly| poly.map_or([0, 0], |number| [1, number as u64]));
-        let left = memory.called(n, &strip, |strip, answer| ffi_ynv::pick_poly(strip, x, y, answer));
+        let left = memory.called(place(n), &strip, |strip, answer| ffi_ynv::pick_poly(strip, x, y, answer));
         tally.compare((x, y, &strip), left, expected(found));
-        let place = if judged.is_ok() { lies(&corners, (x, y)) } else { "elsewhere" };
-        *places.entry(place).or_default() += 1;
+        let lies = if judged.is_ok() { lies(&corners, (x, y)) } else { "elsewhere" };
+        *places.entry(lies).or_default() += 1;
         let name = |poly: Option<usize>| if poly.is_some() { "a polygon" } else { "none" };
         *answers.entry(answered(judged, name)).or_default() += 1;
     }
@@ -126,10 +101,11 @@ fn positions() -> u64 {
     for n in 0..CALLS {
         if n.is_multiple_of(EACH) {
             (strip, axes) = boxed(&mut rng);
+            memory.hold(place(n), &strip);
         }
         let [x, y] = axes.map(|(lo, extent)| floats::on_axis(&mut rng, lo, extent));
         let judged = spot(&strip, x, y);
-        let left = memory.called(n, &strip, |strip, answer| ffi_ynv::spot_for_position(strip, x, y, answer));
+        let left = memory.called(place(n), &strip, |strip, answer| ffi_ynv::spot_for_position(strip, x, y, answer));
         let shorts = judged.map(|(x, y)| [u64::from(x), u64::from(y)]);
         tally.compare((x.to_bits(), y.to_bits(), &strip), left, expected(shorts));
         *answers.entry(answered(judged, |_| "a spot")).or_default() += 1;

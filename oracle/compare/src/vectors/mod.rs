@@ -9,6 +9,7 @@ mod picking;
 mod places;
 mod quarters;
 pub mod reading;
+mod seams;
 mod shorts;
 mod strip;
 pub mod writing;
@@ -50,5 +51,6 @@ pub fn all() -> Vectors {
     strip::strips(&mut out);
     picking::picks(&mut out);
     obj::objs(&mut out);
+    seams::counted(&mut out);
     out
 }
