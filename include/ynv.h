@@ -141,9 +141,14 @@ uint32_t ynv_parse(const uint8_t *system, size_t system_len, const uint8_t *grap
                    uint32_t *strip, size_t strip_len, uint64_t answer[8]);
 
 /* Writes a strip's cell as pages, a system section.
- * Answer: length of the pages in bytes, points stored, points dropped. A point is stored once, in the first leaf that
- * contains it in x and y, borders included. One that no leaf contains, outside the box or with a NaN, is dropped, which
- * is no refusal: tell whoever draws where answer[2] isn't 0. The two add up to how many points the strip has, which is proved.
+ * Answer: length of the pages in bytes, points stored, points dropped, coordinates pushed to the border. A point is stored
+ * once, in the first leaf that contains it in x and y, borders included. One that no leaf contains, outside the box or with
+ * a NaN, is dropped, which is no refusal: tell whoever draws where answer[2] isn't 0. The two add up to how many points the
+ * strip has, which is proved.
+ * answer[3] counts, coordinate by coordinate, the vertices of all polygons as often as they stand there, both ends of all
+ * portals and all points, dropped ones too: how many lie before bb_min or beyond the other end of a side of bb_size, or
+ * are a NaN. In the pages they stand at the border, a NaN at bb_min. What rounding brings to the border is inside, and no
+ * coordinate counts on a side below 2^-23. Tell whoever draws where it isn't 0.
  * Refusals: 3 badly formed strip (place: word); 1 too little work; 10 box; 11, 19, 20 too many polygons, portals or
  * links; 12 to 16 a polygon (place: its number); 17, 18 a leaf (place: its number); 2 the pages' room is too short.
  * Lend: ynv_work_words() words of work and ynv_pages_bytes() bytes of pages. With so much neither 1 nor 2 ever comes,

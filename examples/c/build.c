@@ -168,6 +168,7 @@ int main(int argc, char **argv)
     }
     printf("saved: %zu words of strip as %zu bytes of pages\n", strip.length, pages.length);
     printf("points: %" PRIu64 " stored, %" PRIu64 " outside the box and dropped\n", answer[1], answer[2]);
+    printf("coordinates pushed to the border: %" PRIu64 "\n", answer[3]);
     again = open_saved(pages, answer);
     print_strip(&again);
     print_drawing(&again);

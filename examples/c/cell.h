@@ -143,8 +143,8 @@ static inline void print_refusal(FILE *out, uint32_t number, uint64_t place)
     fprintf(out, ": %s\n", ynv_sentence(number));
 }
 
-/* Saves a strip as pages. The result is 0, with points stored and dropped in answer[1] and answer[2], or the number of
- * the refusal, whose place is in answer[0]. */
+/* Saves a strip as pages. The result is 0, with points stored and dropped in answer[1] and answer[2] and coordinates pushed
+ * to the border in answer[3], or the number of the refusal, whose place is in answer[0]. */
 static inline uint32_t save(const struct strip *strip, struct bytes *pages, uint64_t answer[8])
 {
     size_t work_words = ynv_work_words(strip->length);

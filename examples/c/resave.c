@@ -144,7 +144,7 @@ int main(int argc, char **argv)
     struct bytes after = write_cell(strip, answer);
     int same = before.length == after.length && memcmp(before.at, after.at, after.length) == 0;
     printf("written again: %zu bytes, %s\n", after.length, same ? "the same" : "other ones");
-    printf("points stored %" PRIu64 " dropped %" PRIu64 "\n", answer[1], answer[2]);
+    printf("points stored %" PRIu64 " dropped %" PRIu64 ", coordinates pushed %" PRIu64 "\n", answer[1], answer[2], answer[3]);
     free(before.at);
     free(strip.at);
     free(after.at);

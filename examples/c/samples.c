@@ -313,15 +313,15 @@ static void write_pages(const char *folder, const char *name, struct bytes pages
     end_file(out);
 }
 
-/* Opens what was saved and prints what it holds, and how many points saving dropped. */
-static void print_saved(struct bytes pages, uint64_t stored, uint64_t dropped)
+/* Opens what was saved and prints what it holds, and how many points saving dropped and coordinates it pushed. */
+static void print_saved(struct bytes pages, uint64_t stored, uint64_t dropped, uint64_t pushed)
 {
     uint64_t answer[8];
     struct strip again = open_saved(pages, answer);
     if (answer[3] != stored)
         trouble("the points that were stored must be read");
-    printf("%zu bytes: polygons %" PRIu64 " portals %" PRIu64 " points %" PRIu64 " dropped %" PRIu64, pages.length,
-           answer[1], answer[2], stored, dropped);
+    printf("%zu bytes: polygons %" PRIu64 " portals %" PRIu64 " points %" PRIu64 " dropped %" PRIu64 " pushed %" PRIu64,
+           pages.length, answer[1], answer[2], stored, dropped, pushed);
     if (ynv_count_seams(again.at, again.length, answer) != 0)
         trouble("a strip that was read must be well formed");
     printf(" seams %" PRIu64 "\n", answer[0]);
@@ -341,7 +341,7 @@ static void make(const char *folder, const char *name, void (*put_sample)(struct
     printf("%s: %zu words, ", name, strip.length);
     if (refused == 0) {
         write_pages(folder, name, pages);
-        print_saved(pages, answer[1], answer[2]);
+        print_saved(pages, answer[1], answer[2], answer[3]);
     } else {
         print_refusal(stdout, refused, answer[0]);
     }

@@ -85,6 +85,7 @@ pub struct Counts {
 
 /// What saving wrote, and what became of the points: a point is stored once, in the first leaf that contains it in x and
 /// y, borders included, and dropped where none does. The two counts add up to how many points the strip has, which is proved.
+/// A coordinate outside the box is pushed to its border, which is told too.
 #[derive(Debug, Clone, Copy, PartialEq, Eq)]
 #[non_exhaustive]
 pub struct Written {
@@ -94,6 +95,10 @@ pub struct Written {
     pub points_stored: usize,
     /// Points that lie in no leaf, outside the box or with a NaN, and are not in the pages.
     pub points_dropped: usize,
+    /// Coordinates that lie outside the box or are a NaN: of the vertices of all polygons as often as they stand there, of
+    /// both ends of all portals and of all points, dropped ones too. In the pages they stand at the border, a NaN at
+    /// `bb_min`. What rounding brings to the border is inside, and no coordinate counts on a side below 2⁻²³.
+    pub coordinates_pushed: usize,
 }
 
 /// The answer of an accepted call, or the refusal with its place.
@@ -118,7 +123,7 @@ pub fn parse_ynv(system: &[u8], graphics: &[u8]) -> Result<Ynv, Refusal> {
     Ynv::from_strip(&strip)
 }
 
-/// A cell that was saved: its pages, and what they could not keep. That positions move to the box's steps is not
+/// A cell that was saved: its pages, and what they could not keep. That positions inside the box move to its steps is not
 /// counted here.
 #[derive(Debug, Clone, PartialEq, Eq)]
 #[non_exhaustive]
@@ -129,6 +134,8 @@ pub struct Saved {
     pub points_stored: usize,
     /// Points that lie in no leaf of the cell, outside its box or with a NaN. With those stored they are all.
     pub points_dropped: usize,
+    /// Coordinates of vertices, portal ends and points that were pushed to the border of the box, as in [`Written`].
+    pub coordinates_pushed: usize,
     /// Edges beyond the number of their polygon's vertices.
     pub edges_dropped: usize,
     /// Numbers that have lost upper bits, being too large for their field in the pages: of an edge's half `poly` above
@@ -150,13 +157,15 @@ pub struct Saved {
 /// }
 /// let saved = ynv::serialize_ynv(&cell)?;
 /// assert_eq!((saved.points_stored, saved.points_dropped), (1, 1)); // one lies outside the box
+/// assert_eq!(saved.coordinates_pushed, 1); // by its x
 /// assert_eq!(ynv::parse_ynv(&saved.pages, &[])?.points.len(), 1);
 /// # Ok::<(), ynv::Refusal>(())
 /// ```
 pub fn serialize_ynv(cell: &Ynv) -> Result<Saved, Refusal> {
-    let (pages, Written { points_stored, points_dropped, .. }) = serialize(&cell.to_strip()?)?;
+    let (pages, written) = serialize(&cell.to_strip()?)?;
+    let Written { points_stored, points_dropped, coordinates_pushed, .. } = written;
     let (edges_dropped, numbers_cut) = (surplus_edges(cell), large_numbers(cell));
-    Ok(Saved { pages, points_stored, points_dropped, edges_dropped, numbers_cut })
+    Ok(Saved { pages, points_stored, points_dropped, coordinates_pushed, edges_dropped, numbers_cut })
 }
 
 fn surplus_edges(cell: &Ynv) -> usize {
@@ -253,7 +262,8 @@ pub fn parse_into(system: &[u8], graphics: &[u8], strip: &mut [u32]) -> Result<C
     Ok(Counts { words, polys, portals, points, sectors })
 }
 
-/// Writes a strip's cell as pages, a system section, and says how many points it stored and dropped.
+/// Writes a strip's cell as pages, a system section, and says how many points it stored and dropped, and how many
+/// coordinates it pushed to the border of the box.
 ///
 /// It lends [`work_words`] and [`pages_bytes`], so it is refused neither with 1 nor with 2, which is proved.
 ///
@@ -272,6 +282,7 @@ pub fn parse_into(system: &[u8], graphics: &[u8], strip: &mut [u32]) -> Result<C
 /// strip.push(5 << 28);
 /// let (pages, written) = ynv::serialize(&strip)?;
 /// assert_eq!((written.points_stored, written.points_dropped), (1, 1));
+/// assert_eq!(written.coordinates_pushed, 1); // the x of the second
 /// assert_eq!(written.length, pages.len());
 ///
 /// let refusal = ynv::serialize(&[1 << 28]).unwrap_err();
@@ -314,8 +325,9 @@ pub fn serialize(strip: &[u32]) -> Result<(Vec<u8>, Written), Refusal> {
 pub fn serialize_into(strip: &[u32], work: &mut [u32], pages: &mut [u8]) -> Result<Written, Refusal> {
     let mut answer = [0; 8];
     let number = ffi::serialize(strip, work, pages, &mut answer);
-    let [length, points_stored, points_dropped, ..] = accepted(number, answer)?.map(|count| count as usize);
-    Ok(Written { length, points_stored, points_dropped })
+    let [length, points_stored, points_dropped, coordinates_pushed, ..] =
+        accepted(number, answer)?.map(|count| count as usize);
+    Ok(Written { length, points_stored, points_dropped, coordinates_pushed })
 }
 
 /// Counts the seams of a strip: halves of its edges, surplus ones too, whose area touches the cell's. Two areas below

@@ -200,6 +200,33 @@ fn points_are_stored_once_or_dropped() {
     assert_eq!(points_of(&[vec![(20.0, 20.0); 38], vec![(151.0, 20.0); 2]].concat()), [(38, 2); 2]);
 }
 
+/// Coordinates pushed to the border of a box from 0 to 150, of a triangle, a portal and a point.
+#[test]
+fn coordinates_outside_are_counted() {
+    let pushed = |corner: [f32; 3], from: [f32; 3], to: [f32; 3], point: [f32; 3]| {
+        let mut words = cell();
+        words[11..14].copy_from_slice(&[150f32; 3].map(f32::to_bits));
+        words.extend([2 << 28 | 3, 0, 0, 0]);
+        words.extend([corner, [1.0; 3], corner].concat().into_iter().map(f32::to_bits));
+        words.extend([3 << 28, 0]);
+        words.extend([from, to].concat().into_iter().map(f32::to_bits));
+        words.extend([0, 0, 0, 4 << 28]);
+        words.extend(point.map(f32::to_bits));
+        words.push(5 << 28);
+        serialize(&words).unwrap().1.coordinates_pushed
+    };
+    let inside = [0.0, 150.0, -0.0];
+    assert_eq!(pushed(inside, inside, inside, inside), 0);
+    // The corner stands there twice.
+    assert_eq!(pushed([-1.0, 0.0, 150.1], inside, inside, inside), 4);
+    assert_eq!(pushed(inside, [f32::NAN, 1.0, 1.0], inside, inside), 1);
+    assert_eq!(pushed(inside, inside, [151.0, f32::INFINITY, -1.0], inside), 3);
+    assert_eq!(pushed(inside, inside, inside, [200.0, 75.0, 75.0]), 1);
+    // So little below the box that the fraction is -0.
+    assert_eq!(pushed([-f32::from_bits(1); 3], inside, inside, inside), 0);
+    assert_eq!(pushed([-1.0; 3], [-1.0; 3], [-1.0; 3], [-1.0; 3]), 15);
+}
+
 /// Two rectangles side by side, and one that covers both: a spot on the side that two share is in the right one alone,
 /// and the lowest number is answered.
 #[test]

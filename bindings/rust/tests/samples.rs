@@ -19,18 +19,19 @@ fn cell(strip: &[u8]) -> Ynv {
 
 #[test]
 fn samples_save_as_they_lie_there() {
-    for (name, polys, dropped) in
-        [("yard", 12, 0), ("east", 5, 0), ("vehicle", 5, 0), ("outside", 2, 2), ("field", 5000, 0)]
+    for (name, polys, dropped, pushed) in
+        [("yard", 12, 0, 0), ("east", 5, 0, 0), ("vehicle", 5, 0, 0), ("outside", 2, 2, 4), ("field", 5000, 0, 0)]
     {
         let drawn = cell(&sample(&format!("{name}.strip")));
         let saved = serialize_ynv(&drawn).unwrap();
         assert_eq!((drawn.polys.len(), saved.points_dropped), (polys, dropped), "{name}");
+        assert_eq!(saved.coordinates_pushed, pushed, "{name}");
         assert_eq!(saved.points_stored + dropped, drawn.points.len(), "{name}");
         assert!(saved.pages == sample(&format!("{name}.pages")), "{name}");
         let opened = parse_ynv(&saved.pages, &[]).unwrap();
         assert_eq!(opened.points.len() + dropped, drawn.points.len(), "{name}");
         let again = serialize_ynv(&opened).unwrap();
-        assert_eq!((again.points_dropped, again.numbers_cut), (0, 0), "{name}");
+        assert_eq!((again.points_dropped, again.coordinates_pushed, again.numbers_cut), (0, 0, 0), "{name}");
     }
 }
 

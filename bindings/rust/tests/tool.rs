@@ -105,9 +105,9 @@ fn dropped_points_are_told() {
     for (inside, outside, told) in [
         (0, 0, ""),
         (40, 0, ""),
-        (38, 2, "; 38 points stored, 2 lie outside the box and were dropped"),
-        (1, 1, "; 1 point stored, 1 lies outside the box and was dropped"),
-        (0, 3, "; 0 points stored, 3 lie outside the box and were dropped"),
+        (38, 2, "; 38 points stored, 2 lie outside the box and were dropped; coordinates pushed to the border 2"),
+        (1, 1, "; 1 point stored, 1 lies outside the box and was dropped; coordinates pushed to the border 1"),
+        (0, 3, "; 0 points stored, 3 lie outside the box and were dropped; coordinates pushed to the border 3"),
     ] {
         let output = said(inside, outside, text(&pages));
         let length = fs::metadata(&pages).unwrap().len();
@@ -117,9 +117,28 @@ fn dropped_points_are_told() {
     said(38, 2, text(&pages));
     let output = said(38, 2, "-");
     assert_eq!(output.stdout, fs::read(&pages).unwrap());
-    let told = "38 points stored, 2 lie outside the box and were dropped";
+    let told = "38 points stored, 2 lie outside the box and were dropped; coordinates pushed to the border 2";
     assert_eq!(err(&output), format!("ynv: {}: {told}\n", strip.display()));
     assert_eq!(err(&said(40, 0, "-")), "");
+}
+
+/// Above the box a polygon is pushed down to it and a point stays in its leaf: nothing else is lost.
+#[test]
+fn pushed_coordinates_are_told() {
+    let folder = folder("pushed");
+    let (strip, pages) = (folder.join("roof.strip"), folder.join("roof.pages"));
+    let mut cell = Ynv::new_cell(4040, Vec3::ZERO, Vec3::new(150.0, 150.0, 50.0));
+    let roof = [(10.0, 10.0), (20.0, 10.0), (20.0, 20.0)].map(|(x, y)| Vec3::new(x, y, 51.0));
+    cell.polys.push(NavPoly::new(roof.to_vec()));
+    cell.points.push(NavPoint { position: Vec3::new(15.0, 15.0, -1.0), ..NavPoint::default() });
+    fs::write(&strip, bytes(&cell.to_strip().unwrap())).unwrap();
+    let output = run(["write", text(&strip), text(&pages)]);
+    let length = fs::metadata(&pages).unwrap().len();
+    assert_eq!(out(&output), format!("bytes {length}; coordinates pushed to the border 4\n"));
+    let checked = out(&run(["check", text(&strip)]));
+    assert!(checked.ends_with("; coordinates pushed to the border 4\n"), "{checked}");
+    // What was saved stands at the border, and there nothing is pushed any more.
+    assert!(out(&run(["check", text(&pages)])).ends_with(&format!("saves, bytes {length}\n")));
 }
 
 #[test]
@@ -157,7 +176,8 @@ fn refusals_have_status_1_and_say_what_to_do() {
     let refused =
         "refused 16 at polygon 1: The polygon has more than 7 portal links. Leave this polygon at most 7 portal links.";
     assert!(lines[2].ends_with(refused), "{}", lines[2]);
-    assert!(lines[3].ends_with("; 1 point stored, 1 lies outside the box and was dropped"), "{}", lines[3]);
+    let told = "; 1 point stored, 1 lies outside the box and was dropped; coordinates pushed to the border 1";
+    assert!(lines[3].ends_with(told), "{}", lines[3]);
     assert_eq!(run(["check", SAMPLE]).status.code(), Some(0));
     // A file that can't be read outweighs a refusal.
     assert_eq!(run(["check", text(&short), "no such file", SAMPLE]).status.code(), Some(2));

@@ -125,6 +125,24 @@ fn lost(end: NavEdgeEnd) -> usize {
     [kept.poly != end.poly, kept.unk2 != end.unk2, kept.unk3 != end.unk3].into_iter().filter(|&lost| lost).count()
 }
 
+/// How many coordinates of a cell lie outside its box or are a NaN, by their fractions.
+fn pushed(cell: &Ynv) -> usize {
+    let outside = |a: f32, lo: f32, side: f32| {
+        let fraction = (a - lo) / side;
+        side.abs() >= f32::EPSILON && (fraction < 0.0 || fraction > 1.0 || fraction.is_nan())
+    };
+    let (lo, side) = (cell.bb_min, cell.bb_size);
+    let count = |v: Vec3| {
+        [(v.x, lo.x, side.x), (v.y, lo.y, side.y), (v.z, lo.z, side.z)]
+            .into_iter()
+            .filter(|&(a, lo, side)| outside(a, lo, side))
+            .count()
+    };
+    let vertices = cell.polys.iter().flat_map(|poly| poly.vertices.iter().copied());
+    let ends = cell.portals.iter().flat_map(|portal| [portal.from, portal.to]);
+    vertices.chain(ends).chain(cell.points.iter().map(|point| point.position)).map(count).sum()
+}
+
 #[test]
 fn saving_says_what_it_loses() {
     for seed in 0..CELLS {
@@ -134,6 +152,8 @@ fn saving_says_what_it_loses() {
         assert_eq!((saved.pages.len(), &saved.pages), (written.length, &pages));
         let told = (saved.points_stored, saved.points_dropped);
         assert_eq!(told, (written.points_stored, written.points_dropped));
+        assert_eq!(saved.coordinates_pushed, written.coordinates_pushed);
+        assert_eq!(saved.coordinates_pushed, pushed(&cell), "seed {seed}");
         let opened = parse_ynv(&saved.pages, &[]).unwrap();
         assert_eq!(opened.to_strip().unwrap(), parse(&saved.pages, &[]).unwrap().0);
         assert_eq!(told, (opened.points.len(), cell.points.len() - opened.points.len()), "seed {seed}");

@@ -61,7 +61,7 @@ fn vertex_length(strip: &[u32], place: usize, bb_min: Vec3, bb_size: Vec3) -> us
     ensures { λ r. ⌜ r ≡ length (vertexLine «bb_min» «bb_size» (vecAt (now (strip .entry)) place)) ⌝ }
 {
     let v = floats_at(strip, place);
-    let q = quantise::short::quantise(v, bb_min, bb_size);
+    let q = quantise::short::shorts_of(v, bb_min, bb_size);
     shorts_length(q)
 }
 

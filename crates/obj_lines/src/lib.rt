@@ -35,7 +35,7 @@ pub fn put_vertex(
     ensures { λ r. ⌜ Stored at (vertexLine «bb_min» «bb_size» (vecAt (now (strip .entry)) place)) (now (text .entry)) (now (text .exit)) r ⌝ }
 {
     let v = floats_at(strip, place);
-    let q = quantise::short::quantise(v, bb_min, bb_size);
+    let q = quantise::short::shorts_of(v, bb_min, bb_size);
     put_shorts(text, at, q)
 }
 

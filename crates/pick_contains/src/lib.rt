@@ -51,7 +51,8 @@ fn left_of(s: Spot, low: Spot, high: Spot) -> bool
 pub fn short_on(a: f32, axis: Axis) -> u16
     ensures { λ r. ⌜ r ≡ short a (axis .lo) (axis .extent) ⌝ }
 {
-    quantise_axis(a, axis.lo, axis.extent)
+    let made = quantise_axis(a, axis.lo, axis.extent);
+    made.q
 }
 
 // The same of the coordinate whose bits stand at `at`.

@@ -18,28 +18,32 @@ use ynv_write::SerializeAnswer;
 fn p1() -> u16
     ensures { λ r. ⌜ r ≡ 32768 ⌝ }
 {
-    quantise_axis(1.0, 0.0, 2.0)
+    let made = quantise_axis(1.0, 0.0, 2.0);
+    made.q
 }
 
 // extent 2^-24
 fn p2() -> u16
     ensures { λ r. ⌜ r ≡ 0 ⌝ }
 {
-    quantise_axis(1.0, 0.0, 0.000000059604645)
+    let made = quantise_axis(1.0, 0.0, 0.000000059604645);
+    made.q
 }
 
 // extent and a 2^-23, lo 0
 fn p3() -> u16
     ensures { λ r. ⌜ r ≡ 65535 ⌝ }
 {
-    quantise_axis(0.00000011920929, 0.0, 0.00000011920929)
+    let made = quantise_axis(0.00000011920929, 0.0, 0.00000011920929);
+    made.q
 }
 
 // a NaN
 fn p4() -> u16
     ensures { λ r. ⌜ r ≡ 0 ⌝ }
 {
-    quantise_axis(0.0 / 0.0, 0.0, 2.0)
+    let made = quantise_axis(0.0 / 0.0, 0.0, 2.0);
+    made.q
 }
 
 // −0.375 as min

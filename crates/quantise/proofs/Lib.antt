@@ -8,3 +8,4 @@ pub mod Capped
 pub mod Return
 pub mod Examples
 pub mod Fixed
+pub mod Outside

@@ -1,9 +1,9 @@
 -- Document 01, module 2: short numbers, over the logic's account of IEEE 754. Definitions only.
 -- An axis is given by its lo and its extent; what is turned stands before them: `short a lo extent`, `coordinate q lo extent`.
 use Prim.Native.Nat.{ℕ, _+_, _*_, _/_}
-use mathlib.Core.Bool.{false, cond}
+use mathlib.Core.Bool.{Bool, false, cond, not, _&&_, _||_}
 use lib.IntN.{pos, negsuc}
-use lib.Ieee.{Float, nan, inf, fin, binary32, up, down, add, sub, mul, div, lt, ofInt}
+use lib.Ieee.{Float, nan, inf, fin, binary32, up, down, add, sub, mul, div, lt, ofInt, isNan}
 use Rattle.math.specs.declared.vec3.Vec3.{Vec3}
 use Rattle.quantise.specs.declared.short.Shorts.{Shorts}
 
@@ -49,6 +49,15 @@ unfoldable pub short : Float → Float → Float → ℕ
 unfolding fraction clamped nearestNumber
 short a lo extent = cond (lt (magnitude extent) least) 0 (nearestNumber (mul binary32 (clamped (fraction a lo extent)) most))
 
+-- Document 02, No. 6: "whether the fraction was below 0, above 1 or a NaN. Negative zero is inside", as it isn't below 0
+unfoldable pub beyond : Float → Bool
+beyond t = lt t nought || lt unit t || isNan t
+
+-- whether a coordinate is outside its box on an axis. "an extent under 2^-23 in magnitude never counts"
+unfoldable pub outside : Float → Float → Float → Bool
+unfolding fraction beyond
+outside a lo extent = not (lt (magnitude extent) least) && beyond (fraction a lo extent)
+
 -- and back: lo + q / 65535 * extent
 unfoldable pub coordinate : ℕ → Float → Float → Float
 coordinate q lo extent = add binary32 lo (mul binary32 (div binary32 (ofInt binary32 (pos q)) most) extent)
@@ -57,3 +66,9 @@ coordinate q lo extent = add binary32 lo (mul binary32 (div binary32 (ofInt bina
 abbrev pub shorts : Vec3 → Vec3 → Vec3 → Shorts
 shorts v bb-min bb-size =
     record { x = short (v .x) (bb-min .x) (bb-size .x); y = short (v .y) (bb-min .y) (bb-size .y); z = short (v .z) (bb-min .z) (bb-size .z) }
+
+-- "counted coordinate by coordinate": how many of the three are outside
+unfoldable pub outsideCount : Vec3 → Vec3 → Vec3 → ℕ
+unfolding outside
+outsideCount v bb-min bb-size =
+    cond (outside (v .x) (bb-min .x) (bb-size .x)) 1 0 + cond (outside (v .y) (bb-min .y) (bb-size .y)) 1 0 + cond (outside (v .z) (bb-min .z) (bb-size .z)) 1 0

@@ -34,12 +34,12 @@ use write_vertex_numbers::All;
 pub extern "C" fn leaf_short(a: u32, lo: u32, extent: u32) -> u32
     ensures { λ r. ⌜ r ≡ short (ofBits binary32 a) (ofBits binary32 lo) (ofBits binary32 extent) ⌝ }
 {
-    let q = quantise::short::quantise_axis(
+    let made = quantise::short::quantise_axis(
         float_of_bits(a),
         float_of_bits(lo),
         float_of_bits(extent),
     );
-    q as u32
+    made.q as u32
 }
 
 // The coordinate of a short, of which the low 16 bits count.
@@ -119,7 +119,7 @@ pub extern "C" fn leaf_quantise_all(vertices: &[u32], bounds: &[u32; 6], out: &m
     let n = fields::least(vertices.len() / 3, out.len() / 3);
     let mut i = 0;
     while i < n {
-        let q = quantise::short::quantise(floats_at(vertices, 3 * i), bb_min, bb_size);
+        let q = quantise::short::shorts_of(floats_at(vertices, 3 * i), bb_min, bb_size);
         store(out, 3 * i, q);
         i += 1;
     }

@@ -1,11 +1,15 @@
 // The corners of a polygon in order: per vertex 14, then 15 for half a and b. On the way the vertex table, each corner's index and the area table
-// are made.
+// are made, and the coordinates that are pushed to the border are counted.
 ghost use mathlib.Core.Path.{_≡_};
 ghost use Prim.Native.Nat.{_+_, _*_, _≤_, _<_, _^_};
 ghost use lib.ListN.{length};
 ghost use Rattle.strip.specs.Reading.{vecAt, polygonOf};
+ghost use Rattle.quantise.specs.Short.{outsideCount};
+ghost use Rattle.cell_record.specs.Floats.{floats};
+ghost use Rattle.pushed.specs.Pushed.{pushedIn};
 ghost use Rattle.write_pages.specs.Items.{tripleIn, cornersIn};
 ghost use Rattle.write_corner_checks.specs.Steps.{areaOr, EdgeHas, TablesReady, CornerDone, CornersDone};
+ghost use Rattle.write_corner_checks.specs.declared.Check.the-variants.{Passed};
 use areas::AreaAnswer;
 use math::vec3::Vec3;
 use math::vec3::floats_at;
@@ -37,6 +41,18 @@ pub struct TablesAfter {
     pub check: Check,
 }
 
+// The same of a polygon, and how many coordinates of its vertices are outside.
+pub struct CornersAfter {
+    pub after: TablesAfter,
+    pub pushed: usize,
+}
+
+// A vertex as the writer numbers it, and how many of its coordinates are outside.
+pub struct Vertex {
+    pub triple: u64,
+    pub outside: usize,
+}
+
 // The areas of both halves of an edge: 15 where one would be a 33rd.
 fn ensure_edge(ids: &mut [u32; 32], len: usize, a: u32, b: u32) -> EdgeAreas
     requires { ⌜ length (now ids) ≡ 32 ⌝ }
@@ -66,15 +82,21 @@ fn ensure_edge(ids: &mut [u32; 32], len: usize, a: u32, b: u32) -> EdgeAreas
     }
 }
 
-// The triple of the vertex whose three words stand at `at`.
-fn triple_of(strip: &[u32], at: usize, bb_min: Vec3, bb_size: Vec3) -> u64
+// The vertex whose three words stand at `at`.
+fn vertex_at(strip: &[u32], at: usize, bb_min: Vec3, bb_size: Vec3) -> Vertex
     requires { ⌜ at + 3 ≤ length (now strip) ⌝ }
-    ensures triple { λ r. ⌜ r ≡ tripleIn «bb_min» «bb_size» (vecAt (now (strip .entry)) at) ⌝ }
-    ensures below { λ r. ⌜ r < 2 ^ 48 ⌝ }
+    ensures triple { λ r. ⌜ r .triple ≡ tripleIn «bb_min» «bb_size» (vecAt (now (strip .entry)) at) ⌝ }
+    ensures below { λ r. ⌜ r .triple < 2 ^ 48 ⌝ }
+    ensures outside { λ r. ⌜ r .outside ≡ outsideCount (floats (vecAt (now (strip .entry)) at)) «bb_min» «bb_size» ⌝ }
+    ensures bound { λ r. ⌜ r .outside ≤ 3 ⌝ }
 {
     let v = floats_at(strip, at);
-    let q = quantise::short::quantise(v, bb_min, bb_size);
-    (q.x as u64) + 65536 * (q.y as u64) + 4294967296 * (q.z as u64)
+    let made = quantise::short::quantise(v, bb_min, bb_size);
+    let q = made.shorts;
+    Vertex {
+        triple: (q.x as u64) + 65536 * (q.y as u64) + 4294967296 * (q.z as u64),
+        outside: made.outside as usize,
+    }
 }
 
 // The area that stands at `at` for a half of edge i, or that of no neighbour where there are only `edges`.
@@ -139,34 +161,39 @@ pub fn decide_vertices(
     room: usize,
     start: usize,
     old: Tables,
-) -> TablesAfter
+) -> CornersAfter
     requires { ⌜ (p .«vertex_at» + 3 * p .vertices ≤ length (now strip)) × (p .«edge_at» + 6 * p .edges ≤ length (now strip))
         × (start + p .vertices ≤ room) × TablesReady (now work) (now ids) buckets room (old .vertices) start ⌝ }
-    ensures { λ r. ⌜ CornersDone (now (work .entry)) (now (work .exit)) (now (ids .entry)) (now (ids .exit)) buckets room old start
-        (cornersIn «bb_min» «bb_size» (polygonOf (now (strip .entry)) p)) r ⌝ }
+    ensures corners { λ r. ⌜ CornersDone (now (work .entry)) (now (work .exit)) (now (ids .entry)) (now (ids .exit)) buckets room old start
+        (cornersIn «bb_min» «bb_size» (polygonOf (now (strip .entry)) p)) (r .after) ⌝ }
+    ensures pushed { λ r. ⌜ (r .after .check ≡ Passed → r .pushed ≡ pushedIn «bb_min» «bb_size» (polygonOf (now (strip .entry)) p .vertices)) ⌝ }
 {
     let vertices = p.vertices;
     let edges = p.edges;
     let mut v = p.vertex_at;
     let mut e = p.edge_at;
     let mut tables = old;
+    let mut pushed: usize = 0;
     let mut i: usize = 0;
     while i < vertices {
-        let triple = triple_of(strip, v, bb_min, bb_size);
+        let vertex = vertex_at(strip, v, bb_min, bb_size);
+        let triple = vertex.triple;
         let a = area_at(strip, e, i, edges);
         let b = area_at(strip, e + 3, i, edges);
         let after = decide_corner(work, ids, buckets, room, start + i, tables, triple, a, b);
         tables = after.tables;
         let check = after.check;
         if let Check::Refused(_) = check {
-            return TablesAfter { tables, check };
+            return CornersAfter { after, pushed };
         }
+        pushed += vertex.outside;
         v += 3;
         e += 6;
         i += 1;
     }
-    TablesAfter {
+    let after = TablesAfter {
         tables,
         check: Check::Passed,
-    }
+    };
+    CornersAfter { after, pushed }
 }

@@ -20,6 +20,7 @@ use Rattle.strip.proofs.Lengths.{poly-count}
 use Rattle.strip.proofs.Laid.{Well, cell-is, counts-back}
 use Rattle.strip.specs.declared.Refusal.{Refusal}
 use Rattle.cell_record.specs.Record.{recordOf}
+use Rattle.pushed.specs.Pushed.{pushedIn, verticesOf}
 use Rattle.cell_record.specs.declared.CellRecord.{CellRecord}
 use Rattle.distinct.specs.Distinct.{indexOf, distinctFrom}
 use Rattle.distinct.specs.Numbers.{numbersFrom}
@@ -90,7 +91,8 @@ map-vertex f (k ∷ ks) = ap (λ (l : List ℕ). f (k .vertex) ∷ l) (map-verte
 
 module _ (s : List ℕ) (n : Counts) (h : Head) (cell : CellRecord) (same-cell : cell ≡ recordOf h) (w wc w' ids ids' : List ℕ) (t : Tables) (d : Decided)
     (l14 : 14 ≤ length s) (l4 : 4 * length s ≤ length w) (k : ℕ) (all : trees (length s) ≤ k) (lk : k ≤ length w) (ec : wc ≡ cleared w k) (ev : t .vertices ≡ 0) (ea : take (t .areas) ids ≡ seeded (h .area))
-    (p : PolygonsDone (floats (h .bb-min)) (floats (h .bb-size)) wc w' ids ids' (trees (length s)) (most (length s)) t 0 0 0 (polygonsAt s 14 (n .polys)) d) where
+    (p : PolygonsDone (floats (h .bb-min)) (floats (h .bb-size)) wc w' ids ids' (trees (length s)) (most (length s)) t 0 0 0 (polygonsAt s 14 (n .polys)) d)
+    (counted : d .verdict ≡ Fine → d .pushed ≡ pushedIn (floats (h .bb-min)) (floats (h .bb-size)) (verticesOf (polygonsAt s 14 (n .polys)))) where
   abbrev answer : Decision
   answer = record {
     cell = cell;
@@ -99,6 +101,7 @@ module _ (s : List ℕ) (n : Counts) (h : Head) (cell : CellRecord) (same-cell :
     vertices = d .tables .vertices;
     corners = d .corners;
     links = d .links;
+    pushed = d .pushed;
     verdict = d .verdict;
   }
 
@@ -118,6 +121,7 @@ module _ (s : List ℕ) (n : Counts) (h : Head) (cell : CellRecord) (same-cell :
         areas = g .now-ids ∙ rw ea;
         corner-count = count;
         link-count = p .link-count z ∙ zero-add _;
+        pushed-count = counted z;
         few-vertices = p .ready z .few;
         few-corners = p .few z;
         few-polys = omega (arith, p .many z);

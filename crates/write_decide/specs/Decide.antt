@@ -12,6 +12,7 @@ use Rattle.strip.specs.Scan.{Scanned, ok, fault, scan}
 use Rattle.strip.specs.Laid.{cellCounts}
 use Rattle.strip.specs.declared.Counts.{Counts}
 use Rattle.cell_record.specs.Record.{recordOf}
+use Rattle.pushed.specs.Pushed.{pushedIn, verticesOf}
 use Rattle.distinct.specs.Distinct.{indexOf}
 use Rattle.areas.specs.Areas.{seeded}
 use Rattle.areas.specs.Tables.{areaIds}
@@ -77,6 +78,7 @@ pub record Tabled (words : ℕ) (h : Head) (ps : List NavPoly) (w : List ℕ) (d
   pub areas : areaIds (d .areas) ≡ areaTable (h .area) (corners (floats (h .bb-min)) (floats (h .bb-size)) ps)
   pub corner-count : d .corners ≡ length (corners (floats (h .bb-min)) (floats (h .bb-size)) ps)
   pub link-count : d .links ≡ length (linksOf ps)
+  pub pushed-count : d .pushed ≡ pushedIn (floats (h .bb-min)) (floats (h .bb-size)) (verticesOf ps)
   pub few-vertices : d .vertices ≤ d .corners
   pub few-corners : d .corners ≤ most words
   pub few-polys : 3 * length ps ≤ d .corners

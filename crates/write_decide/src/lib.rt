@@ -22,8 +22,8 @@ use write_corner_checks::Tables;
 use write_polygon_checks::Verdict;
 use write_polygon_checks::decide_polygons;
 
-// What a strip comes to: the verdict, and where nothing is refused its cell's record, its counts, the area table, and how many vertices, corners
-// and links there are.
+// What a strip comes to: the verdict, and where nothing is refused its cell's record, its counts, the area table, how many vertices, corners
+// and links there are, and how many coordinates of its vertices are pushed to the border.
 pub struct Decision {
     pub cell: CellRecord,
     pub counts: Counts,
@@ -31,6 +31,7 @@ pub struct Decision {
     pub vertices: usize,
     pub corners: usize,
     pub links: usize,
+    pub pushed: usize,
     pub verdict: Verdict,
 }
 
@@ -136,6 +137,7 @@ fn decide_well(strip: &[u32], counts: Counts, work: &mut [u32]) -> Decision
         vertices: tables.vertices,
         corners: d.corners,
         links: d.links,
+        pushed: d.pushed,
         verdict,
     }
 }
@@ -167,6 +169,7 @@ fn refuse(refusal: Refusal) -> Decision
         vertices: 0,
         corners: 0,
         links: 0,
+        pushed: 0,
         verdict: Verdict::Refused(refusal),
     }
 }

@@ -5,4 +5,4 @@ use Rattle.answers.specs.Words.{filled}
 use Rattle.ynv_write.specs.declared.Written.{Written}
 
 abbrev pub writtenWords : Written → List ℕ
-writtenWords w = filled (w .length ∷ w .stored ∷ w .dropped ∷ [])
+writtenWords w = filled (w .length ∷ w .stored ∷ w .dropped ∷ w .pushed ∷ [])

@@ -11,7 +11,7 @@ use answers::accept;
 use answers::refuse;
 use ynv_write::SerializeAnswer;
 
-// The length of the pages in bytes, the points stored and the points dropped.
+// The length of the pages in bytes, the points stored, the points dropped and the coordinates pushed to the border.
 pub fn serialize_entry(
     strip: &[u32],
     work: &mut [u32],
@@ -27,7 +27,12 @@ pub fn serialize_entry(
     match ynv_write::serialize_ynv(strip, work, pages) {
         SerializeAnswer::Written(w) => accept(
             answer,
-            &[w.length as u64, w.stored as u64, w.dropped as u64],
+            &[
+                w.length as u64,
+                w.stored as u64,
+                w.dropped as u64,
+                w.pushed as u64,
+            ],
         ),
         SerializeAnswer::Refused(r) => refuse(answer, r),
     }

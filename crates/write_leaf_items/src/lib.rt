@@ -107,7 +107,7 @@ fn put_point(out: &mut [u8], p: usize, strip: &[u32], at: usize, bb_min: Vec3, b
     ensures { λ _. ⌜ now (out .exit) ≡ put p (rowBytes (pointRow «bb_min» «bb_size» (pointAt (now (strip .entry)) at))) (now (out .entry)) ⌝ }
 {
     let position = floats_at(strip, at + 1);
-    let q = quantise::short::quantise(position, bb_min, bb_size);
+    let q = quantise::short::shorts_of(position, bb_min, bb_size);
     let bytes = (strip[at] % 65536) as u16;
     let words = [fields::pair(q.x, q.y), fields::pair(q.z, bytes)];
     stores::put_all(out, p, 4, &words);

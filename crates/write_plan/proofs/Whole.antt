@@ -63,6 +63,7 @@ tabled-kept words h ps w bs d v t = record {
   areas = t .areas;
   corner-count = t .corner-count;
   link-count = t .link-count;
+  pushed-count = t .pushed-count;
   few-vertices = t .few-vertices;
   few-corners = t .few-corners;
   few-polys = t .few-polys;

@@ -69,6 +69,7 @@ judged d v = record {
   vertices = d .vertices;
   corners = d .corners;
   links = d .links;
+  pushed = d .pushed;
   verdict = v;
 }
 

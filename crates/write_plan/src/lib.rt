@@ -149,6 +149,7 @@ fn with_verdict(d: Decision, verdict: Verdict) -> Decision
         vertices: d.vertices,
         corners: d.corners,
         links: d.links,
+        pushed: d.pushed,
         verdict,
     }
 }

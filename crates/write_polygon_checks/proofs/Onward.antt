@@ -119,10 +119,10 @@ module _ (bb-min bb-size : Floats) (w ids : List ℕ) (b m : ℕ) (t : Tables) (
 -- ---- all polygons
 
 module _ (bb-min bb-size : Floats) (w ids : List ℕ) (b m : ℕ) (t : Tables) (start k l : ℕ) where
-  none-left : TablesReady w ids b m (t .vertices) start → start ≤ m
-      → PolygonsDone bb-min bb-size w w ids ids b m t start k l [] (record { tables = t; corners = start; links = l; verdict = Fine })
+  none-left : (u : ℕ) → TablesReady w ids b m (t .vertices) start → start ≤ m
+      → PolygonsDone bb-min bb-size w w ids ids b m t start k l [] (record { tables = t; corners = start; links = l; pushed = u; verdict = Fine })
   unfolding polygonsVerdict gather
-  none-left r h = record {
+  none-left u r h = record {
     verdict = λ rest. refl;
     long = refl;
     back = refl;
@@ -135,10 +135,10 @@ module _ (bb-min bb-size : Floats) (w ids : List ℕ) (b m : ℕ) (t : Tables) (
   }
 
   module _ (w' ids' : List ℕ) (p : NavPoly) (ps : List NavPoly) (r : TablesAfter) (d : PolygonDone bb-min bb-size w w' ids ids' b m t start p r) where
-    stopped : (n : ℕ) → r .check ≡ Check.Refused n
-        → PolygonsDone bb-min bb-size w w' ids ids' b m t start k l (p ∷ ps) (record { tables = r .tables; corners = start; links = l; verdict = Refused (record { number = n; place = k }) })
+    stopped : (u n : ℕ) → r .check ≡ Check.Refused n
+        → PolygonsDone bb-min bb-size w w' ids ids' b m t start k l (p ∷ ps) (record { tables = r .tables; corners = start; links = l; pushed = u; verdict = Refused (record { number = n; place = k }) })
     unfolding polygonsVerdict
-    stopped n en = record {
+    stopped u n en = record {
       verdict = λ rest. rw en at (d .fault k (polygonsVerdict bb-min bb-size (distinctFrom (met w b (t .vertices)) (triples (cornersIn bb-min bb-size p))) (distinctFrom (take (t .areas) ids) (named (cornersIn bb-min bb-size p))) (start + length (p .vertices)) (k + 1) ps rest));
       long = d .long;
       back = d .back;
@@ -198,9 +198,9 @@ module _ (s : List ℕ) (bb-min bb-size : Floats) (n b m : ℕ) (t₀ : Tables) 
     next-in = next-inside s at i n (length s) h (g .inside) p e
 
     module _ (w' ids' : List ℕ) (r : TablesAfter) (d : PolygonDone bb-min bb-size w w' ids ids' b m t start (polygonOf s p) r) where
-      pub stop : (j : ℕ) → r .check ≡ Check.Refused j
-          → PolygonsDone bb-min bb-size w₀ w' ids₀ ids' b m t₀ 0 0 0 (polygonsAt s 14 n) (record { tables = r .tables; corners = start; links = l; verdict = Refused (record { number = j; place = i }) })
-      stop j ej = g .rest w' ids' _ (rw (polygons-turn s at i n h p e) (stopped bb-min bb-size w ids b m t start i l w' ids' (polygonOf s p) _ r d j ej))
+      pub stop : (u j : ℕ) → r .check ≡ Check.Refused j
+          → PolygonsDone bb-min bb-size w₀ w' ids₀ ids' b m t₀ 0 0 0 (polygonsAt s 14 n) (record { tables = r .tables; corners = start; links = l; pushed = u; verdict = Refused (record { number = j; place = i }) })
+      stop u j ej = g .rest w' ids' _ (rw (polygons-turn s at i n h p e) (stopped bb-min bb-size w ids b m t start i l w' ids' (polygonOf s p) _ r d u j ej))
 
       pub again : r .check ≡ Check.Passed → Onward s bb-min bb-size n b m t₀ w₀ ids₀ w' ids' (r .tables) (p .next) (start + p .vertices) (l + p .links) (i + 1)
       unfolding polygonOf
@@ -218,8 +218,8 @@ module _ (s : List ℕ) (bb-min bb-size : Floats) (n b m : ℕ) (t₀ : Tables) 
                 (rw (polygons-turn s at i n h p e) (went-on bb-min bb-size w ids b m t start i l w' ids' (polygonOf s p) _ r d none w'' ids'' o (rw (← vertex-count s p, ← link-count s p) at k)));
           }
 
-  pub done : (w ids : List ℕ) (t : Tables) (at start l i : ℕ) → Onward s bb-min bb-size n b m t₀ w₀ ids₀ w ids t at start l i → n ≤ i → length s ≤ 3 * m + 2
-      → PolygonsDone bb-min bb-size w₀ w ids₀ ids b m t₀ 0 0 0 (polygonsAt s 14 n) (record { tables = t; corners = start; links = l; verdict = Fine })
-  done w ids t at start l i g h fit =
+  pub done : (w ids : List ℕ) (t : Tables) (at start l u i : ℕ) → Onward s bb-min bb-size n b m t₀ w₀ ids₀ w ids t at start l i → n ≤ i → length s ≤ 3 * m + 2
+      → PolygonsDone bb-min bb-size w₀ w ids₀ ids b m t₀ 0 0 0 (polygonsAt s 14 n) (record { tables = t; corners = start; links = l; pushed = u; verdict = Fine })
+  done w ids t at start l u i g h fit =
       let few : start ≤ m = omega (arith, g .ahead, g .inside, after-ge (n - i) s at) in
-      g .rest w ids _ (rw (items-done (polygonAt s) (λ x. polyAt s x .next) at i n h) (none-left bb-min bb-size w ids b m t start i l (g .ready) few))
+      g .rest w ids _ (rw (items-done (polygonAt s) (λ x. polyAt s x .next) at i n h) (none-left bb-min bb-size w ids b m t start i l u (g .ready) few))

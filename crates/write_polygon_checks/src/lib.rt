@@ -1,14 +1,19 @@
 // The polygons of a strip in order: 12, 13, then the corners' checks, then 16.
+ghost use mathlib.Core.Path.{_≡_};
 ghost use Prim.Native.Nat.{_+_, _*_, _≤_};
 ghost use lib.ListN.{length};
 ghost use Rattle.strip.specs.Reading.{polygonOf};
 ghost use Rattle.strip.specs.Rows.{polygonsAt, afterPolygons};
+ghost use Rattle.pushed.specs.Pushed.{pushedIn, verticesOf};
 ghost use Rattle.write_corner_checks.specs.Steps.{HasFault, TablesReady};
+ghost use Rattle.write_corner_checks.specs.declared.Check.the-variants.{Passed};
 ghost use Rattle.write_polygon_checks.specs.Steps.{runFault, PolygonDone, PolygonsDone};
+ghost use Rattle.write_polygon_checks.specs.declared.Verdict.the-variants.{Fine};
 use math::vec3::Vec3;
 use strip::Poly;
 use strip::Refusal;
 use write_corner_checks::Check;
+use write_corner_checks::CornersAfter;
 use write_corner_checks::Tables;
 use write_corner_checks::TablesAfter;
 use write_corner_checks::decide_vertices;
@@ -19,11 +24,12 @@ pub enum Verdict {
     Refused(Refusal),
 }
 
-// What the polygons come to: the tables, how many corners and links there are, and the verdict.
+// What the polygons come to: the tables, how many corners and links there are, how many coordinates are pushed, and the verdict.
 pub struct Decided {
     pub tables: Tables,
     pub corners: usize,
     pub links: usize,
+    pub pushed: usize,
     pub verdict: Verdict,
 }
 
@@ -39,20 +45,22 @@ fn decide_polygon(
     room: usize,
     start: usize,
     old: Tables,
-) -> TablesAfter
+) -> CornersAfter
     requires { ⌜ (p .«vertex_at» + 3 * p .vertices ≤ length (now strip)) × (p .«edge_at» + 6 * p .edges ≤ length (now strip))
         × (start + p .vertices ≤ room) × TablesReady (now work) (now ids) buckets room (old .vertices) start ⌝ }
-    ensures { λ r. ⌜ PolygonDone «bb_min» «bb_size» (now (work .entry)) (now (work .exit)) (now (ids .entry)) (now (ids .exit)) buckets room old start
-        (polygonOf (now (strip .entry)) p) r ⌝ }
+    ensures polygon { λ r. ⌜ PolygonDone «bb_min» «bb_size» (now (work .entry)) (now (work .exit)) (now (ids .entry)) (now (ids .exit)) buckets room old start
+        (polygonOf (now (strip .entry)) p) (r .after) ⌝ }
+    ensures pushed { λ r. ⌜ (r .after .check ≡ Passed → r .pushed ≡ pushedIn «bb_min» «bb_size» (polygonOf (now (strip .entry)) p .vertices)) ⌝ }
 {
     let run = check_run(p.vertices, start);
     if let Check::Refused(_) = run {
-        return TablesAfter {
+        let after = TablesAfter {
             tables: old,
             check: run,
         };
+        return CornersAfter { after, pushed: 0 };
     }
-    let after = decide_vertices(
+    let done = decide_vertices(
         strip,
         p,
         bb_min,
@@ -64,19 +72,21 @@ fn decide_polygon(
         start,
         old,
     );
-    let check = after.check;
+    let corners = done.after;
+    let check = corners.check;
     if let Check::Refused(_) = check {
-        return after;
+        return done;
     }
     let links = p.links;
     if 7 < links {
-        let tables = after.tables;
-        return TablesAfter {
+        let tables = corners.tables;
+        let after = TablesAfter {
             tables,
             check: Check::Refused(16),
         };
+        return CornersAfter { after, pushed: 0 };
     }
-    after
+    done
 }
 
 // 12, 13: of a polygon with so many vertices, whose run begins at `start`.
@@ -109,17 +119,19 @@ pub fn decide_polygons(
 ) -> Decided
     requires { ⌜ (afterPolygons (now strip) 14 n ≤ length (now strip)) × (length (now strip) ≤ 3 * room + 2)
         × TablesReady (now work) (now ids) buckets room (old .vertices) 0 ⌝ }
-    ensures { λ r. ⌜ PolygonsDone «bb_min» «bb_size» (now (work .entry)) (now (work .exit)) (now (ids .entry)) (now (ids .exit)) buckets room old 0 0 0
+    ensures polygons { λ r. ⌜ PolygonsDone «bb_min» «bb_size» (now (work .entry)) (now (work .exit)) (now (ids .entry)) (now (ids .exit)) buckets room old 0 0 0
         (polygonsAt (now (strip .entry)) 14 n) r ⌝ }
+    ensures pushed { λ r. ⌜ (r .verdict ≡ Fine → r .pushed ≡ pushedIn «bb_min» «bb_size» (verticesOf (polygonsAt (now (strip .entry)) 14 n))) ⌝ }
 {
     let mut tables = old;
     let mut at: usize = 14;
     let mut start: usize = 0;
     let mut links: usize = 0;
+    let mut pushed: usize = 0;
     let mut i: usize = 0;
     while i < n {
         let p = strip::poly_at(strip, at);
-        let after = decide_polygon(
+        let done = decide_polygon(
             strip,
             p,
             bb_min,
@@ -131,6 +143,7 @@ pub fn decide_polygons(
             start,
             tables,
         );
+        let after = done.after;
         tables = after.tables;
         let check = after.check;
         if let Check::Refused(number) = check {
@@ -138,11 +151,13 @@ pub fn decide_polygons(
                 tables,
                 corners: start,
                 links,
+                pushed,
                 verdict: Verdict::Refused(Refusal { number, place: i }),
             };
         }
         start += p.vertices;
         links += p.links;
+        pushed += done.pushed;
         at = p.next;
         i += 1;
     }
@@ -150,6 +165,7 @@ pub fn decide_polygons(
         tables,
         corners: start,
         links,
+        pushed,
         verdict: Verdict::Fine,
     }
 }

@@ -31,8 +31,8 @@ fn put_portal(out: &mut [u8], to: usize, strip: &[u32], at: usize, bb_min: Vec3,
     requires { ⌜ at + 11 ≤ length (now strip) ⌝ }
     ensures { λ _. ⌜ now (out .exit) ≡ put to (rowBytes (portalRow «bb_min» «bb_size» (portalAt (now (strip .entry)) at))) (now (out .entry)) ⌝ }
 {
-    let a = quantise::short::quantise(floats_at(strip, at + 2), bb_min, bb_size);
-    let b = quantise::short::quantise(floats_at(strip, at + 5), bb_min, bb_size);
+    let a = quantise::short::shorts_of(floats_at(strip, at + 2), bb_min, bb_size);
+    let b = quantise::short::shorts_of(floats_at(strip, at + 5), bb_min, bb_size);
     let polys = strip[at + 8];
     let areas = portal_areas(strip[at + 9], strip[at + 10]);
     let words = [

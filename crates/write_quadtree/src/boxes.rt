@@ -1,6 +1,7 @@
 // How a box splits itself in four, and the leaf that takes a point.
 ghost use mathlib.Core.Path.{_≡_};
 ghost use mathlib.Core.Bool.{_&&_};
+ghost use mathlib.Core.List.{[], _∷_};
 ghost use Prim.Native.Nat.{_+_, _%_, _^_, _≤_, _<_};
 ghost use Rattle.write_pages.specs.Sectors.{middle, centre, sub0, sub1, sub2, sub3, between, inside, leaves, leafOf, depthOf};
 ghost use Rattle.write_quadtree.specs.Lines.{axisLines, linesOf, rangesOf, firstOf, subsOf, leavesOf};
@@ -173,13 +174,22 @@ fn ranges_of(a: AxisLines, x: f32) -> Ranges
     Ranges { r0, r1, r2, r3 }
 }
 
-fn both(a: bool, b: bool) -> bool
-    ensures { λ r. ⌜ r ≡ (a && b) ⌝ }
+// The first of two subs with one range of x that a point is inside, by whether it is in that range and in theirs of y; 2 where it is in neither. Beside them in x
+// it needs no look at y.
+fn side_of(x: bool, y_first: bool, y_second: bool) -> u32
+    ensures side { λ r. ⌜ r ≡ firstOf ((x && «y_first») ∷ (x && «y_second») ∷ []) ⌝ }
+    ensures bound { λ r. ⌜ r ≤ 2 ⌝ }
 {
-    if a {
-        return b;
+    if x {
+        if y_first {
+            return 0;
+        }
+        if y_second {
+            return 1;
+        }
+        return 2;
     }
-    false
+    2
 }
 
 // The first of a sector's four subs that a point is inside, which is in the lower range of an axis, in the upper one, in both or in none; 4 where it
@@ -188,19 +198,11 @@ fn sub_of(x_low: bool, x_high: bool, y_low: bool, y_high: bool) -> u32
     ensures sub { λ r. ⌜ r ≡ firstOf (subsOf «x_low» «x_high» «y_low» «y_high») ⌝ }
     ensures bound { λ r. ⌜ r ≤ 4 ⌝ }
 {
-    if both(x_high, y_high) {
-        return 0;
+    let s = side_of(x_high, y_high, y_low);
+    if s < 2 {
+        return s;
     }
-    if both(x_high, y_low) {
-        return 1;
-    }
-    if both(x_low, y_low) {
-        return 2;
-    }
-    if both(x_low, y_high) {
-        return 3;
-    }
-    4
+    2 + side_of(x_low, y_low, y_high)
 }
 
 // The first of 16 leaves that a point in these ranges is inside; 16 where it is in none.

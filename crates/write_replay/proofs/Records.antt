@@ -12,8 +12,8 @@ use Rattle.write_replay.specs.Agreement.{expectedLength, sumUpTo, checks
 use Rattle.write_replay.specs.declared.Record.{Record}
 
 -- an answer's values
-pub same-values : (w : Written) {n k l : ℕ} → w .length ≡ n → w .stored ≡ k → w .dropped ≡ l → w ≡ record { length = n; stored = k; dropped = l }
-same-values w e f g = rw (← e, ← f, ← g)
+pub same-values : (w : Written) {n k l u : ℕ} → w .length ≡ n → w .stored ≡ k → w .dropped ≡ l → w .pushed ≡ u → w ≡ record { length = n; stored = k; dropped = l; pushed = u }
+same-values w e f g h = rw (← e, ← f, ← g, ← h)
 
 module _ (b : List ℕ) (at : ℕ) where
   pub told-some : (n : ℕ) → leAt 4 b (at + 12) ≡ 0 → n ≡ leAt 4 b (at + 16) → n ≡ expectedLength b at

@@ -19,7 +19,7 @@ use Rattle.write_replay.specs.declared.Record.{Record}
 -- the answer that the record at a place tells
 abbrev pub expected : List ℕ → ℕ → Paper Written
 expected b at =
-    told (record { length = leAt 4 b (at + 16); stored = leAt 4 b (at + 20); dropped = leAt 4 b (at + 24) }) (leAt 4 b (at + 12)) (leAt 4 b (at + 16))
+    told (record { length = leAt 4 b (at + 16); stored = leAt 4 b (at + 20); dropped = leAt 4 b (at + 24); pushed = leAt 4 b (at + 28) }) (leAt 4 b (at + 12)) (leAt 4 b (at + 16))
 
 -- the length of its pages
 unfoldable pub expectedLength : List ℕ → ℕ → ℕ

@@ -1,6 +1,6 @@
 // The records of the writer's list: where their parts stand, and whether an answer and pages are what a record tells.
 // The list is made of 32-bit little-endian words. A record is the word 8; the words of work and the bytes of pages lent; the number, 0 for
-// an accepted strip; eight words, of which the first are its values (the length of its pages, points stored, points dropped), or the place; the pages'
+// an accepted strip; eight words, of which the first are its values (the length of its pages, points stored, points dropped, coordinates pushed), or the place; the pages'
 // checksum, or 0; how many of their bytes are expected; how many words the runs take; the runs; and the bytes expected, padded to whole words. The
 // first word that isn't 8 ends the list.
 // What a run is, is said in `write_runs`.
@@ -60,8 +60,9 @@ fn values_agree(list: &[u8], at: usize, w: Written) -> bool
     if u32_le(list, at + 12) == 0
         && word_is(list, at + 16, w.length)
         && word_is(list, at + 20, w.stored)
+        && word_is(list, at + 24, w.dropped)
     {
-        return word_is(list, at + 24, w.dropped);
+        return word_is(list, at + 28, w.pushed);
     }
     false
 }

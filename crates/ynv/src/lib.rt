@@ -33,8 +33,8 @@ pub extern "C" fn ynv_parse<'a>(
     read_entry::parse_entry(system, graphics, strip, answer)
 }
 
-// Writes a strip's cell into the lent pages: their length in bytes, and how many points are stored and dropped. `work` is for the call's own use, four
-// words to a word of the strip, of which no word from twice the strip's words on is changed, refused or not.
+// Writes a strip's cell into the lent pages: their length in bytes, how many points are stored and dropped, and how many coordinates are pushed to the
+// border. `work` is for the call's own use, four words to a word of the strip, of which no word from twice the strip's words on is changed, refused or not.
 #[no_mangle]
 pub extern "C" fn ynv_serialize(
     strip: &[u32],

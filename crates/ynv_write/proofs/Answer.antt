@@ -1,4 +1,4 @@
--- What the call answers after the plan P: its refusal, then 2 where the pages don't fit, and otherwise the length of the cell's pages, the points stored and the points dropped. Assumes nothing.
+-- What the call answers after the plan P: its refusal, then 2 where the pages don't fit, and otherwise the length of the cell's pages, the points stored, the points dropped and the coordinates pushed. Assumes nothing.
 use Prim.Native.Nat.{ℕ, _+_, _≤_, _<_}
 use native.Mathlib.Omega.{arith}
 use mathlib.Core.Path.{_≡_, ap, _∙_}
@@ -7,6 +7,7 @@ use lib.ListN.{length}
 use lib.Dec.{ltb}
 use borrow.Author.Tests.{lt-ltb, le-ltb}
 use Rattle.strip.specs.Outcome.{refused, done, values, shown}
+use Rattle.pushed.specs.Pushed.{pushed}
 use Rattle.write_pages.specs.Pages.{pages}
 use Rattle.write_pages.specs.PointCounts.{storedCount, droppedCount}
 use Rattle.write_pages.specs.Checks.{fine, faultIf, at, onVerdict}
@@ -45,9 +46,9 @@ module _ (s w w' : List ℕ) (d : Decision) (P : Planned s w w' d) (out : ℕ) w
     unfolding at
     writes h = decided ∙ rw (le-ltb out (length (pages (cellAt s (d .counts)))) h)
 
-    -- and says its length and its points, which are stored or dropped
-    pub answers : length (pages (cellAt s (d .counts))) ≤ out → {n k l : ℕ} → n ≡ length (pages (cellAt s (d .counts))) → k ≡ storedCount (cellAt s (d .counts)) → k + l ≡ d .counts .points
-        → values (record { length = n; stored = k; dropped = l }) ≡ shown (serializeOutcome s (length w) out)
-    answers h {n} {k} {l} e f g =
+    -- and says its length, its points, which are stored or dropped, and what is pushed
+    pub answers : length (pages (cellAt s (d .counts))) ≤ out → {n k l u : ℕ} → n ≡ length (pages (cellAt s (d .counts))) → k ≡ storedCount (cellAt s (d .counts)) → k + l ≡ d .counts .points → u ≡ pushed (cellAt s (d .counts))
+        → values (record { length = n; stored = k; dropped = l; pushed = u }) ≡ shown (serializeOutcome s (length w) out)
+    answers h {n} {k} {l} {u} e f g q =
         let lost : l ≡ droppedCount (cellAt s (d .counts)) = omega (arith, all-points s (d .counts)) in
-        rw (writes h, e, f, lost)
+        rw (writes h, e, f, lost, q)

@@ -1,13 +1,18 @@
 -- The writer's theorems, on what `serialize_ynv` decides. It accepts exactly when the strip is well formed, work has four words to each of its words,
 -- and its cell is accepted and has pages that fit, with those pages and their length (`accepted-exactly`); the blocks of what is written stand as the
--- layout promises (`written-placed`); points stored and points dropped make the cell's (`points-told`); each refusal is one that is named for writing, with its place (`refused-named`). Assumes nothing.
-use Prim.Native.Nat.{ℕ, _+_, _/_, _^_, _≤_, _<_}
+-- layout promises (`written-placed`); points stored and points dropped make the cell's (`points-told`); what is pushed to the border (`none-pushed-told`, `most-pushed-told`); each refusal is one that is named for writing, with its place (`refused-named`). Assumes nothing.
+use Prim.Native.Nat.{ℕ, _+_, _*_, _/_, _^_, _≤_, _<_}
 use native.Mathlib.Omega.{arith}
 use mathlib.Core.Path.{_≡_, refl, subst}
 use mathlib.Core.List.{List}
 use mathlib.Core.Logic.{_↔_, _⊎_, inl, inr, ⊎-elim}
 use lib.ListN.{length}
+use Rattle.quantise.specs.Inside.{InsideBox}
 use Rattle.strip.specs.Cell.{Cell}
+use Rattle.strip.specs.Fits.{All}
+use Rattle.cell_record.specs.Floats.{floats}
+use Rattle.pushed.specs.Pushed.{verticesOf, positions}
+use Rattle.pushed.proofs.Theorems.{none-pushed, most-pushed}
 use Rattle.strip.specs.Scan.{Scanned, ok, fault, scan}
 use Rattle.strip.specs.Outcome as Outcome
 use Rattle.strip.specs.Check.{onCell}
@@ -73,6 +78,15 @@ module _ (strip : List ℕ) (work out : ℕ) where
   -- the points that it says are stored and dropped "together make the points of the strip"
   pub points-told : {w : Written} {ps : List ℕ} (a : Accepts strip work out w ps) → w .stored + w .dropped ≡ length (a .cell .points)
   points-told a = rw (a .values-told) (stored-and-dropped (a .cell))
+
+  -- the coordinates that it says are pushed to the border are none exactly where every coordinate is inside, and at most three to a position
+  pub none-pushed-told : {w : Written} {ps : List ℕ} (a : Accepts strip work out w ps)
+      → (w .pushed ≡ 0) ↔ All (λ v. InsideBox (floats v) (floats (a .cell .head .bb-min)) (floats (a .cell .head .bb-size))) (positions (a .cell))
+  none-pushed-told a = rw (a .values-told) (none-pushed (a .cell))
+
+  pub most-pushed-told : {w : Written} {ps : List ℕ} (a : Accepts strip work out w ps)
+      → w .pushed ≤ 3 * (length (verticesOf (a .cell .polys)) + 2 * length (a .cell .portals) + length (a .cell .points))
+  most-pushed-told a = rw (a .values-told) (most-pushed (a .cell))
 
   -- ---- refused
 

@@ -4,6 +4,7 @@ use mathlib.Core.List.{List}
 use lib.ListN.{length}
 use Rattle.strip.specs.Cell.{Cell}
 use Rattle.strip.specs.Outcome.{Outcome, Paper, values, refusalOf}
+use Rattle.pushed.specs.Pushed.{pushed}
 use Rattle.write_pages.specs.Pages.{pages}
 use Rattle.write_pages.specs.PointCounts.{storedCount, droppedCount}
 use Rattle.write_pages.specs.Checks.{writeOutcome}
@@ -16,9 +17,9 @@ abbrev pub paper : SerializeAnswer → Paper Written
 paper (SerializeAnswer.Written w) = values w
 paper (SerializeAnswer.Refused r) = refusalOf r
 
--- the values of an accepted cell: "The writer's answer gains points stored and points dropped"
+-- the values of an accepted cell: "The writer's answer gains points stored and points dropped", and how many coordinates are pushed to the border stands there too
 abbrev pub writtenOf : Cell → Written
-writtenOf c = record { length = length (pages c); stored = storedCount c; dropped = droppedCount c }
+writtenOf c = record { length = length (pages c); stored = storedCount c; dropped = droppedCount c; pushed = pushed c }
 
 -- what writing a strip comes to, with so many words of work and so many bytes of pages lent
 unfoldable pub serializeOutcome : (strip : List ℕ) → (work out : ℕ) → Outcome Written

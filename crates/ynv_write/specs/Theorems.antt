@@ -12,7 +12,7 @@ use Rattle.ynv_write.specs.declared.Written.{Written}
 use Rattle.ynv_write.specs.Serialize.{writtenOf}
 
 -- of a strip, with so many words of work and bytes of pages lent: it stands for a cell that passes every listed check, the work is four times the
--- strip, the pages fit, the bytes are the cell's pages, and the answer is their length and the points
+-- strip, the pages fit, the bytes are the cell's pages, and the answer is their length, the points and what is pushed
 pub record Accepts (strip : List ℕ) (work out : ℕ) (w : Written) (ps : List ℕ) : Type 0 where
   pub cell : Cell
   pub scanned : scan strip ≡ ok cell

@@ -1,5 +1,6 @@
 //! Strips for the writer: cells of all shapes, odd floats and edges, cells beside each
-//! limit, several faults at once, damaged strips, points about the leaves.
+//! limit, several faults at once, damaged strips, points about the leaves, positions about the
+//! border.
 
 use rage::math::Vec3;
 use rage::ynv::{NavEdge, NavPoint, NavPoly, NavPortal, Ynv};
@@ -11,7 +12,7 @@ use crate::{damage, floats, points, Rng};
 /// A generator and its name.
 pub type Shape = (&'static str, fn(&mut Rng) -> Vec<u32>);
 
-pub const SHAPES: [Shape; 9] = [
+pub const SHAPES: [Shape; 10] = [
     ("cells", |rng| encode(&cells::valid(rng))),
     ("wild cells", |rng| encode(&cells::wild(rng))),
     ("small cells", |rng| encode(&cells::small_vehicle(rng))),
@@ -21,6 +22,7 @@ pub const SHAPES: [Shape; 9] = [
     ("several faults", several_faults),
     ("damaged strips", damage::strip),
     ("points about leaves", points::about_leaves),
+    ("about the border", about_the_border),
 ];
 
 /// A strip of any shape but the two that make long ones.
@@ -38,6 +40,60 @@ fn positions(cell: &mut Ynv) -> Vec<&mut Vec3> {
     let polys = cell.polys.iter_mut().flat_map(|p| &mut p.vertices);
     let portals = cell.portals.iter_mut().flat_map(|p| [&mut p.from, &mut p.to]);
     polys.chain(portals).chain(cell.points.iter_mut().map(|p| &mut p.position)).collect()
+}
+
+/// An axis on which it counts whether a coordinate is outside: of the map, mirrored, so long
+/// that a step below lo is lost, an extent about 2^-23 and none, far out.
+fn border_axis(rng: &mut Rng) -> (f32, f32) {
+    let least = f32::EPSILON;
+    match rng.below(12) {
+        0 => (0.0, rng.pick(&[1.0, 2.0, 4096.0, 1e10, f32::MAX])),
+        1 => (-0.0, rng.pick(&[150.0, -150.0])),
+        2 => (rng.pick(&[0.0, 1.0, -3.0]), rng.pick(&[least, -least, least / 2.0, -least / 2.0, 0.0, -0.0])),
+        3 => (rng.pick(&[0.0, 7.0]), f32::from_bits(least.to_bits() + rng.below(3) as u32 - 1)),
+        4 => (-6000.0 + 150.0 * rng.below(80) as f32, -150.0),
+        5 => (f32::from_bits(0xC649_DFDF), f32::from_bits(0x4562_C837)),
+        6 => rng.pick(&[(f32::MIN, f32::MAX), (-3e38, 3e38), (3e38, 3e38)]),
+        _ => (-6000.0 + 150.0 * rng.below(80) as f32, rng.pick(&[150.0, 128.0, 4096.0])),
+    }
+}
+
+/// A coordinate at an end of its axis, up to three floats beside it, the least below it, what
+/// reading makes of the last short, NaN, infinite, or anywhere.
+fn border_coordinate(rng: &mut Rng, (lo, extent): (f32, f32)) -> f32 {
+    let beside = |x: f32, by: u32| f32::from_bits(x.to_bits().wrapping_add(by).wrapping_sub(3));
+    let end = rng.pick(&[lo, lo + extent]);
+    match rng.below(12) {
+        0..=2 => end,
+        3 | 4 => beside(end, rng.below(7) as u32),
+        5 => lo - f32::from_bits(1 + rng.below(4) as u32),
+        6 => strips::back(65535, lo, extent),
+        7 => rng.pick(&[f32::NAN, f32::INFINITY, f32::NEG_INFINITY, -0.0, 0.0]),
+        8 => end + (rng.unit() - 0.5) * 20.0,
+        9 => floats::any(rng),
+        _ => lo + rng.unit() * extent,
+    }
+}
+
+/// A small cell whose positions lie about the border of its box, some of them again.
+fn about_the_border(rng: &mut Rng) -> Vec<u32> {
+    let mut cell = damage::small(rng);
+    let on = [(); 3].map(|_| border_axis(rng));
+    let sides = axes(&mut cell.bb_min).into_iter().zip(axes(&mut cell.bb_size)).zip(axes(&mut cell.bb_max));
+    for (((lo, size), hi), (new_lo, new_size)) in sides.zip(on) {
+        (*lo, *size, *hi) = (new_lo, new_size, new_lo + new_size);
+        if !hi.is_finite() {
+            *hi = f32::MAX;
+        }
+    }
+    let mut last = vec3(0.0, 0.0, 0.0);
+    for position in positions(&mut cell) {
+        if !rng.once_in(5) {
+            last = vec3(border_coordinate(rng, on[0]), border_coordinate(rng, on[1]), border_coordinate(rng, on[2]));
+        }
+        *position = last;
+    }
+    encode(&cell)
 }
 
 /// A small cell whose box and positions are any floats: mostly a finite box, positions in

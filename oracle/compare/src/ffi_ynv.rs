@@ -34,7 +34,7 @@ extern "C" {
     /// The four sides as float bits.
     fn ynv_cell_bounds(cx: u32, cy: u32, answer: *mut u64) -> u32;
 
-    /// Bytes written, points stored, points dropped.
+    /// Bytes written, points stored, points dropped, coordinates pushed.
     fn ynv_serialize(
         strip: *const u32,
         strip_len: usize,

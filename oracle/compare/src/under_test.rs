@@ -95,7 +95,7 @@ pub fn serialize(strip: &[u32], work: &mut [u32], pages: &mut [u8], answer: &mut
         if bytes.len() > pages.len() {
             return Err(strips::Refusal::new(2, 0));
         }
-        let values = crate::writing::values(bytes.len(), strips::point_counts(&cell));
+        let values = crate::writing::values(bytes.len(), strips::point_counts(&cell), strips::pushed(&cell));
         Ok((bytes, values))
     };
     match made() {

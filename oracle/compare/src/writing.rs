@@ -3,7 +3,7 @@
 
 use rage::resource::u32_le;
 use rage::ynv::Ynv;
-use strips::{counts, encode, expected_write, laid_out, point_counts, reread, scan};
+use strips::{counts, encode, expected_write, laid_out, point_counts, pushed, reread, scan};
 use strips::{PointCounts, Refusal, WriteAnswer};
 
 use crate::reading;
@@ -16,12 +16,8 @@ const DIRT: u64 = 0xD1D1_D1D1_D1D1_D1D1;
 const POINTS_STORED: usize = 0x148;
 
 /// The answer words of an accepted call.
-pub fn values(length: usize, points: PointCounts) -> [u64; 8] {
-    let mut out = [0; 8];
-    for (to, value) in out.iter_mut().zip([length, points.stored, points.dropped]) {
-        *to = value as u64;
-    }
-    out
+pub fn values(length: usize, points: PointCounts, pushed: u64) -> [u64; 8] {
+    [length as u64, points.stored as u64, points.dropped as u64, pushed, 0, 0, 0, 0]
 }
 
 /// What a strip's cell gives when work and room suffice, by the judge, and for accepted
@@ -47,7 +43,7 @@ impl Write {
             WriteAnswer::Bytes(bytes) => {
                 let cell = scan(strip).expect("an accepted strip is well formed");
                 assert!(bytes == laid_out(&cell), "document 01's pages are not the Rust's");
-                let values = values(bytes.len(), judged_points(&cell, &bytes));
+                let values = values(bytes.len(), judged_points(&cell, &bytes), pushed(&cell));
                 Write::Pages { bytes, values }
             }
         }

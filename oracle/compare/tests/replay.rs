@@ -111,7 +111,7 @@ fn replay_writing() {
     assert_eq!(bytes, writing::all().bytes(), "the list is the same each time");
     assert!((0..=3).chain(10..=20).all(|number| list.counts[&number] >= 4));
     assert!(list.counts.values().sum::<usize>() >= 300);
-    assert!(list.dropping >= 8);
+    assert!(list.dropping >= 8 && list.pushing >= 8);
 
     let words = words(&bytes);
     let mut at = 0;

@@ -4,7 +4,7 @@ use Rattle.obj_length.proofs.vertex_length.Statement.{statement}
 use Rattle.obj_length.proofs.vertex_length.Tie as tie
 
 returns : tie.Need-returns
-returns c = rw (c .before .quantise .ensures, c .before .before .floats-at .ensures) at (c .shorts-length .ensures)
+returns c = rw (c .before .shorts-of .ensures, c .before .before .floats-at .ensures) at (c .shorts-length .ensures)
 
 pub vertex-length-spec : {M : Type 1} → statement M
 vertex-length-spec =

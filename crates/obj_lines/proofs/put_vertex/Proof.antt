@@ -5,13 +5,13 @@ use Rattle.obj_lines.proofs.put_vertex.Tie as tie
 
 put-shorts-requires : tie.Need-put-shorts-requires
 put-shorts-requires c κs =
-    let quantised = c .before in
-    rw (quantised .quantise .ensures, quantised .before .floats-at .ensures) (quantised .before .before .before .before .pre .1)
+    let shorts = c .before in
+    rw (shorts .shorts-of .ensures, shorts .before .floats-at .ensures) (shorts .before .before .before .before .pre .1)
 
 returns : tie.Need-returns
 returns c =
     let line = c .before .before in
-    rw (line .before .before .quantise .ensures, line .before .before .before .floats-at .ensures) at (line .put-shorts .ensures)
+    rw (line .before .before .shorts-of .ensures, line .before .before .before .floats-at .ensures) at (line .put-shorts .ensures)
 
 pub put-vertex-spec : {M : Type 1} → statement M
 put-vertex-spec =

@@ -60,8 +60,8 @@ mul-floats-at c = let h = both _ _ _ (c .before .before .least .ensures) in omeg
 floats-at-requires-3 : tie.Need-floats-at-requires-3 Inv-loop μ-loop
 floats-at-requires-3 c κs = let h = both _ _ _ (c .before .before .least .ensures) in omega arith
 
-quantise-requires : tie.Need-quantise-requires Inv-loop μ-loop
-quantise-requires c κs = search needs
+shorts-of-requires : tie.Need-shorts-of-requires Inv-loop μ-loop
+shorts-of-requires c κs = search needs
 
 mul-store : tie.Need-mul-store Inv-loop μ-loop
 mul-store c = let h = both _ _ _ (c .before .before .before .before .before .least .ensures) in omega arith
@@ -78,7 +78,7 @@ loop-less c = omega arith
 loop-again : tie.Need-loop-again Inv-loop μ-loop
 loop-again c = let l = c .before .before .before .before .before .before .before .loop in
     let a = c .before .before .before .before .before .before .before .before .before .before .before .before .before .before .before .args in
-    let q = c .before .before .before .before .quantise in (
+    let q = c .before .before .before .before .shorts-of in (
       omega arith,
       omega arith,
       c .before .before .store .ensures ∙ ap (put (3 * l .i) (q .result .x ∷ q .result .y ∷ q .result .z ∷ [])) (l .inv .2) ∙ one-more (now (a .vertices)) (c .before .before .before .before .before .before .before .before .before .before .before .floats-at .result) (c .before .before .before .before .before .before .before .before .before .floats-at2 .result) (l .i) (now (a .out)) (q .result) (cc),
@@ -105,7 +105,7 @@ leaf-quantise-all-spec =
     loop-holds
     mul-floats-at
     floats-at-requires-3
-    quantise-requires
+    shorts-of-requires
     mul-store
     store-requires
     add-i

@@ -52,9 +52,10 @@ returns c =
     let s = entry .args .strip .now in
     let trees = after-tree-count .tree-count .ensures in
     let fit = trees-in (length s) (entry .pre .0) .2 in
-    let done = rw (after-tree-count .tree-count .ensures, after-record-at .record-at .ensures) at (decided .ensures) in
+    let done = rw (after-tree-count .tree-count .ensures, after-record-at .record-at .ensures) at (decided .ensures .0) in
+    let pushed = rw (after-record-at .record-at .ensures) at (decided .ensures .1) in
     let seeds = rw (after-record-at .record-at .ensures) at (seeds-are _ _ (after-seed-areas .seed-areas .ensures)) in
-    rw (c .areas-of .ensures) (polygons-done s (entry .args .counts) (headAt s 0) _ (after-record-at .record-at .ensures) _ _ _ _ _ _ _ (entry .pre .0) (entry .pre .2) _ (omega (arith, trees, fit)) (omega (arith, trees, fit, entry .pre .2)) (after-clear .clear .ensures) refl seeds done (omega (arith, trees, fit)))
+    rw (c .areas-of .ensures) (polygons-done s (entry .args .counts) (headAt s 0) _ (after-record-at .record-at .ensures) _ _ _ _ _ _ _ (entry .pre .0) (entry .pre .2) _ (omega (arith, trees, fit)) (omega (arith, trees, fit, entry .pre .2)) (after-clear .clear .ensures) refl seeds done pushed (omega (arith, trees, fit)))
 
 pub decide-well-spec : {M : Type 1} → statement M
 decide-well-spec =

@@ -21,8 +21,8 @@ add-floats-at c = search needs
 floats-at-requires : tie.Need-floats-at-requires
 floats-at-requires c κs = search needs
 
-quantise-requires : tie.Need-quantise-requires
-quantise-requires c κs = search needs
+shorts-of-requires : tie.Need-shorts-of-requires
+shorts-of-requires c κs = search needs
 
 mul-bytes : tie.Need-mul-bytes
 mul-bytes c = search needs
@@ -57,7 +57,7 @@ returns c =
     let entry = after-floats-at .before .before .before in
     let a = entry .args in
     let s = now (a .strip) in
-    let q = after-quantise .quantise .ensures ∙ ap (λ (v : Floats). shorts v (a .bb-min) (a .bb-size)) (after-floats-at .floats-at .ensures) in
+    let q = after-quantise .shorts-of .ensures ∙ ap (λ (v : Floats). shorts v (a .bb-min) (a .bb-size)) (after-floats-at .floats-at .ensures) in
     let e0 : leBytes 4 (after-pair .pair .result) ≡ leBytes 2 (shorts (floats (vecAt s (a .at + 1))) (a .bb-min) (a .bb-size) .x) ++ leBytes 2 (shorts (floats (vecAt s (a .at + 1))) (a .bb-min) (a .bb-size) .y) = rw q at (after-pair .pair .ensures) in
     let e1 : leBytes 4 (after-pair2 .pair2 .result) ≡ leBytes 2 (shorts (floats (vecAt s (a .at + 1))) (a .bb-min) (a .bb-size) .z) ++ leBytes 2 (getD s (a .at) 0 % 65536) = rw q at (after-pair2 .pair2 .ensures) in
     c .before .before .put-all .ensures ∙ ap (λ (bs : List ℕ). put (a .p) bs (now (a .out))) (point-words (a .bb-min) (a .bb-size) s (a .at) _ _ e0 e1)
@@ -68,7 +68,7 @@ put-point-spec =
     (tie.spec
     add-floats-at
     floats-at-requires
-    quantise-requires
+    shorts-of-requires
     mul-bytes
     shared-slice-read-bytes
     cast-bytes

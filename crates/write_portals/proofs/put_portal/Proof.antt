@@ -15,8 +15,8 @@ add-floats-at c = search needs
 floats-at-requires : tie.Need-floats-at-requires
 floats-at-requires c κs = search needs
 
-quantise-requires : tie.Need-quantise-requires
-quantise-requires c κs = search needs
+shorts-of-requires : tie.Need-shorts-of-requires
+shorts-of-requires c κs = search needs
 
 add-floats-at-2 : tie.Need-add-floats-at-2
 add-floats-at-2 c = search needs
@@ -24,8 +24,8 @@ add-floats-at-2 c = search needs
 floats-at-requires-2 : tie.Need-floats-at-requires-2
 floats-at-requires-2 c κs = search needs
 
-quantise-requires-2 : tie.Need-quantise-requires-2
-quantise-requires-2 c κs = search needs
+shorts-of-requires-2 : tie.Need-shorts-of-requires-2
+shorts-of-requires-2 c κs = search needs
 
 add-polys : tie.Need-add-polys
 add-polys c = search needs
@@ -111,8 +111,8 @@ returns c =
     let after-floats-at = after-quantise .before in
     let entry = after-floats-at .before .before .before in
     let a = entry .args in
-    let from = rw (after-floats-at .floats-at .ensures) at (after-quantise .quantise .ensures) in
-    let to = rw (after-floats-at2 .floats-at2 .ensures) at (ends .quantise2 .ensures) in
+    let from = rw (after-floats-at .floats-at .ensures) at (after-quantise .shorts-of .ensures) in
+    let to = rw (after-floats-at2 .floats-at2 .ensures) at (ends .shorts-of2 .ensures) in
     after-put-all .put-all .ensures ∙ ap (λ (bs : List ℕ). put (a .to) bs (now (a .out))) (portal-words (a .bb-min) (a .bb-size) (now (a .strip)) (a .at) _ _ _ from to (after-portal-areas .portal-areas .ensures))
 
 pub put-portal-spec : {M : Type 1} → statement M
@@ -121,10 +121,10 @@ put-portal-spec =
     (tie.spec
     add-floats-at
     floats-at-requires
-    quantise-requires
+    shorts-of-requires
     add-floats-at-2
     floats-at-requires-2
-    quantise-requires-2
+    shorts-of-requires-2
     add-polys
     mul-polys
     shared-slice-read-polys

@@ -56,6 +56,13 @@ sub-dropped c =
     let at-plan = planned (fine (ended (filled c))) in
     omega (arith, filled c .fill .ensures .1, all-points (entry at-plan .args .strip .now) (at-plan .plan .result .counts))
 
+count-pushed-requires : tie.Need-count-pushed-requires
+count-pushed-requires c κs =
+    let told = fine (ended (filled c)) in
+    let R = ready _ _ _ _ (planned told .plan .ensures) (told .enum-told .given .1) in
+    let few = all-points (entry (planned told) .args .strip .now) (planned told .plan .result .counts) in
+    (R .length-is, omega (arith, filled c .fill .ensures .1, few), R .tabled .cell, R .tabled .pushed-count)
+
 enum-known-verdict : tie.Need-enum-known-verdict
 enum-known-verdict c = search needs
 
@@ -76,7 +83,8 @@ returns c =
 -- they fit, and are filled
 returns-2 : tie.Need-returns-2
 returns-2 c =
-    let reached = ended (filled c) in
+    let known = c .before in
+    let reached = ended (filled known) in
     let told = fine reached in
     let at-plan = planned told in
     let a = entry at-plan .args in
@@ -84,11 +92,11 @@ returns-2 c =
     let out = length (a .pages .now) in
     let none = told .enum-told .given .1 in
     let long = pages-reached (cellAt (a .strip .now) (at-plan .plan .result .counts)) (reached .pages-end .ensures .0) in
-    let enough = filled c .before .before .before .before .if1 .left in
+    let enough = filled known .before .before .before .before .if1 .left in
     let room : length (pages (cellAt (a .strip .now) (at-plan .plan .result .counts))) ≤ out = omega (arith, enough, long) in
-    let F = filled c .fill .ensures .0 in
-    let stored = filled c .fill .ensures .1 in
-    (answers (a .strip .now) (a .work .now) _ _ P out none room long (omega (arith, stored)) (omega (arith, stored, all-points (a .strip .now) (at-plan .plan .result .counts))), (rw (writes (a .strip .now) (a .work .now) _ _ P out none room) (F .bytes ∙ put-whole _ _ room), (F .long ∙ P .long, F .beyond ∙ P .beyond)))
+    let F = filled known .fill .ensures .0 in
+    let stored = filled known .fill .ensures .1 in
+    (answers (a .strip .now) (a .work .now) _ _ P out none room long (omega (arith, stored)) (omega (arith, stored, all-points (a .strip .now) (at-plan .plan .result .counts))) (c .count-pushed .ensures), (rw (writes (a .strip .now) (a .work .now) _ _ P out none room) (F .bytes ∙ put-whole _ _ room), (F .long ∙ P .long, F .beyond ∙ P .beyond)))
 
 -- the plan refuses
 returns-3 : tie.Need-returns-3
@@ -111,6 +119,7 @@ serialize-ynv-spec =
     fill-requires
     cast-stored
     sub-dropped
+    count-pushed-requires
     enum-known-verdict
     (λ c. search needs)
     (λ c. search needs)

@@ -3,8 +3,8 @@
 //! work exactly enough, room one byte short, more of both, work one word short, and any
 //! less; what is accepted is read back, with nothing and with dirty bytes behind the
 //! pages and a random graphics section beside them. Prints how often each number was
-//! answered, by shape, what points the accepted strips had, and what differs; exits 1 if
-//! anything does.
+//! answered, by shape, what points and what coordinates beyond the box the accepted strips
+//! had, and what differs; exits 1 if anything does.
 
 use std::process::exit;
 
@@ -14,7 +14,7 @@ use compare::arguments::count_and_first;
 use compare::tally::ByNumber;
 use compare::under_test::WRITER;
 use compare::writing::{call, Called, Reread, Write};
-use strips::{encode, leaves_of_points, scan};
+use strips::{coordinate_pushed, encode, leaves_of_points, pushed, scan, short};
 
 const CASES: u64 = 200_000;
 
@@ -55,12 +55,70 @@ impl Points {
     }
 }
 
+/// The coordinates of accepted strips that are pushed to the border.
+#[derive(Default)]
+struct Border {
+    vertices: u64,
+    portal_ends: u64,
+    points: u64,
+    /// Those of points in no leaf.
+    dropped: u64,
+    /// Strips that have one, and strips that have none but have coordinates.
+    strips: u64,
+    none: u64,
+    /// Coordinates on the other side of an end of their axis that are inside all the same:
+    /// the fraction is -0 or 1.
+    barely_inside: u64,
+}
+
+impl Border {
+    fn of(&mut self, strip: &[u32]) {
+        let cell = scan(strip).expect("an accepted strip is well formed");
+        let (lo, size) = (cell.bb_min, cell.bb_size);
+        let leaves = leaves_of_points(&cell);
+        let points: Vec<_> = cell.points.iter().map(|point| point.position).collect();
+        let vertices = cell.polys.iter().flat_map(|poly| poly.vertices.iter().copied());
+        let ends = cell.portals.iter().flat_map(|portal| [portal.from, portal.to]);
+        let axes = |v: rage::math::Vec3| [(v.x, lo.x, size.x), (v.y, lo.y, size.y), (v.z, lo.z, size.z)];
+        let counted =
+            |v| axes(v).into_iter().filter(|&(a, lo, extent)| coordinate_pushed(a, lo, extent)).count() as u64;
+        let all = pushed(&cell);
+        let of_vertices: u64 = vertices.clone().map(counted).sum();
+        let of_ends: u64 = ends.clone().map(counted).sum();
+        let of_points: u64 = points.iter().copied().map(counted).sum();
+        assert_eq!(all, of_vertices + of_ends + of_points, "the sum is not that of its parts");
+        let mut coordinates = 0;
+        for (a, lo, extent) in vertices.chain(ends).chain(points.iter().copied()).flat_map(axes) {
+            coordinates += 1;
+            let q = short(a, lo, extent);
+            assert!(!coordinate_pushed(a, lo, extent) || q == 0 || q == 65535, "pushed, but not to the border");
+            let beyond = extent > f32::EPSILON && (a < lo || a - lo > extent);
+            self.barely_inside += (beyond && !coordinate_pushed(a, lo, extent)) as u64;
+        }
+        assert!(all <= coordinates, "more pushed than there are");
+        self.vertices += of_vertices;
+        self.portal_ends += of_ends;
+        self.points += of_points;
+        self.dropped += leaves.iter().zip(&points).filter(|(&n, _)| n == 0).map(|(_, &v)| counted(v)).sum::<u64>();
+        self.strips += (all > 0) as u64;
+        self.none += (all == 0 && coordinates > 0) as u64;
+    }
+
+    fn print(&self) {
+        let Border { vertices, portal_ends, points, dropped, strips, none, barely_inside } = self;
+        println!("coordinates pushed to the border: {vertices} of vertices, {portal_ends} of portal ends, {points} of points, of");
+        println!("which {dropped} of points in no leaf; {strips} strips have one, {none} with coordinates have none; {barely_inside}");
+        println!("coordinates beyond an end of their axis have a fraction of -0 or 1 and don't count");
+    }
+}
+
 /// Cases by number answered when work and room suffice, by shape; the calls with too little
 /// stand under 1 and 2.
 #[derive(Default)]
 struct Tally {
     numbers: ByNumber,
     points: Points,
+    border: Border,
     cases: u64,
     calls: u64,
     read_back: u64,
@@ -97,6 +155,7 @@ impl Tally {
         }
         if !written.is_empty() {
             self.points.of(strip);
+            self.border.of(strip);
             self.read_back(shape, name, strip, &written, rng);
         }
     }
@@ -116,6 +175,7 @@ impl Tally {
     fn print(&self) {
         self.numbers.print("1, 2: calls with too little");
         self.points.print();
+        self.border.print();
         println!(
             "{} cases, {} calls, {} pages read back, {} differences",
             self.cases, self.calls, self.read_back, self.numbers.differences

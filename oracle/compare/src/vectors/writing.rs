@@ -30,16 +30,17 @@ const TRIED: usize = 3000;
 const ACCEPTED: usize = 12;
 const REFUSED: usize = 3;
 const BADLY_FORMED: usize = 40;
-/// Shapes that cases are taken from: all before the points about leaves, which `placed` has.
-const SHAPES_TAKEN: usize = 8;
+/// Shapes that cases are taken from: all but the points about leaves, which `placed` has.
+const SHAPES_TAKEN: [usize; 9] = [0, 1, 2, 3, 4, 5, 6, 7, 9];
 
 #[derive(Default)]
 pub struct Writings {
     words: Vec<u32>,
     /// Records of each number.
     pub counts: BTreeMap<u32, usize>,
-    /// Records that have points dropped.
+    /// Records that have points dropped, and that have coordinates pushed to the border.
     pub dropping: usize,
+    pub pushing: usize,
 }
 
 /// How often the `length` words at the start repeat, the one at `place` growing by 256.
@@ -127,6 +128,7 @@ impl Writings {
         self.words.extend(padded(told));
         *self.counts.entry(number).or_insert(0) += 1;
         self.dropping += (number == 0 && answer[2] > 0) as usize;
+        self.pushing += (number == 0 && answer[3] > 0) as usize;
     }
 
     /// A case with work and room exactly enough.
@@ -325,8 +327,8 @@ pub fn all() -> Writings {
     greatest(&mut out);
     some_more(&mut out);
     placed(&mut out);
-    for (n, (_, make)) in SHAPES.into_iter().take(SHAPES_TAKEN).enumerate() {
-        shaped(&mut out, make, 120 + n as u64);
+    for (n, shape) in SHAPES_TAKEN.into_iter().enumerate() {
+        shaped(&mut out, SHAPES[shape].1, 120 + n as u64);
     }
     out
 }

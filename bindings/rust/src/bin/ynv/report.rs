@@ -35,6 +35,7 @@ pub fn losses(saved: &Saved) -> Option<String> {
     let counted = |what: &str, count: usize| (count > 0).then(|| format!("{what} {count}"));
     let losses = [
         (saved.points_dropped > 0).then(|| points(saved.points_stored, saved.points_dropped)),
+        counted("coordinates pushed to the border", saved.coordinates_pushed),
         counted("surplus edges dropped", saved.edges_dropped),
         counted("numbers cut to their field", saved.numbers_cut),
     ];
