@@ -83,6 +83,8 @@
 #define YNV_REFUSED_BAD_PORTALS 39
 #define YNV_REFUSED_PAGES_BOX_NOT_FINITE 40
 #define YNV_REFUSED_THIN_POLYGON 41              /* polygon */
+#define YNV_REFUSED_NO_SUCH_POLYGON 42
+#define YNV_REFUSED_FEW_MARKS 43
 
 /* Kinds of records, and the first word of one. */
 #define YNV_KIND_CELL 1
@@ -199,6 +201,24 @@ uint32_t ynv_pick_poly(const uint32_t *strip, size_t strip_len, uint16_t x, uint
  * Lend: with ynv_obj_bytes() bytes 2 never comes, which is proved. With less the vertices may be gone through twice, since
  * the text's length is decided before a byte is written. */
 uint32_t ynv_export_obj(const uint32_t *strip, size_t strip_len, uint8_t *text, size_t text_len, uint64_t answer[8]);
+
+/* Where a walker can get to: marks 1 each polygon to which some chain of steps leads from polygon `start`, the start
+ * included, and 0 the others; a byte of `marks` to a polygon, and bytes behind them stay. A step goes over a half of an
+ * edge, either one, whose area is the cell's own id and whose poly, cut to 14 bits, is below 16383 and a polygon of the
+ * strip; only edges below the vertex count serve. A portal whose two areas are the own id is a step from poly_from to
+ * poly_to, one way: its polys are not cut, 16383 is a number like others, and a target past the last polygon leads
+ * nowhere. A cell whose id is 65536 or more has no such portal. Other cells are not looked at.
+ * Answer: how many polygons are marked, 1 or more.
+ * Refusals: 3 badly formed strip (place: word); 42 `start` is no polygon; 43 fewer bytes than polygons. Then no byte changes.
+ * Lend: a byte for each polygon, which answer[1] of ynv_parse counts; strip_len / 4 bytes are always enough.
+ * Time: 0.2 ms with 5,000 polygons; at most 4 ms was found with 65,536 polygons and 65,535 portals. A cell that can be saved
+ * has at most 585 portals; pages that others made can hold any number. With more than 65,535 the bound is the polygons
+ * marked times the polygons and portals there are, 1 to 2 ns for each pair: 23 s with 131,070 portals made to cost much,
+ * which 3.7 MB of pages can hold, some two minutes with a million portals and 65,536 polygons. Who takes pages from
+ * strangers can look at answer[2] of ynv_parse first.
+ * Stack: 12 KB with up to 256 polygons and portals, 33 KB up to 2,048, 0.2 MB up to 16,384, 0.4 MB past that. */
+uint32_t ynv_reachable(const uint32_t *strip, size_t strip_len, uint64_t start, uint8_t *marks, size_t marks_len,
+                       uint64_t answer[8]);
 
 /* The cell of the map's grid, 100 by 100 cells of 150 from -6000, in which a position lies. A position outside the map
  * gives the nearest cell, a NaN coordinate 0.
@@ -375,6 +395,10 @@ static inline const char *ynv_sentence(uint32_t number)
         return "The box in the pages has a number that is infinite or not a number.";
     case YNV_REFUSED_THIN_POLYGON:
         return "The polygon has fewer than 3 vertices, so there is nothing of it to draw.";
+    case YNV_REFUSED_NO_SUCH_POLYGON:
+        return "The strip has no polygon of this number to start from.";
+    case YNV_REFUSED_FEW_MARKS:
+        return "There are fewer bytes for marks than the strip has polygons.";
     default:
         return "The refusal table has no such number.";
     }

@@ -148,6 +148,24 @@ static void print_drawing(const struct strip *strip)
     free(text);
 }
 
+/* Where a walker gets to from a polygon: its neighbours over edges, and what portals lead to. */
+static void print_walk(const struct strip *strip, size_t polygons, uint64_t start)
+{
+    uint64_t answer[8];
+    uint8_t *marks = malloc(polygons);
+    if (marks == NULL)
+        trouble("there is no memory");
+    if (ynv_reachable(strip->at, strip->length, start, marks, polygons, answer) != 0)
+        trouble("there is no such polygon");
+    printf("from polygon %" PRIu64 ": %" PRIu64 " of %zu polygons:", start, answer[0], polygons);
+    for (size_t i = 0; i < polygons; i++) {
+        if (marks[i] == 1)
+            printf(" %zu", i);
+    }
+    printf("\n");
+    free(marks);
+}
+
 static void write_file(const char *name, struct bytes pages)
 {
     FILE *out = fopen(name, "wb");
@@ -171,6 +189,8 @@ int main(int argc, char **argv)
     printf("coordinates pushed to the border: %" PRIu64 "\n", answer[3]);
     again = open_saved(pages, answer);
     print_strip(&again);
+    print_walk(&again, (size_t)answer[1], 0);
+    print_walk(&again, (size_t)answer[1], 2);
     print_drawing(&again);
     if (argc > 1)
         write_file(argv[1], pages);

@@ -36,6 +36,8 @@ static struct told ask(int call, uint8_t *bytes, uint32_t *words)
     case 10: number = ynv_pick_poly(words, 0, 1, 1, answer); break;
     case 11: number = ynv_export_obj(words, 0, pages, sizeof pages, answer); break;
     case 12: number = ynv_export_obj(cell, n, bytes, 0, answer); break;
+    case 13: number = ynv_reachable(words, 0, 0, pages, sizeof pages, answer); break;
+    case 14: number = ynv_reachable(cell, n, 0, bytes, 0, answer); break;
     }
     told.words[0] = number;
     return told;
@@ -52,12 +54,12 @@ static int compare(const char *what, int call)
     return 1;
 }
 
-/* Calls 0 to 12, and call 5 with each address of the header turned to the graphics section, which is nothing. */
+/* Calls 0 to 14, and call 5 with each address of the header turned to the graphics section, which is nothing. */
 static int compare_all(void)
 {
     static const size_t addresses[] = { 0x70, 0x80, 0x88, 0x118, 0x120, 0x128, 0x130 };
     int differences = 0;
-    for (int call = 0; call <= 12; call++)
+    for (int call = 0; call <= 14; call++)
         differences += compare("call", call);
     for (size_t i = 0; i < sizeof addresses / sizeof addresses[0]; i++) {
         uint8_t *at = vehicle_pages.at + addresses[i], kept[4];

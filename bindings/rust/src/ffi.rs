@@ -51,6 +51,14 @@ extern "C" {
     fn ynv_spot_for_position(strip: *const u32, strip_len: usize, x: f32, y: f32, answer: *mut u64) -> u32;
     fn ynv_pick_poly(strip: *const u32, strip_len: usize, x: u16, y: u16, answer: *mut u64) -> u32;
     fn ynv_export_obj(strip: *const u32, strip_len: usize, text: *mut u8, text_len: usize, answer: *mut u64) -> u32;
+    fn ynv_reachable(
+        strip: *const u32,
+        strip_len: usize,
+        start: u64,
+        marks: *mut u8,
+        marks_len: usize,
+        answer: *mut u64,
+    ) -> u32;
     fn ynv_cell_for_position(x: f32, y: f32, answer: *mut u64) -> u32;
     fn ynv_cell_bounds(cx: u32, cy: u32, answer: *mut u64) -> u32;
 }
@@ -90,6 +98,12 @@ pub fn export_obj(strip: &[u32], text: &mut [u8], answer: &mut Answer) -> u32 {
     let (out, room) = (text.as_mut_ptr(), text.len());
     // SAFETY: as in `parse`; what is written is text and answer, each borrowed mutably.
     unsafe { ynv_export_obj(strip.as_ptr(), strip.len(), out, room, answer.as_mut_ptr()) }
+}
+
+pub fn reachable(strip: &[u32], start: u64, marks: &mut [u8], answer: &mut Answer) -> u32 {
+    let (out, room) = (marks.as_mut_ptr(), marks.len());
+    // SAFETY: as in `parse`; what is written is marks and answer, each borrowed mutably.
+    unsafe { ynv_reachable(strip.as_ptr(), strip.len(), start, out, room, answer.as_mut_ptr()) }
 }
 
 pub fn cell_for_position(x: f32, y: f32, answer: &mut Answer) -> u32 {

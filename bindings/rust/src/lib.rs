@@ -479,6 +479,72 @@ pub fn export_obj_into(strip: &[u32], text: &mut [u8]) -> Result<usize, Refusal>
     Ok(accepted(number, answer)?[0] as usize)
 }
 
+/// Which polygons a walker can get to from one of them: `true` for each to which some chain of steps leads, the start
+/// included. A step goes over a half of an edge, either one, whose area is the cell's own id and whose poly, cut to 14
+/// bits, is below 16383 and a polygon of the strip; only edges below the vertex count serve. A portal whose two areas are
+/// the own id is a step from `poly_from` to `poly_to`, one way; a cell whose id is 65536 or more has none. Other cells are
+/// not looked at.
+///
+/// It takes 0.2 ms with 5,000 polygons, and at most 0.4 MB of stack. With more than 65,535 portals the time grows with the
+/// polygons marked times the polygons and portals that there are, to 23 s with 131,070 of them made to cost much: for
+/// pages from strangers look at [`Counts::portals`] first. A cell that can be saved has at most 585.
+///
+/// # Errors
+/// [`Refusal::BAD_STRIP`], then [`Refusal::NO_SUCH_POLYGON`]; [`Refusal::NO_MEMORY`].
+///
+/// ```
+/// // Cell 4040 with three triangles, each with one edge: 0 leads to 2, and 2 nowhere; nothing leads to 1.
+/// let mut strip = vec![0; 14];
+/// (strip[0], strip[2]) = (1 << 28, 4040);
+/// for to in [2, 16_383, 16_383] {
+///     strip.extend([2 << 28 | 1 << 12 | 3, 0, 0, 0]);
+///     strip.extend([0; 9]); // its vertices
+///     strip.extend([4040, to, 0, 4040, to, 0]);
+/// }
+/// strip.push(5 << 28);
+/// assert_eq!(ynv::reachable(&strip, 0)?, [true, false, true]);
+/// assert_eq!(ynv::reachable(&strip, 2)?, [false, false, true]);
+/// assert_eq!(ynv::reachable(&strip, 3).unwrap_err().number, ynv::Refusal::NO_SUCH_POLYGON);
+/// # Ok::<(), ynv::Refusal>(())
+/// ```
+pub fn reachable(strip: &[u32], start: usize) -> Result<Vec<bool>, Refusal> {
+    // Lent no byte, the call tells what is wrong with strip or start before it tells that bytes are missing.
+    match reachable_into(strip, start, &mut []) {
+        Err(refusal) if refusal.number != Refusal::FEW_MARKS => return Err(refusal),
+        _ => {}
+    }
+    let mut marks = lent(words::polygons(strip))?;
+    reachable_into(strip, start, &mut marks)?;
+    Ok(marks.iter().map(|&mark| mark == 1).collect())
+}
+
+/// The same into the lent bytes, one to a polygon: 1 for each to which some chain of steps leads, 0 for the others; and
+/// how many are marked. Bytes behind the polygons stay as they were, and a refusal changes none.
+///
+/// # Errors
+/// [`Refusal::BAD_STRIP`], [`Refusal::NO_SUCH_POLYGON`], [`Refusal::FEW_MARKS`], in this order.
+///
+/// ```
+/// # let mut strip = vec![0; 14];
+/// # (strip[0], strip[2]) = (1 << 28, 4040);
+/// # for to in [2, 16_383, 16_383] {
+/// #     strip.extend([2 << 28 | 1 << 12 | 3, 0, 0, 0]);
+/// #     strip.extend([0; 9]); // its vertices
+/// #     strip.extend([4040, to, 0, 4040, to, 0]);
+/// # }
+/// # strip.push(5 << 28);
+/// let mut marks = [7; 5];
+/// assert_eq!(ynv::reachable_into(&strip, 0, &mut marks)?, 2);
+/// assert_eq!(marks, [1, 0, 1, 7, 7]);
+/// assert_eq!(ynv::reachable_into(&strip, 0, &mut marks[..2]).unwrap_err().number, ynv::Refusal::FEW_MARKS);
+/// # Ok::<(), ynv::Refusal>(())
+/// ```
+pub fn reachable_into(strip: &[u32], start: usize, marks: &mut [u8]) -> Result<usize, Refusal> {
+    let mut answer = [0; 8];
+    let number = ffi::reachable(strip, start as u64, marks, &mut answer);
+    Ok(accepted(number, answer)?[0] as usize)
+}
+
 /// The cell (x, y) of the map's grid in which a position lies: 100 by 100 cells of 150 from -6000. A position outside
 /// the map gives the nearest cell, a NaN coordinate 0.
 ///

@@ -74,6 +74,8 @@ refusals! {
     BAD_PORTALS = 39, "", "The portals do not lie inside their section.", "The pages are cut off or damaged: unpack the file again.";
     PAGES_BOX_NOT_FINITE = 40, "", "The box in the pages has a number that is infinite or not a number.", "The pages are damaged, or their maker is at fault: unpack the file again, or tell the maker.";
     THIN_POLYGON = 41, "polygon", "The polygon has fewer than 3 vertices, so there is nothing of it to draw.", "Delete this polygon, or give it 3 vertices or more.";
+    NO_SUCH_POLYGON = 42, "", "The strip has no polygon of this number to start from.", "Start from a polygon of the cell; they are counted from 0.";
+    FEW_MARKS = 43, "", "There are fewer bytes for marks than the strip has polygons.", "The program that calls lends too few bytes: it takes one for each polygon. Tell its maker.";
     VERTICES_UNFIT = 100, "polygon", "The polygon has more than 4,095 vertices, and a strip holds no more.", "Cut this polygon in pieces; one of 3 to 2,047 vertices can be saved.";
     EDGES_UNFIT = 101, "polygon", "The polygon has more than 4,095 edges, and a strip holds no more.", "Remove this polygon's edges beyond its vertices; saving ignores them.";
     LINKS_UNFIT = 102, "polygon", "The polygon has more than 15 portal links, and a strip holds no more.", "Leave this polygon at most 7 portal links; no more can be saved.";

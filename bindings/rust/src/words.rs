@@ -13,6 +13,17 @@ const END: u32 = 5;
 const MOST_CORNERS: usize = 0xFFF;
 const MOST_LINKS: usize = 0xF;
 
+/// How many polygons a strip has that the library takes.
+pub(crate) fn polygons(strip: &[u32]) -> usize {
+    let (mut count, mut at) = (0, 14);
+    while strip[at] >> 28 == POLYGON {
+        let (vertices, edges, links) = (strip[at] & 0xFFF, strip[at] >> 12 & 0xFFF, strip[at] >> 24 & 0xF);
+        at += 4 + links as usize + 3 * vertices as usize + 6 * edges as usize;
+        count += 1;
+    }
+    count
+}
+
 impl Ynv {
     /// The typed cell of a strip. Whatever the strip's floats are, they keep their bits.
     ///

@@ -226,7 +226,7 @@ fn usage() {
     for arguments in [&["--help"][..], &["check", "--help"], &["-h"]] {
         let help = run(arguments);
         assert_eq!((help.status.code(), err(&help).as_str()), (Some(0), ""));
-        for verb in ["info", "check", "seams", "pick", "draw", "obj", "read", "write", "where"] {
+        for verb in ["info", "check", "seams", "pick", "reach", "draw", "obj", "read", "write", "where"] {
             assert!(out(&help).contains(&format!("\n  ynv {verb} ")));
         }
     }
@@ -330,6 +330,30 @@ fn the_drawing() {
     assert_eq!(run(["read", text(&pages), text(&strip)]).status.code(), Some(0));
     let of_pages = out(&run(["obj", text(&pages), "-"]));
     assert_eq!((out(&run(["obj", text(&strip), "-"])), of_pages.lines().count()), (of_pages.clone(), 10));
+}
+
+/// Where a walker can get to is told by numbers, those in a row by the first and the last.
+#[test]
+fn a_walk_is_told_by_numbers() {
+    let folder = folder("walk");
+    let path = folder.join("walk.strip");
+    let mut cell = yard();
+    let floor = cell.polys[0].clone();
+    cell.polys = vec![floor; 6];
+    cell.polys.iter_mut().for_each(|poly| poly.edges = vec![NavEdge::NONE; 4]);
+    for (from, to) in [(1, 2), (2, 3), (3, 5)] {
+        cell.polys[from].edges[0] = NavEdge::neighbour(4040, to);
+    }
+    cell.portals.clear();
+    let strip: Vec<u8> = cell.to_strip().unwrap().iter().flat_map(|word| word.to_le_bytes()).collect();
+    fs::write(&path, strip).unwrap();
+    let said = |start: &str| out(&run(["reach", start, text(&path)]));
+    assert!(said("1").ends_with(": from polygon 1: 4 of 6 polygons: 1-3, 5\n"), "{}", said("1"));
+    assert!(said("4").ends_with(": from polygon 4: 1 of 6 polygons: 4\n"), "{}", said("4"));
+    let output = run(["reach", "6", text(&path)]);
+    assert_eq!((output.status.code(), out(&output).as_str()), (Some(1), ""));
+    assert!(err(&output).contains("refused 42: The strip has no polygon of this number"), "{}", err(&output));
+    assert_eq!(run(["reach", "x", text(&path)]).status.code(), Some(2));
 }
 
 /// A polygon that has fewer than three vertices has no drawing, and its number is told.

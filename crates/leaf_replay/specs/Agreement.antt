@@ -1,4 +1,4 @@
--- What the leaves, `pick_poly`, `export_obj` and `count_seams` make of a record's words in, by its tag, and when a record agrees with them. Definitions only.
+-- What the leaves, `pick_poly`, `export_obj`, `count_seams` and `reachable` make of a record's words in, by its tag, and when a record agrees with them. Definitions only.
 use Prim.Native.Nat.{ℕ, _+_, _-_, _*_, _%_, _≤_, _<_}
 use mathlib.Core.Path.{_≡_}
 use mathlib.Core.Bool.{Bool, true, false, cond}
@@ -22,6 +22,7 @@ use Rattle.pick_entry.specs.Entries.{foundWords}
 use Rattle.obj_replay.specs.Agreement.{DrawingAgrees}
 use Rattle.seams.specs.Seams.{seamOutcome}
 use Rattle.seams.specs.Entries.{seamWords}
+use Rattle.reach_replay.specs.Agreement.{WalkAgrees}
 use Rattle.replay.specs.Ends.{recordEnd}
 use Rattle.replay.specs.Tallies.{Within, Passed, Counted}
 use Rattle.replay.specs.declared.Tally.{Tally}
@@ -104,6 +105,7 @@ pub data Agrees : ℕ → List ℕ → List ℕ → Type 0 where
   as-pick : {i o : List ℕ} → (pickNumber i ≡ getD o 0 0) × FirstThree (pickWords i) o → Agrees 7 i o
   as-drawing : {i o : List ℕ} → DrawingAgrees i o → Agrees 8 i o
   as-seams : {i o : List ℕ} → (seamsNumber i ≡ getD o 0 0) × FirstThree (seamsWords i) o → Agrees 9 i o
+  as-walk : {i o : List ℕ} → WalkAgrees i o → Agrees 10 i o
 
 -- where the parts of the record at a place stand: what the list lacks is left out
 abbrev pub outputAt : List ℕ → ℕ → ℕ

@@ -1,4 +1,4 @@
-// The records of the leaves' list: where their parts stand, and whether the words out are what the leaves, `pick_poly`, `export_obj` and `count_seams` make of the words in.
+// The records of the leaves' list: where their parts stand, and whether the words out are what the leaves, `pick_poly`, `export_obj`, `count_seams` and `reachable` make of the words in.
 // The list is made of 32-bit little-endian words; a record is its tag, how many words go in and how many come out, and these words. The last
 // record has the tag 0, as what lies behind the list has.
 ghost use mathlib.Core.Path.{_≡_};
@@ -12,6 +12,7 @@ ghost use Rattle.leaf_replay.specs.Agreement.{shortOf, backOf, floorOf, 
 use areas::AreaAnswer;
 use areas::Areas;
 use obj_replay::drawing_agrees;
+use reach_replay::walk_agrees;
 use replay::end_of;
 use replay::word_or;
 
@@ -192,7 +193,8 @@ pub fn agrees(tag: u32, input: &[u32], output: &[u32]) -> bool
         7 => pick_agrees(input, output),
         8 => drawing_agrees(input, output),
         9 => seams_agree(input, output),
-        0 | 10..=4294967295 => false,
+        10 => walk_agrees(input, output),
+        0 | 11..=4294967295 => false,
     }
 }
 

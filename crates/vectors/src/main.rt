@@ -1,5 +1,5 @@
-// Replays the oracle's list of vectors, which stands on standard input, against the leaves, `pick_poly`, `export_obj` and `count_seams`, and prints how many records
-// of each kind agree. What stands in the list is said in `leaf_replay`.
+// Replays the oracle's list of vectors, which stands on standard input, against the leaves, `pick_poly`, `export_obj`, `count_seams` and `reachable`, and prints
+// how many records of each kind agree. What stands in the list is said in `leaf_replay`.
 ghost use mathlib.Core.Path.{_≡_};
 ghost use Prim.Native.Nat.{ℕ, _+_, _*_, _≤_, _<_};
 ghost use lib.ListN.{length, getD};
@@ -83,11 +83,12 @@ fn report_all(words: &[u32]) {
     report(b"pick ", words, 7, 7);
     report(b"obj ", words, 8, 8);
     report(b"seams ", words, 9, 9);
+    report(b"reach ", words, 10, 10);
     let first = report(b"all ", words, 1, 4294967295);
     print_first(first, words.len(), b"word");
 }
 
-// The list has at most 120,000 bytes; zeros lie behind it.
+// The list has at most 130,000 bytes; zeros lie behind it.
 fn main() {
     let mut bytes = [0u8; 131072];
     io::read_full(0, &mut bytes);

@@ -14,6 +14,8 @@ ghost use Rattle.picking.specs.Picking.{pickOutcome, spotOutcome};
 ghost use Rattle.pick_entry.specs.Entries.{foundWords, spotWords};
 ghost use Rattle.obj.specs.Obj.{objOutcome};
 ghost use Rattle.obj_entry.specs.Entries.{objWords};
+ghost use Rattle.reach.specs.Reached.{reachOutcome};
+ghost use Rattle.reach_entry.specs.Entries.{reachWords};
 ghost use Rattle.cell_grid.specs.Grid.{cellAt, boundsOutcome};
 ghost use Rattle.cell_grid.specs.Entries.{cellWords, boundsWords};
 ghost use Rattle.answers.specs.Words.{numberOf, answerWords};
@@ -86,6 +88,21 @@ pub extern "C" fn ynv_export_obj(strip: &[u32], text: &mut [u8], answer: &mut [u
     ensures text { λ _. ⌜ now (text .exit) ≡ left (objOutcome (now (strip .entry)) (length (now (text .entry)))) (now (text .entry)) ⌝ }
 {
     obj_entry::obj_entry(strip, text, answer)
+}
+
+// Marks 1 each polygon that a chain of steps leads to from polygon `start`, 0 the others, a byte to a polygon: how many are marked.
+#[no_mangle]
+pub extern "C" fn ynv_reachable(
+    strip: &[u32],
+    start: u64,
+    marks: &mut [u8],
+    answer: &mut [u64; 8],
+) -> u32
+    ensures number { λ r. ⌜ r ≡ numberOf (shown (reachOutcome (now (strip .entry)) start (length (now (marks .entry))))) ⌝ }
+    ensures answer { λ _. ⌜ now (answer .exit) ≡ over (answerWords reachWords (shown (reachOutcome (now (strip .entry)) start (length (now (marks .entry)))))) (now (answer .entry)) ⌝ }
+    ensures marks { λ _. ⌜ now (marks .exit) ≡ left (reachOutcome (now (strip .entry)) start (length (now (marks .entry)))) (now (marks .entry)) ⌝ }
+{
+    reach_entry::reach_entry(strip, start, marks, answer)
 }
 
 // The two coordinates of the cell that contains a position. It refuses nothing.

@@ -12,6 +12,7 @@ mod rng;
 pub mod sizes;
 pub mod spots;
 pub mod timed;
+pub mod walks;
 pub mod writing;
 
 pub use rng::Rng;

@@ -28,6 +28,16 @@ extern "C" {
     /// The bytes of the text.
     fn ynv_export_obj(strip: *const u32, strip_len: usize, text: *mut u8, text_len: usize, answer: *mut u64) -> u32;
 
+    /// How many are marked.
+    fn ynv_reachable(
+        strip: *const u32,
+        strip_len: usize,
+        start: u64,
+        marks: *mut u8,
+        marks_len: usize,
+        answer: *mut u64,
+    ) -> u32;
+
     /// The two coordinates; it refuses nothing.
     fn ynv_cell_for_position(x: f32, y: f32, answer: *mut u64) -> u32;
 
@@ -74,6 +84,10 @@ pub fn spot_for_position(strip: &[u32], x: f32, y: f32, answer: &mut [u64; 8]) -
 
 pub fn export_obj(strip: &[u32], text: &mut [u8], answer: &mut [u64; 8]) -> u32 {
     unsafe { ynv_export_obj(strip.as_ptr(), strip.len(), text.as_mut_ptr(), text.len(), answer.as_mut_ptr()) }
+}
+
+pub fn reachable(strip: &[u32], start: u64, marks: &mut [u8], answer: &mut [u64; 8]) -> u32 {
+    unsafe { ynv_reachable(strip.as_ptr(), strip.len(), start, marks.as_mut_ptr(), marks.len(), answer.as_mut_ptr()) }
 }
 
 pub fn cell_for_position(x: f32, y: f32, answer: &mut [u64; 8]) -> u32 {

@@ -12,6 +12,7 @@ pub mod lent;
 pub mod obj;
 pub mod plain;
 pub mod plain_obj;
+pub mod plain_reach;
 pub mod plain_seams;
 pub mod plot;
 #[cfg(feature = "ynv")]
@@ -23,4 +24,5 @@ pub mod tally;
 pub mod timing;
 pub mod under_test;
 pub mod vectors;
+pub mod walks;
 pub mod writing;

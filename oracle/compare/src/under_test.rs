@@ -48,7 +48,7 @@ mod own {
 pub use own::*;
 
 #[cfg(feature = "ynv")]
-pub use crate::ffi_ynv::{count_seams, export_obj, parse, pick_poly, serialize};
+pub use crate::ffi_ynv::{count_seams, export_obj, parse, pick_poly, reachable, serialize};
 
 pub const READER: &str = if cfg!(feature = "ynv") {
     "the library (libynv.a)"
@@ -158,6 +158,23 @@ pub fn export_obj(strip: &[u32], text: &mut [u8], answer: &mut [u64; 8]) -> u32 
         Ok(()) => {
             text[..bytes.len()].copy_from_slice(&bytes);
             *answer = [bytes.len() as u64, 0, 0, 0, 0, 0, 0, 0];
+            0
+        }
+    }
+}
+
+pub const WALKING: &str = DRAWING;
+
+/// Where a walker can get to by the plain Rust that the library is timed against.
+#[cfg(not(feature = "ynv"))]
+pub fn reachable(strip: &[u32], start: u64, marks: &mut [u8], answer: &mut [u64; 8]) -> u32 {
+    match crate::plain_reach::reach(strip, start, marks) {
+        Err(refusal) => {
+            answer[0] = refusal.place as u64;
+            refusal.number
+        }
+        Ok(count) => {
+            *answer = [count as u64, 0, 0, 0, 0, 0, 0, 0];
             0
         }
     }

@@ -1,6 +1,6 @@
 -- `leaf_replay::agrees` meets its contract: each kind has its callee's promise.
 use mathlib.Core.Bool.{false≢true}
-use Rattle.leaf_replay.specs.Agreement.{as-short, as-back, as-quarter, as-areas, as-place, as-strip, as-pick, as-drawing, as-seams}
+use Rattle.leaf_replay.specs.Agreement.{as-short, as-back, as-quarter, as-areas, as-place, as-strip, as-pick, as-drawing, as-seams, as-walk}
 use borrow.Author.Needs.{needs}
 use Rattle.leaf_replay.proofs.agrees.Statement.{statement}
 use Rattle.leaf_replay.proofs.agrees.Tie as tie
@@ -32,6 +32,9 @@ drawing-agrees-requires c κs = search needs
 seams-agree-requires : tie.Need-seams-agree-requires
 seams-agree-requires c κs = search needs
 
+walk-agrees-requires : tie.Need-walk-agrees-requires
+walk-agrees-requires c κs = search needs
+
 returns : tie.Need-returns
 returns c = λ h. rw (c .before .match .keys1) (as-short (c .short-agrees .ensures h))
 
@@ -60,10 +63,13 @@ returns-9 : tie.Need-returns-9
 returns-9 c = λ h. rw (c .before .match .keys9) (as-seams (c .seams-agree .ensures h))
 
 returns-10 : tie.Need-returns-10
-returns-10 c = λ h. absurd (false≢true h)
+returns-10 c = λ h. rw (c .before .match .keys10) (as-walk (c .walk-agrees .ensures h))
 
 returns-11 : tie.Need-returns-11
 returns-11 c = λ h. absurd (false≢true h)
+
+returns-12 : tie.Need-returns-12
+returns-12 c = λ h. absurd (false≢true h)
 
 pub agrees-spec : {M : Type 1} → statement M
 agrees-spec =
@@ -78,6 +84,7 @@ agrees-spec =
     pick-agrees-requires
     drawing-agrees-requires
     seams-agree-requires
+    walk-agrees-requires
     returns
     returns-2
     returns-3
@@ -88,4 +95,5 @@ agrees-spec =
     returns-8
     returns-9
     returns-10
-    returns-11)
+    returns-11
+    returns-12)

@@ -2,7 +2,8 @@
 //! lent to the one and taken from the heap by the other, a markdown table. The library's calls are then made on a thread with a stack of 1 MB (or as many KB
 //! as the argument says) and held to their answers; a stack too small ends the program. The
 //! reader has the deepest trees, 4,096 sectors one below the other, and sectors that are
-//! their own sub; both calls have cells of one sector and of 21, up to the largest.
+//! their own sub; both calls have cells of one sector and of 21, up to the largest. The walk, which
+//! has local arrays by the polygons and portals of a strip, has strips of each size of them.
 
 use std::env;
 use std::hint::black_box;
@@ -13,14 +14,16 @@ use std::thread::Builder;
 use cases::cells::empty_vehicle;
 use cases::pages::{self, Pages, SYSTEM};
 use cases::timed::SIZES;
+use cases::walks::{down, drawn, portal_chain};
 use compare::heap::{self, Heap};
+use compare::plain_reach;
 use compare::reading::{self, Read};
 use compare::stacks;
-use compare::under_test::{parse, serialize};
+use compare::under_test::{parse, reachable, serialize};
 use compare::writing::{self, Write};
 use rage::resource::{container, NO_COPY};
 use rage::ynv::{parse_ynv, serialize_ynv, Ynv};
-use strips::{encode, laid_out};
+use strips::{encode, laid_out, reach};
 
 #[global_allocator]
 static HEAP: Heap = Heap;
@@ -86,6 +89,30 @@ fn writing(name: &str, cell: Ynv) -> Case {
     Case { name: format!("writing, {name}"), lent, bare, rust, held }
 }
 
+fn walking(name: &str, cell: Ynv) -> Case {
+    let (strip, lent) = (encode(&cell), cell.polys.len());
+    let (ours, theirs) = (strip.clone(), strip.clone());
+    let (mut marks, mut answer) = (vec![0; lent], [0; 8]);
+    let bare = Box::new(move || {
+        reachable(&ours, 0, &mut marks, &mut answer);
+    });
+    let mut marks = vec![0; lent];
+    let rust = Box::new(move || {
+        let _ = black_box(plain_reach::reach(&theirs, 0, &mut marks));
+    });
+    let held = Box::new(move || {
+        let (mut marks, mut answer) = (vec![7; lent], [0; 8]);
+        let number = reachable(&strip, 0, &mut marks, &mut answer);
+        let same = number == 0 && reach(&strip, 0, lent).is_ok_and(|expected| expected == marks);
+        if same {
+            Ok(number)
+        } else {
+            Err(format!("{number}, or other marks"))
+        }
+    });
+    Case { name: format!("a walk, {name}"), lent, bare, rust, held }
+}
+
 fn cases() -> Vec<Case> {
     let own_sub = |sub| reading(&format!("a sector that is its own sub {sub}"), own_sub(sub));
     let mut out: Vec<Case> = (0..4).map(own_sub).collect();
@@ -97,6 +124,11 @@ fn cases() -> Vec<Case> {
     for size in SIZES {
         out.push(writing(size.name, (size.make)()));
     }
+    out.push(walking("1 polygon", drawn(1)));
+    out.push(walking("256 polygons", drawn(256)));
+    out.push(walking("2,048 polygons", drawn(2048)));
+    out.push(walking("16,383 polygons", drawn(16_383)));
+    out.push(walking("65,536 polygons, 65,535 portals", portal_chain(&down(65_536), &down(65_535))));
     out
 }
 

@@ -8,6 +8,7 @@ mod obj;
 mod picking;
 mod places;
 mod quarters;
+mod reach;
 pub mod reading;
 mod seams;
 mod shorts;
@@ -15,7 +16,7 @@ mod strip;
 pub mod writing;
 
 /// No list is longer.
-pub const MOST_BYTES: usize = 120_000;
+pub const MOST_BYTES: usize = 130_000;
 
 #[derive(Default)]
 pub struct Vectors {
@@ -52,5 +53,6 @@ pub fn all() -> Vectors {
     picking::picks(&mut out);
     obj::objs(&mut out);
     seams::counted(&mut out);
+    reach::walks(&mut out);
     out
 }

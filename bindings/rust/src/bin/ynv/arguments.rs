@@ -13,6 +13,7 @@ ynv: navmesh cells, by a proved library
   ynv check FILE...        would it save? One line for each file, with what to do where it wouldn't
   ynv seams FILE...        how many halves of edges lead to a neighbouring cell
   ynv pick X Y FILE...     the polygon at a position
+  ynv reach N FILE...      where a walker can get to from polygon N: how many, and which
   ynv draw FILE SVG        a picture of the cell seen from above
   ynv obj FILE OBJ         the polygons as Wavefront OBJ text, for a modelling program
   ynv read PAGES STRIP     pages to a strip
@@ -83,6 +84,7 @@ pub enum Verb {
     Check(Vec<PathBuf>),
     Seams(Vec<PathBuf>),
     Pick(f32, f32, Vec<PathBuf>),
+    Reach(usize, Vec<PathBuf>),
     Draw(PathBuf, PathBuf),
     Obj(PathBuf, PathBuf),
     Read(PathBuf, PathBuf),
@@ -102,6 +104,7 @@ impl Verb {
             ("check", [_, ..]) => Ok(Verb::Check(paths(rest))),
             ("seams", [_, ..]) => Ok(Verb::Seams(paths(rest))),
             ("pick", [x, y, files @ ..]) if !files.is_empty() => Ok(Verb::Pick(number(x)?, number(y)?, paths(files))),
+            ("reach", [start, files @ ..]) if !files.is_empty() => Ok(Verb::Reach(polygon(start)?, paths(files))),
             ("draw", [from, to]) => Ok(Verb::Draw(from.into(), to.into())),
             ("obj", [from, to]) => Ok(Verb::Obj(from.into(), to.into())),
             ("read", [from, to]) => Ok(Verb::Read(from.into(), to.into())),
@@ -113,6 +116,12 @@ impl Verb {
             },
         }
     }
+}
+
+/// A polygon's number.
+fn polygon(word: &OsStr) -> Result<usize, Trouble> {
+    let refused = || Trouble::Usage(format!("{} is no polygon's number", word.to_string_lossy()));
+    word.to_str().and_then(|text| text.parse().ok()).ok_or_else(refused)
 }
 
 /// A coordinate.

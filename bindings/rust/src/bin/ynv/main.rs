@@ -1,5 +1,5 @@
-//! The tool `ynv`: what a cell is, whether it would save, pages to strips and back, a picture, a drawing
-//! for modelling programs.
+//! The tool `ynv`: what a cell is, whether it would save, pages to strips and back, where a walker can
+//! get to, a picture, a drawing for modelling programs.
 //!
 //! `ynv --help` has its verbs. Status: 0 done, 1 a cell is refused, 2 trouble with a file or the arguments.
 
@@ -50,6 +50,9 @@ fn run() -> Result<u8, Trouble> {
         Verb::Seams(paths) => each(&paths, |path| report::seams(path, &files::load(path, options.kind, None)?)),
         Verb::Pick(x, y, paths) => {
             each(&paths, |path| report::pick(path, &files::load(path, options.kind, None)?, x, y))
+        }
+        Verb::Reach(start, paths) => {
+            each(&paths, |path| report::reach(path, &files::load(path, options.kind, None)?, start))
         }
         Verb::Draw(from, to) => draw(&options, &from, &to).map_err(|trouble| trouble.of(&from)),
         Verb::Obj(from, to) => obj(&options, &from, &to).map_err(|trouble| trouble.of(&from)),

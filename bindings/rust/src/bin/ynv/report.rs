@@ -81,6 +81,24 @@ fn within(at: f32, low: f32, side: f32) -> bool {
     (from..=to).contains(&at)
 }
 
+/// Where a walker can get to, by the polygons' numbers, those in a row by the first and the last of them.
+pub fn reach(path: &Path, loaded: &Loaded, start: usize) -> Result<Answer, Trouble> {
+    let marks = ynv::reachable(&loaded.strip, start)?;
+    let count = marks.iter().filter(|&&mark| mark).count();
+    let mut rows = Vec::new();
+    let mut number = 0;
+    for row in marks.chunk_by(|a, b| a == b) {
+        let last = number + row.len() - 1;
+        match (row[0], row.len()) {
+            (false, _) => {}
+            (true, 1) => rows.push(format!("{number}")),
+            (true, _) => rows.push(format!("{number}-{last}")),
+        }
+        number += row.len();
+    }
+    Ok((line(path, format!("from polygon {start}: {count} of {} polygons: {}", marks.len(), rows.join(", "))), 0))
+}
+
 /// The cell of the map's grid at a position.
 pub fn location(x: f32, y: f32) -> Result<String, Trouble> {
     let (cx, cy) = ynv::cell_for_position(x, y);
