@@ -1,5 +1,7 @@
 // How a C entry answers: it returns 0, with its values and zeros in `answer`, or a refusal's number, with its place in `answer[0]` and the
 // rest of `answer` as it was.
+#![tactic(auto)]
+
 ghost use Rattle.std.specs.Prelude.{◌≡◌, [], ◌∷◌, get_or};
 ghost use Rattle.fields.specs.Bytes.{over};
 ghost use Rattle.answers.specs.Words.{filled};

@@ -4,7 +4,7 @@ ghost use Rattle.areas.specs.EdgeHalf.{half_word};
 ghost use Rattle.areas.specs.Decoded.{decoded_end};
 
 // The fields of a half as they are read, the area still an index.
-#[derive(Drop)]
+#[derive(Clone, Copy)]
 pub struct RawEnd {
     pub index: u32,
     pub poly: u32,

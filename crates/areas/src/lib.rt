@@ -1,4 +1,6 @@
 // The areas that a cell's edges name: its own id, none and its neighbours first, equal ones once, 32 at most.
+#![tactic(auto)]
+
 ghost use Rattle.std.specs.Prelude.{◌≡◌, min, take};
 ghost use Rattle.fields.specs.Bytes.{over, zeros};
 ghost use Rattle.distinct.specs.Numbers.{up_to};
@@ -11,13 +13,13 @@ pub mod edge;
 pub const ADJACENT_NONE: u32 = 16383;
 
 // The first `len` of `ids`. A `len` above 32 counts as 32.
-#[derive(Drop)]
+#[derive(Clone, Copy)]
 pub struct Areas {
     pub ids: [u32; 32],
     pub len: usize,
 }
 
-#[derive(Drop)]
+#[derive(Clone, Copy)]
 pub enum AreaAnswer {
     // The index of an area.
     At(u32),
@@ -26,14 +28,14 @@ pub enum AreaAnswer {
 }
 
 // An answer with the table after it.
-#[derive(Drop)]
+#[derive(Clone, Copy)]
 pub struct Ensured {
     pub areas: Areas,
     pub at: AreaAnswer,
 }
 
 // An answer with the table's length after it.
-#[derive(Drop)]
+#[derive(Clone, Copy)]
 pub struct Entry {
     pub at: AreaAnswer,
     pub len: usize,

@@ -1,4 +1,6 @@
 // The grid of the map's cells: the cell of a position, and a cell's sides.
+#![tactic(auto)]
+
 ghost use Rattle.std.specs.Prelude.{◌≡◌, ◌≤◌};
 ghost use Rattle.fields.specs.Bytes.{over};
 ghost use Rattle.answers.specs.Words.{number_of, answer_words};
@@ -14,14 +16,14 @@ pub const CELL_SIZE: f32 = 150.0;
 pub const CELL_ORIGIN: f32 = -6000.0;
 
 // A cell by its two coordinates, each from 0 to 99.
-#[derive(Drop)]
+#[derive(Clone, Copy)]
 pub struct CellXY {
     pub x: u32,
     pub y: u32,
 }
 
 // The sides of a cell.
-#[derive(Drop)]
+#[derive(Clone, Copy)]
 pub struct CellBounds {
     pub x0: f32,
     pub y0: f32,
@@ -29,7 +31,7 @@ pub struct CellBounds {
     pub y1: f32,
 }
 
-#[derive(Drop)]
+#[derive(Clone, Copy)]
 pub enum BoundsAnswer {
     Bounds(CellBounds),
     Refused(Refusal),

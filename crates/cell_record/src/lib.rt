@@ -1,5 +1,7 @@
 // The record of a cell, by value: what a strip's first record holds, its box as vectors of floats. Writing makes it once from a strip whose box is finite,
 // reading once from header and root; every function that needs the box or a flag takes it, or its boxes.
+#![tactic(auto)]
+
 ghost use Rattle.std.specs.Prelude.{◌≡◌, ◌≤◌, length};
 ghost use Rattle.strip.specs.Reading.{head_at};
 ghost use Rattle.cell_record.specs.Record.{record_of, root_in};
@@ -7,7 +9,7 @@ ghost use Rattle.cell_record.specs.Record.{record_of, root_in};
 use math::vec3::{Vec3, floats_at};
 use quarters::bounds::Aabb;
 
-#[derive(Drop)]
+#[derive(Clone, Copy)]
 pub struct CellRecord {
     pub content_flags: u32,
     pub area_id: u32,

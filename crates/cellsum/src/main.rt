@@ -1,4 +1,6 @@
 // Reads a cell's system pages on standard input, without graphics, and prints its area id and counts, or the refusal.
+#![tactic(auto)]
+
 use libc::{STDIN_FILENO, STDOUT_FILENO};
 
 // One byte more than is taken, to see that there are more.

@@ -1,4 +1,6 @@
 // The line that `cellsum` prints of a cell's system pages: area id and counts, or a refusal.
+#![tactic(auto)]
+
 ghost use Rattle.std.specs.Prelude.{◌≡◌, ◌+◌, ◌≤◌, length};
 ghost use Rattle.fields.specs.Put.{put};
 ghost use Rattle.strip.specs.Outcome.{left};

@@ -1,4 +1,6 @@
 // Text in lent bytes: a run of bytes as it is, and a number's decimal digits. Every call is total: what would lie past the end is left out.
+#![tactic(auto)]
+
 ghost use Rattle.std.specs.Prelude.{◌≡◌, [], ◌∷◌, ◌+◌, ◌<◌, length};
 ghost use Rattle.fields.specs.Put.{put};
 ghost use Rattle.decimal.specs.Text.{digit, decimal};

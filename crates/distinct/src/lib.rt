@@ -1,4 +1,6 @@
 // Where an id stands in a table of distinct ids. The lists and their laws are in specs/ and proofs/.
+#![tactic(auto)]
+
 ghost use Rattle.std.specs.Prelude.{◌≡◌, ◌≤◌, length, take};
 ghost use Rattle.distinct.specs.Distinct.{index_of};
 

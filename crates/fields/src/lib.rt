@@ -1,4 +1,6 @@
 // Little-endian fields of lent bytes, read. Every call is total: a byte past the end reads as 0. `stores` puts them.
+#![tactic(auto)]
+
 ghost use Rattle.std.specs.Prelude.{◌≡◌, ◌++◌, ◌+◌, ◌≤◌, min, length};
 ghost use Rattle.fields.specs.Bytes.{le_at, le_bytes};
 

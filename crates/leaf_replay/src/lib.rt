@@ -1,6 +1,8 @@
 // The records of the leaves' list: where their parts stand, and whether the words out are what the leaves, `pick_poly`, `export_obj`, `count_seams` and `reachable` make of the words in.
 // The list is made of 32-bit little-endian words; a record is its tag, how many words go in and how many come out, and these words. The last
 // record has the tag 0, as what lies behind the list has.
+#![tactic(auto)]
+
 ghost use Rattle.std.specs.Prelude.{◌≡◌, true, ℕ, ◌+◌, ◌*◌, ◌≤◌, ◌<◌, length, get_or, drop};
 ghost use Rattle.fields.specs.Bytes.{zeros};
 ghost use Rattle.areas.specs.Areas.{seeded};
@@ -110,7 +112,7 @@ fn counts_agree(answer: &[u64; 8], output: &[u32]) -> bool
 }
 
 // The table after as many ids as are taken before a 33rd area, and how many these are.
-#[derive(Drop)]
+#[derive(Clone, Copy)]
 struct Taken {
     areas: Areas,
     count: usize,
@@ -196,7 +198,7 @@ pub fn agrees(tag: u32, input: &[u32], output: &[u32]) -> bool
 }
 
 // Where a record's words in begin, its words out, and the next record. Words that the list lacks are left out.
-#[derive(Drop)]
+#[derive(Clone, Copy)]
 pub struct Record {
     pub input: usize,
     pub output: usize,

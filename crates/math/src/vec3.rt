@@ -5,7 +5,7 @@ ghost use Rattle.math.specs.Picked.{IsMin, IsMax};
 
 use super::num::{f32_max, f32_min, float_of_bits};
 
-#[derive(Drop)]
+#[derive(Clone, Copy)]
 pub struct Vec3 {
     pub x: f32,
     pub y: f32,

@@ -1,4 +1,6 @@
 // Whom a half of an edge lies towards: a polygon by the half's poly, cut to 14 bits, or nobody.
+#![tactic(auto)]
+
 ghost use Rattle.std.specs.Prelude.{◌≡◌};
 ghost use Rattle.nobody.specs.Nobody as Nobody;
 

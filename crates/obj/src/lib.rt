@@ -1,4 +1,6 @@
 // A strip's polygons as Wavefront OBJ text: the checks in their order, and then the text.
+#![tactic(auto)]
+
 ghost use Rattle.std.specs.Prelude.{◌≡◌, ◌≤◌, length};
 ghost use Rattle.strip.specs.Reading.{head_at};
 ghost use Rattle.strip.specs.Rows.{polygons_at, after_polygons};
@@ -10,7 +12,7 @@ use obj_text::put_obj;
 use strip::{Refusal, StripAnswer};
 use strip_parts::check_cell;
 
-#[derive(Drop)]
+#[derive(Clone, Copy)]
 pub enum ObjAnswer {
     Exported(usize),
     Refused(Refusal),

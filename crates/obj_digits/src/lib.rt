@@ -1,4 +1,6 @@
 // A number's decimal digits where there is room for them: two at a time, without a loop below 10^8.
+#![tactic(auto)]
+
 ghost use Rattle.std.specs.Prelude.{◌≡◌, ◌+◌, ◌≤◌, ◌<◌, length};
 ghost use Rattle.decimal.specs.Text.{ascii, decimal, named};
 ghost use Rattle.decimal.specs.Stored.{Stored};

@@ -1,4 +1,6 @@
 // `export_obj` for C: how its answer stands in eight words. `ynv` exports it.
+#![tactic(auto)]
+
 ghost use Rattle.std.specs.Prelude.{◌≡◌, length};
 ghost use Rattle.fields.specs.Bytes.{over};
 ghost use Rattle.strip.specs.Outcome.{shown, left};

@@ -1,4 +1,6 @@
 // How long a drawing's text is, from its shorts and counts alone, before a byte of it is written. A length that no number names is the last one that is.
+#![tactic(auto)]
+
 ghost use Rattle.std.specs.Prelude.{◌≡◌, ◌+◌, ◌-◌, ◌*◌, ◌^◌, ◌≤◌, ◌<◌, min, leb, length};
 ghost use Rattle.decimal.specs.Text.{decimal};
 ghost use Rattle.strip.specs.Tests.{one_if};

@@ -1,4 +1,6 @@
 // The lines of a drawing, stored where there is room for them: a vertex by its shorts, a polygon by the numbers of its vertices.
+#![tactic(auto)]
+
 ghost use Rattle.std.specs.Prelude.{◌+◌, ◌^◌, ◌≤◌, ◌<◌, length};
 ghost use Rattle.decimal.specs.Stored.{Stored};
 ghost use Rattle.strip.specs.Reading.{vec_at};

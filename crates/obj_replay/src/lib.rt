@@ -1,5 +1,7 @@
 // The records of the leaves' list that are about a drawing. In stand the bytes lent and the strip's words; out stand the number, 0 for an accepted
 // strip; the text's length, or the place; and the text, four bytes to a word, the last word filled with what was lent.
+#![tactic(auto)]
+
 ghost use Rattle.std.specs.Prelude.{◌≡◌, true, ℕ, ◌+◌, ◌*◌, ◌≤◌, ◌<◌, length, get_or};
 ghost use Rattle.fields.specs.Bytes.{le_at, over};
 ghost use Rattle.strip.specs.Outcome.{shown};

@@ -1,4 +1,6 @@
 // Whether a drawing can be made before a byte of it is: the polygons counted, and the room that the text needs.
+#![tactic(auto)]
+
 ghost use Rattle.std.specs.Prelude.{◌≡◌, true, ◌+◌, ◌*◌, ◌≤◌, ◌<◌, leb, length};
 ghost use Rattle.strip.specs.Reading.{head_at};
 ghost use Rattle.strip.specs.Rows.{polygons_at, after_polygons};
@@ -11,7 +13,7 @@ use obj_length::measure;
 use strip::poly_at;
 
 // What a pass over the polygons' first words tells: the first one with fewer than 3 vertices, or how many vertices there are.
-#[derive(Drop)]
+#[derive(Clone, Copy)]
 pub enum Tally {
     Thin(usize),
     Vertices(usize),

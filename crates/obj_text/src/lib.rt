@@ -1,4 +1,6 @@
 // The text of a drawing, stored where there is room for it: a line for each vertex of each polygon, then a line for each polygon.
+#![tactic(auto)]
+
 ghost use Rattle.std.specs.Prelude.{◌+◌, ◌*◌, ◌≤◌, length};
 ghost use Rattle.decimal.specs.Stored.{Stored};
 ghost use Rattle.strip.specs.Cell.{each};

@@ -1,4 +1,6 @@
 // Whether a polygon of a strip contains a spot: its sides that are crossed, counted.
+#![tactic(auto)]
+
 ghost use Rattle.std.specs.Prelude.{◌≡◌, map, ◌+◌, ◌*◌, ◌^◌, ◌≤◌, ◌<◌, length};
 ghost use Rattle.quantise.specs.Short.{short};
 ghost use Rattle.strip.specs.Reading.{word, vecs_at, polygon_of};
@@ -12,21 +14,21 @@ use quantise::short::quantise_axis;
 use strip::Poly;
 
 // A place in the cell's plane, in shorts.
-#[derive(Drop)]
+#[derive(Clone, Copy)]
 pub struct Spot {
     pub x: u16,
     pub y: u16,
 }
 
 // An axis of the cell's box: lo from bb_min and extent from bb_size.
-#[derive(Drop)]
+#[derive(Clone, Copy)]
 pub struct Axis {
     pub lo: f32,
     pub extent: f32,
 }
 
 // A vertex: where it stands in the strip, and its y as a short. Its x is made only where a side may be crossed, which few are.
-#[derive(Drop)]
+#[derive(Clone, Copy)]
 struct Vertex {
     at: usize,
     y: u16,

@@ -1,4 +1,6 @@
 // `pick_poly` and `spot_for_position` for C: how their answers stand in eight words. `ynv` exports them.
+#![tactic(auto)]
+
 ghost use Rattle.std.specs.Prelude.{◌≡◌};
 ghost use Rattle.fields.specs.Bytes.{over};
 ghost use Rattle.strip.specs.Outcome.{shown};

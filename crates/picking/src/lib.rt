@@ -1,4 +1,6 @@
 // What lies under the cursor: the lowest-numbered polygon that contains a spot, and the spot of a position.
+#![tactic(auto)]
+
 ghost use Rattle.std.specs.Prelude.{◌≡◌, ◌≤◌, length};
 ghost use Rattle.strip.specs.Reading.{head_at};
 ghost use Rattle.strip.specs.Rows.{polygons_at, after_polygons};
@@ -12,14 +14,14 @@ use pick_contains::{Axis, Spot, contains, short_on};
 use strip::{Refusal, StripAnswer};
 use strip_parts::check_cell;
 
-#[derive(Drop)]
+#[derive(Clone, Copy)]
 pub enum PickAnswer {
     Poly(usize),
     Nothing,
     Refused(Refusal),
 }
 
-#[derive(Drop)]
+#[derive(Clone, Copy)]
 pub enum SpotAnswer {
     At(Spot),
     Refused(Refusal),

@@ -1,5 +1,7 @@
 // The proved examples P1 to P12 of the scope document: each function computes one and promises the document's value. The program prints
 // them, a line each.
+#![tactic(auto)]
+
 ghost use Rattle.std.specs.Prelude.{◌≡◌, ◌∷◌, [], pos, negsuc, take, length};
 ghost use Rattle.strip.specs.Outcome.{shown, left};
 ghost use Rattle.ynv_write.specs.Serialize.{paper, serialize_outcome};

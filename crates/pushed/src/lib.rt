@@ -1,5 +1,7 @@
 // How many coordinates are pushed to the border of the box: of positions in a strip, of its portals' ends and of its points. The writer counts its vertices
 // where it makes their shorts; points that lie in no leaf are made no shorts of, and count here all the same.
+#![tactic(auto)]
+
 ghost use Rattle.std.specs.Prelude.{◌≡◌, ◌++◌, ◌+◌, ◌*◌, ◌≤◌, ◌<◌, length};
 ghost use Rattle.quantise.specs.Short.{outside_count};
 ghost use Rattle.strip.specs.Reading.{vec_at};

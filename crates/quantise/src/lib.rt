@@ -1,2 +1,4 @@
 // Coordinates in pages: positions as short numbers of their box.
+#![tactic(auto)]
+
 pub mod short;

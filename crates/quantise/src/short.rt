@@ -9,7 +9,7 @@ ghost use Rattle.std.specs.Float.Ieee.{lt};
 use math::vec3::Vec3;
 
 // A vertex as its three short numbers.
-#[derive(Drop)]
+#[derive(Clone, Copy)]
 pub struct Shorts {
     pub x: u16,
     pub y: u16,
@@ -17,14 +17,14 @@ pub struct Shorts {
 }
 
 // A coordinate as its short number, and whether it was outside: pushed to the border.
-#[derive(Drop)]
+#[derive(Clone, Copy)]
 pub struct Short {
     pub q: u16,
     pub outside: bool,
 }
 
 // A vertex as its three short numbers, and how many of its coordinates were outside.
-#[derive(Drop)]
+#[derive(Clone, Copy)]
 pub struct Quantised {
     pub shorts: Shorts,
     pub outside: u32,

@@ -11,7 +11,7 @@ const MAX: f32 = 340282350000000000000000000000000000000.0;
 const MIN: f32 = -340282350000000000000000000000000000000.0;
 
 // A box with its sides along the axes.
-#[derive(Drop)]
+#[derive(Clone, Copy)]
 pub struct Aabb {
     pub min: Vec3,
     pub max: Vec3,

@@ -63,7 +63,7 @@ pub fn quarter_ceil(x: f32) -> i16
 }
 
 // A box in quarters, its sides in the order of the pages.
-#[derive(Drop)]
+#[derive(Clone, Copy)]
 pub struct QuarterBox {
     pub x_min: i16,
     pub x_max: i16,

@@ -1,5 +1,7 @@
 // Where a walker can get to: marks each polygon that a chain of steps leads to from one of them. No memory is lent but the marks; what the walk notes
 // for itself stands in local arrays, which are cleared at each call, so that small cells have small ones.
+#![tactic(auto)]
+
 ghost use Rattle.std.specs.Prelude.{◌≡◌, ◌≤◌, ◌<◌, length, set, replicate};
 ghost use Rattle.strip.specs.Outcome.{refusal, shown, left};
 ghost use Rattle.reach_walk.specs.Walk.{Known};
@@ -12,7 +14,7 @@ use reach_walk::{Ground, chain_portals, sweep};
 use strip::{Refusal, StripAnswer};
 use strip_parts::first_portal;
 
-#[derive(Drop)]
+#[derive(Clone, Copy)]
 pub enum ReachAnswer {
     Marked(usize),
     Refused(Refusal),

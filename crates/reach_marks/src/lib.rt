@@ -1,5 +1,7 @@
 // The marks of a strip's polygons, one byte each, and what a step does to them: 0 a polygon that is not seen, 2 one that is seen and whose steps are not
 // taken yet, 1 one that is done. Whatever is marked 2 is also noted, as long as there is room: notes say where to go on, and nothing but time rests on them.
+#![tactic(auto)]
+
 ghost use Rattle.std.specs.Prelude.{◌≡◌, ◌+◌, ◌*◌, ◌≤◌, length, replicate};
 ghost use Rattle.strip.specs.Reading.{half_at, edges_at, nav_portal_at};
 ghost use Rattle.strip.specs.Rows.{portals_at};

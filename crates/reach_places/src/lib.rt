@@ -1,5 +1,7 @@
 // Where a polygon of a strip stands, by its number: polygons differ in length, so a table has the place of each, or of every so many of them where there are
 // more than it has room for, and the rest is a short walk.
+#![tactic(auto)]
+
 ghost use Rattle.std.specs.Prelude.{◌≡◌, ◌≤◌, ◌<◌, length};
 ghost use Rattle.strip.specs.Rows.{after_polygons};
 ghost use Rattle.reach_places.specs.Places.{Places};

@@ -1,5 +1,7 @@
 // The records of the leaves' list that are about where a walker can get to. In stand the start, the bytes lent and the strip's words; out stand the number,
 // 0 for an accepted strip; how many are marked, or the place; and the marks, four bytes to a word, the last word filled with what was lent.
+#![tactic(auto)]
+
 ghost use Rattle.std.specs.Prelude.{◌≡◌, true, ℕ, ◌+◌, ◌*◌, ◌≤◌, ◌<◌, length, get_or};
 ghost use Rattle.fields.specs.Bytes.{le_at, over};
 ghost use Rattle.strip.specs.Outcome.{shown};

@@ -1,5 +1,7 @@
 // A walk over a strip's polygons: each that is seen takes its steps once. Notes say which to go on with, and chains which portals lead from a polygon; both
 // may lack some, so that a sweep over all marks goes on with what was not noted. Nothing but time rests on notes and chains.
+#![tactic(auto)]
+
 ghost use Rattle.std.specs.Prelude.{◌≡◌, ◌+◌, ◌*◌, ◌≤◌, ◌<◌, length};
 ghost use Rattle.strip.specs.Reading.{polygon_at};
 ghost use Rattle.strip.specs.Rows.{after_polygons};
@@ -14,7 +16,7 @@ use reach_places::place_of;
 use strip::poly_at;
 
 // What a walk needs to know of a strip: the cell's own id, how many polygons there are to a place of the table, and where the portals stand.
-#[derive(Drop)]
+#[derive(Clone, Copy)]
 pub struct Ground {
     pub own: u32,
     pub stride: usize,

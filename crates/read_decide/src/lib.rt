@@ -1,5 +1,7 @@
 // Deciding: every check of a cell's pages but the last, in the scope document's order, and how many words the cell makes; and where things are in the
 // pages, which filling looks up again.
+#![tactic(auto)]
+
 ghost use Rattle.std.specs.Prelude.{◌≡◌, List, ℕ, ◌*◌, ◌^◌, ◌≤◌, ◌<◌, length};
 ghost use Rattle.fields.specs.Bytes.{le_at};
 ghost use Rattle.strip.specs.Box.{finite_vec, finite_box};
@@ -20,7 +22,7 @@ use strip::Refusal;
 use strip_parts::finite_vec;
 
 // How much an accepted cell has: words of the strip, polygons, portals, points, and the sectors visited.
-#[derive(Drop)]
+#[derive(Clone, Copy)]
 pub struct Parsed {
     pub words: usize,
     pub polys: usize,
@@ -29,28 +31,28 @@ pub struct Parsed {
     pub sectors: usize,
 }
 
-#[derive(Drop)]
+#[derive(Clone, Copy)]
 pub enum ParseAnswer {
     Parsed(Parsed),
     Refused(Refusal),
 }
 
 // What a run of checks answers.
-#[derive(Drop)]
+#[derive(Clone, Copy)]
 enum HeadCheck {
     Passed,
     Refused(Refusal),
 }
 
 // What the checks of lists and polygons answer: the words of the polygons, and how many they are.
-#[derive(Drop)]
+#[derive(Clone, Copy)]
 enum ListsCheck {
     Polys(usize, usize),
     Refused(Refusal),
 }
 
 // The addresses of the four lists.
-#[derive(Drop)]
+#[derive(Clone, Copy)]
 pub struct ListAddresses {
     pub vertices: u64,
     pub indices: u64,

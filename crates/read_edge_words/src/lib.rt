@@ -1,4 +1,6 @@
 // The words of a polygon's edges, from bytes that are at hand. Nothing here can fail: pass two calls it for what pass one accepted.
+#![tactic(auto)]
+
 ghost use Rattle.std.specs.Prelude.{◌≡◌, map, ◌+◌, ◌*◌, ◌≤◌, length};
 ghost use Rattle.fields.specs.Bytes.{cut};
 ghost use Rattle.fields.specs.Put.{put};

@@ -1,4 +1,6 @@
 // A list of a navmesh, decided and counted: its header, its part table and each part are there, and the parts hold as many items as the header says.
+#![tactic(auto)]
+
 ghost use Rattle.std.specs.Prelude.{◌≡◌};
 ghost use Rattle.read_lists.specs.Lists.{listed};
 ghost use Rattle.read_lists.specs.Listed.{paper, Few};

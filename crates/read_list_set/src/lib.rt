@@ -1,4 +1,6 @@
 // The four lists of a cell at their addresses: the first refusal in order, or how many items each has.
+#![tactic(auto)]
+
 ghost use Rattle.std.specs.Prelude.{◌≡◌};
 ghost use Rattle.read_list_set.specs.Listed.{lists_of, ListsRead, paper};
 
@@ -8,7 +10,7 @@ use read_lists::ListAnswer;
 use strip::Refusal;
 
 // How many items the lists and the link table have.
-#[derive(Drop)]
+#[derive(Clone, Copy)]
 pub struct Limits {
     pub vertices: usize,
     pub indices: usize,
@@ -17,7 +19,7 @@ pub struct Limits {
 }
 
 // The four lists' counts, the polygons' apart.
-#[derive(Drop)]
+#[derive(Clone, Copy)]
 pub enum ListsAnswer {
     Lists(Limits, usize),
     Refused(Refusal),

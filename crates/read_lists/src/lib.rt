@@ -1,4 +1,6 @@
 // The lists of a navmesh: a header, a part table and parts. `read_list_check` decides and counts; a cursor then finds items, part by part.
+#![tactic(auto)]
+
 ghost use Rattle.std.specs.Prelude.{◌≡◌, ◌+◌, ◌-◌, ◌*◌, ◌^◌, ◌≤◌, ◌<◌, take, drop};
 ghost use Rattle.read_lists.specs.Lists.{parts, before, total, table_of, list_bytes};
 ghost use Rattle.read_lists.specs.Listed.{Readable};
@@ -9,14 +11,14 @@ use fields::{u32_le, u64_le};
 use resource::{good_part, resolve};
 use strip::Refusal;
 
-#[derive(Drop)]
+#[derive(Clone, Copy)]
 pub enum ListAnswer {
     Items(usize),
     Refused(Refusal),
 }
 
 // A part of a list's table: its number, the number of its first item, its item count and its address.
-#[derive(Drop)]
+#[derive(Clone, Copy)]
 pub struct Cursor {
     pub part: usize,
     pub first: usize,

@@ -1,5 +1,7 @@
 // The points of the sector tree: the second pass, over a tree that the first accepted. It writes each point with its shorts as they are, and turns
 // them back at the end: the walk, which may be 4,096 deep, then carries no box, and its frames stay small.
+#![tactic(auto)]
+
 ghost use Rattle.std.specs.Prelude.{◌≡◌, true, [], ◌∷◌, ◌+◌, ◌*◌, ◌≤◌, length};
 ghost use Rattle.fields.specs.Bytes.{cut};
 ghost use Rattle.fields.specs.Put.{put};
@@ -74,7 +76,7 @@ fn put_sector_points<'a>(
 }
 
 // Where a writing walk stands: the visits left, and the strip's next word.
-#[derive(Drop)]
+#[derive(Clone, Copy)]
 struct TreeCursor {
     left: usize,
     at: usize,

@@ -1,4 +1,6 @@
 // The vertices and edges of a polygon, by the cursors over their lists. Nothing here can fail: pass one looked at the run.
+#![tactic(auto)]
+
 ghost use Rattle.std.specs.Prelude.{◌≡◌, true, map, ◌+◌, ◌*◌, ◌≤◌, ◌<◌, length, take, drop};
 ghost use Rattle.fields.specs.Bytes.{cut, le_at};
 ghost use Rattle.fields.specs.Put.{put};
@@ -23,7 +25,7 @@ use read_lists::{Cursor, list_run, seek};
 use read_polygon_words::{index_at, put_vertex};
 
 // Where the cursors over the three lists stand.
-#[derive(Drop)]
+#[derive(Clone, Copy)]
 pub struct Cursors {
     pub vertices: Cursor,
     pub indices: Cursor,
@@ -31,7 +33,7 @@ pub struct Cursors {
 }
 
 // Two of them.
-#[derive(Drop)]
+#[derive(Clone, Copy)]
 pub struct Corners {
     pub vertices: Cursor,
     pub indices: Cursor,

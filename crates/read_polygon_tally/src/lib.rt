@@ -1,4 +1,6 @@
 // Pass one over a cell's polygons: 37 and 38, and how many words they make.
+#![tactic(auto)]
+
 ghost use Rattle.std.specs.Prelude.{◌≡◌, ◌+◌, ◌*◌, ◌^◌, ◌≤◌, ◌<◌, length, take, drop};
 ghost use Rattle.fields.specs.Bytes.{cut};
 ghost use Rattle.fields.specs.Sizes.{index_size, poly_size};
@@ -18,21 +20,21 @@ use read_polygon_words::{all_below, link_count};
 use strip::Refusal;
 
 // What pass one answers: how many words the polygons make.
-#[derive(Drop)]
+#[derive(Clone, Copy)]
 pub enum PolysAnswer {
     Words(usize),
     Refused(Refusal),
 }
 
 // One polygon's words, and where the cursor over the indices stands then.
-#[derive(Drop)]
+#[derive(Clone, Copy)]
 pub enum Step {
     Good(usize, Cursor),
     Bad(Refusal),
 }
 
 // Whether a run of indices is below a limit, and where the cursor stands then.
-#[derive(Drop)]
+#[derive(Clone, Copy)]
 pub struct Run {
     pub below: bool,
     pub cursor: Cursor,

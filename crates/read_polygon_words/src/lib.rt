@@ -1,4 +1,6 @@
 // The words of a polygon's front and vertices, from bytes that are at hand. Nothing here can fail: pass two calls it for what pass one accepted. Edges are `read_edge_words`.
+#![tactic(auto)]
+
 ghost use Rattle.std.specs.Prelude.{◌≡◌, [], ◌∷◌, ◌+◌, ◌*◌, ◌≤◌, length};
 ghost use Rattle.fields.specs.Bytes.{cut, le_at};
 ghost use Rattle.fields.specs.Put.{put};

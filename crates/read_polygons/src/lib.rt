@@ -1,4 +1,6 @@
 // Pass two over a cell's polygons: it writes the words of those that pass one accepted, and cannot fail.
+#![tactic(auto)]
+
 ghost use Rattle.std.specs.Prelude.{◌≡◌, map, ◌+◌, ◌*◌, ◌≤◌, length};
 ghost use Rattle.fields.specs.Bytes.{cut};
 ghost use Rattle.fields.specs.Put.{put};
@@ -23,7 +25,7 @@ use read_polygon_sides::{Cursors, put_sides};
 use read_polygon_words::{link_count, put_front};
 
 // Where a writer of polygons stands: the strip's next word, and the cursors.
-#[derive(Drop)]
+#[derive(Clone, Copy)]
 pub struct PolygonCursor {
     pub at: usize,
     pub cursors: Cursors,

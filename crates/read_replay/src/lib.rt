@@ -2,6 +2,8 @@
 // The list is made of 32-bit little-endian words. A record is the word 7; the bytes of the system section and of the graphics section; the
 // words of the strip lent; the number, 0 for an accepted cell; the cell's words, polygons, portals, points and sectors, or the place and
 // zeros; the two sections, each padded to whole words; and the words of an accepted cell. The first word that isn't 7 ends the list.
+#![tactic(auto)]
+
 ghost use Rattle.std.specs.Prelude.{◌≡◌, true, ℕ, ◌+◌, ◌*◌, ◌^◌, ◌≤◌, ◌<◌, length, get_or};
 ghost use Rattle.read_decide.specs.Answer.{paper};
 ghost use Rattle.read_replay.specs.Agreement.{expected, expected_counts, told_word, told_words, record_of, ReadRecordInside};
@@ -11,7 +13,7 @@ use read_decide::{ParseAnswer, Parsed};
 use replay::{end_of, padded, refusal_agrees};
 
 // Where the sections of a record begin and end, its strip begins, and the next record.
-#[derive(Drop)]
+#[derive(Clone, Copy)]
 pub struct Record {
     pub system: usize,
     pub system_end: usize,

@@ -1,4 +1,6 @@
 // The sector tree of the pages, walked, checked and counted: the first pass.
+#![tactic(auto)]
+
 ghost use Rattle.std.specs.Prelude.{◌≡◌, [], ◌∷◌, ◌+◌, ◌*◌, ◌^◌, ◌<◌};
 ghost use Rattle.fields.specs.Bytes.{le_at};
 ghost use Rattle.strip.specs.Outcome.{shown};
@@ -13,27 +15,27 @@ use resource::resolve;
 use strip::Refusal;
 
 // A sector reached twice counts twice, and so do its points.
-#[derive(Drop)]
+#[derive(Clone, Copy)]
 pub struct Tree {
     pub sectors: usize,
     pub points: usize,
 }
 
-#[derive(Drop)]
+#[derive(Clone, Copy)]
 pub enum TreeAnswer {
     Tree(Tree),
     Refused(Refusal),
 }
 
 // A sector's data and points are good or absent, and there are so many points; or not.
-#[derive(Drop)]
+#[derive(Clone, Copy)]
 enum SectorPoints {
     Points(usize),
     Bad,
 }
 
 // What a walk answers: the visits left and the points counted, or a refusal's number.
-#[derive(Drop)]
+#[derive(Clone, Copy)]
 enum Walk {
     Done { left: usize, points: usize },
     Refused(u32),

@@ -1,5 +1,7 @@
 // Replays the oracle's list of pages, which stands on standard input, against the reader, and prints how many records of each number agree.
 // What stands in the list is said in `read_replay`.
+#![tactic(auto)]
+
 ghost use Rattle.std.specs.Prelude.{◌≡◌, true, ◌+◌, ◌≤◌, ◌<◌, length};
 ghost use Rattle.strip.specs.Outcome.{shown};
 ghost use Rattle.read_decide.specs.Answer.{paper};

@@ -1,4 +1,6 @@
 // What the programs that replay the oracle's lists share: where the parts of a record end, the tally of the records, and the lines that are printed.
+#![tactic(auto)]
+
 ghost use Rattle.std.specs.Prelude.{◌≡◌, true, false, ◌+◌, ◌≤◌, ◌<◌, get_or};
 ghost use Rattle.replay.specs.Ends.{record_end, padded};
 ghost use Rattle.replay.specs.Tallies.{Tallied, Within, counting};
@@ -34,7 +36,7 @@ pub fn word_or(words: &[u32], i: usize, other: u32) -> u32
 }
 
 // How many records there are, how many of them agree, and where the first stands that doesn't, or the end of the list.
-#[derive(Drop)]
+#[derive(Clone, Copy)]
 pub struct Tally {
     pub seen: usize,
     pub agreed: usize,

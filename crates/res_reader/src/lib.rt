@@ -1,25 +1,27 @@
 // The two lent sections in a struct, with thin methods over the lookup. A function that takes, makes or holds a struct with references is
 // proved by a walk of its code, by hand; whoever calls `resolve_in` or `pointer_to`, whose parameters are plain, needs none.
+#![tactic(auto)]
+
 ghost use Rattle.std.specs.Prelude.{◌≡◌};
 ghost use Rattle.res_reader.specs.Looked.{Looked, pointer_to};
 
 use resource::is_good;
 
-#[derive(Drop)]
+#[derive(Clone, Copy)]
 pub struct ResReader<'a> {
     pub system: &'a [u8],
     pub graphics: &'a [u8],
 }
 
 // What an address and a length name: the Rust's `Some(None)`, `Some(Some(..))` and `None`.
-#[derive(Drop)]
+#[derive(Clone, Copy)]
 pub enum Pointer {
     Null,
     Good,
     NotGood,
 }
 
-#[derive(Drop)]
+#[derive(Clone, Copy)]
 pub struct OptionalPart<'a> {
     pub pointer: Pointer,
     pub part: &'a [u8],

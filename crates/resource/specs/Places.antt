@@ -11,7 +11,7 @@ located va = cond (in_graphics va) (Graphics (va - 0x60000000)) (cond (in_system
 
 -- where byte off of a lent section stands: its block of memory, and the offset there
 abbrev pub place_in : Bor (List ℕ) → ℕ → ℕ × ℕ
-place_in s off = (s.ptr.0, off + s.ptr.1)
+place_in s off = (s.ref_ptr.0, off + s.ref_ptr.1)
 
 -- where the byte that an address names stands
 unfoldable pub resolved_at : Bor (List ℕ) → Bor (List ℕ) → ℕ → ℕ × ℕ

@@ -1,4 +1,6 @@
 // The two lent sections of a resource, system and graphics, and the lookup of a part of them by address.
+#![tactic(auto)]
+
 ghost use Rattle.std.specs.Prelude.{◌≡◌, true};
 ghost use Rattle.resource.specs.Section.{within, part, good, resolved};
 ghost use Rattle.resource.specs.Places.{located, place_in, resolved_at};
@@ -8,7 +10,7 @@ pub const SYSTEM_BASE: u64 = 0x5000_0000;
 const GRAPHICS_BASE: u64 = 0x6000_0000;
 
 // The section that an address names, with the offset there.
-#[derive(Drop)]
+#[derive(Clone, Copy)]
 enum Located {
     Graphics(usize),
     System(usize),

@@ -1,4 +1,6 @@
 // The seam count: how many halves of a strip's edges lie towards a neighbouring cell.
+#![tactic(auto)]
+
 ghost use Rattle.std.specs.Prelude.{◌≡◌, ◌+◌, ◌*◌, ◌≤◌, length};
 ghost use Rattle.fields.specs.Bytes.{over};
 ghost use Rattle.answers.specs.Words.{number_of, answer_words};
@@ -13,7 +15,7 @@ use answers::{accept, refuse};
 use strip::{Refusal, StripAnswer};
 use touching::touch;
 
-#[derive(Drop)]
+#[derive(Clone, Copy)]
 pub enum SeamAnswer {
     Count(u64),
     Refused(Refusal),

@@ -1,4 +1,6 @@
 // Little-endian fields stored into lent bytes. Every call is total: a byte that would lie past the end is left out.
+#![tactic(auto)]
+
 ghost use Rattle.std.specs.Prelude.{◌≡◌, ◌+◌, ◌*◌, ◌≤◌, length};
 ghost use Rattle.fields.specs.Bytes.{le_bytes, les};
 ghost use Rattle.fields.specs.Put.{put};

@@ -1,30 +1,32 @@
 // The strip's records, and the cursor by which passes go through its polygons. `strip_check` says whether it is well formed.
+#![tactic(auto)]
+
 ghost use Rattle.std.specs.Prelude.{◌≡◌, ◌<◌, length};
 ghost use Rattle.strip.specs.Reading.{poly_at};
 
 // Why a call was refused: the one form for all calls.
-#[derive(Drop)]
+#[derive(Clone, Copy)]
 pub struct Refusal {
     pub number: u32,
     pub place: usize,
 }
 
 // How many of each a strip has.
-#[derive(Drop)]
+#[derive(Clone, Copy)]
 pub struct Counts {
     pub polys: usize,
     pub portals: usize,
     pub points: usize,
 }
 
-#[derive(Drop)]
+#[derive(Clone, Copy)]
 pub enum StripAnswer {
     WellFormed(Counts),
     Refused(Refusal),
 }
 
 // Where the parts of a polygon's record are.
-#[derive(Drop)]
+#[derive(Clone, Copy)]
 pub struct Poly {
     pub at: usize,
     pub links: usize,
@@ -38,7 +40,7 @@ pub struct Poly {
 }
 
 // The record at a position: its kind if it is good, and otherwise the place where the strip is bad.
-#[derive(Drop)]
+#[derive(Clone, Copy)]
 pub enum Record {
     Cell,
     Polygon(Poly),

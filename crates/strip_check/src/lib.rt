@@ -1,4 +1,6 @@
 // Whether a strip is well formed: record by record, in order, with the counts of what it holds or the place where it is bad.
+#![tactic(auto)]
+
 ghost use Rattle.std.specs.Prelude.{◌≡◌, ◌+◌, ◌*◌, ◌≤◌, ◌<◌, length};
 ghost use Rattle.strip.specs.Scan.{first_good, all_below, edges_fit, poly_fits, cell_record, polygon_record, portal_record, point_record, end_record, record_at};
 ghost use Rattle.strip.specs.Outcome.{shown};

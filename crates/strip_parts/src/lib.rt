@@ -1,4 +1,6 @@
 // What calls share that go through a strip: whether its box is finite; 3, then 10; where its portals and points begin; and the cursor over the halves of a polygon's edges.
+#![tactic(auto)]
+
 ghost use Rattle.std.specs.Prelude.{◌≡◌, ◌+◌, ◌*◌, ◌≤◌, length};
 ghost use Rattle.strip.specs.Reading.{vec_at, head_at};
 ghost use Rattle.strip.specs.Box.{finite_bits, finite_vec, finite_box};
@@ -11,7 +13,7 @@ ghost use Rattle.strip_parts.specs.Halves.{half_in};
 use strip::{Counts, Poly, Refusal, StripAnswer};
 
 // Half of an edge: the area and the polygon that it lies towards, and whether its edge is below the vertex count. The others are surplus.
-#[derive(Drop)]
+#[derive(Clone, Copy)]
 pub struct Half {
     pub area: u32,
     pub poly: u32,

@@ -1,6 +1,8 @@
 // Which areas touch: whether the cells of two ids lie side by side on the grid. A cell has two neighbours in its row and two in its column, which are
 // reckoned from the own id alone; the other id is only compared with them. So where many ids are asked about one own id, the compiler reckons the
 // four before the loop, and no jump hangs on areas, which follow no pattern.
+#![tactic(auto)]
+
 ghost use Rattle.std.specs.Prelude.{◌<◌, ◌≡◌, ◌&&◌, ltb, eqb};
 ghost use Rattle.touching.specs.Touch as Touch;
 ghost use Rattle.touching.specs.Touch.{apart, row};

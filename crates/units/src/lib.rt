@@ -1,5 +1,7 @@
 // C entries of the leaves, by which the oracle holds them against the Rust and times them. Floats pass as their bits, and each entry takes
 // every argument.
+#![tactic(auto)]
+
 ghost use Rattle.std.specs.Prelude.{◌≡◌, ◌∷◌, [], ◌%◌, ◌/◌, ◌*◌, ◌+◌, ◌≤◌, min, length, take, drop};
 ghost use Rattle.std.specs.Float.{binary32};
 ghost use Rattle.std.specs.Float.Ieee.{of_bits, to_bits};

@@ -1,5 +1,7 @@
 // Replays the oracle's list of vectors, which stands on standard input, against the leaves, `pick_poly`, `export_obj`, `count_seams` and `reachable`, and prints
 // how many records of each kind agree. What stands in the list is said in `leaf_replay`.
+#![tactic(auto)]
+
 ghost use Rattle.std.specs.Prelude.{◌≡◌, ℕ, ◌+◌, ◌*◌, ◌≤◌, ◌<◌, length, get_or};
 ghost use Rattle.fields.specs.Bytes.{le_at};
 ghost use Rattle.replay.specs.Tallies.{Tallied, Step};

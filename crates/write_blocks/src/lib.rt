@@ -1,6 +1,8 @@
 // The layout of pages: where blocks stand, and zeros in the bytes skipped between them. `write_list_blocks` lays out lists as rows of blocks.
 // Sizes alone decide where blocks stand, so that a caller knows the end before a byte is stored. Positions stay below 2^28, where an address is
 // the system section's: that is what the writers ask for. A store past the end of the lent pages is left out, so they ask for no room there.
+#![tactic(auto)]
+
 ghost use Rattle.std.specs.Prelude.{◌≡◌, ◌-◌, ◌^◌, ◌<◌};
 ghost use Rattle.fields.specs.Bytes.{zeros};
 ghost use Rattle.fields.specs.Put.{put};
@@ -24,7 +26,7 @@ pub fn place(end: u32, size: u32) -> u64
 }
 
 // What is laid out so far: its end, and the bytes that its blocks asked for, as a word counts them.
-#[derive(Drop)]
+#[derive(Clone, Copy)]
 pub struct Layout {
     pub at: usize,
     pub asked: u32,

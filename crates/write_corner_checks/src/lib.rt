@@ -1,5 +1,7 @@
 // The corners of a polygon in order: per vertex 14, then 15 for half a and b. On the way the vertex table, each corner's index and the area table
 // are made, and the coordinates that are pushed to the border are counted.
+#![tactic(auto)]
+
 ghost use Rattle.std.specs.Prelude.{◌≡◌, ◌+◌, ◌*◌, ◌≤◌, ◌<◌, ◌^◌, length};
 ghost use Rattle.strip.specs.Reading.{vec_at, polygon_of};
 ghost use Rattle.quantise.specs.Short.{outside_count};
@@ -15,14 +17,14 @@ use strip::Poly;
 use write_vertices::Numbered;
 
 // How many areas and vertices there are.
-#[derive(Drop)]
+#[derive(Clone, Copy)]
 pub struct Tables {
     pub areas: usize,
     pub vertices: usize,
 }
 
 // What a check comes to. The place of a refusal is the polygon, which `decide_polygons` has.
-#[derive(Drop)]
+#[derive(Clone, Copy)]
 pub enum Check {
     Passed,
     // The number of the refusal.
@@ -30,28 +32,28 @@ pub enum Check {
 }
 
 // The count of areas after an edge, and whether there was room for both.
-#[derive(Drop)]
+#[derive(Clone, Copy)]
 pub struct EdgeAreas {
     pub len: usize,
     pub check: Check,
 }
 
 // The tables after some corners, up to the first that is refused.
-#[derive(Drop)]
+#[derive(Clone, Copy)]
 pub struct TablesAfter {
     pub tables: Tables,
     pub check: Check,
 }
 
 // The same of a polygon, and how many coordinates of its vertices are outside.
-#[derive(Drop)]
+#[derive(Clone, Copy)]
 pub struct CornersAfter {
     pub after: TablesAfter,
     pub pushed: usize,
 }
 
 // A vertex as the writer numbers it, and how many of its coordinates are outside.
-#[derive(Drop)]
+#[derive(Clone, Copy)]
 pub struct Vertex {
     pub triple: u64,
     pub outside: usize,

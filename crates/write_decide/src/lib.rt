@@ -1,4 +1,6 @@
 // The writer's first pass over a strip, up to the leaves: the refusals in order, and the tables that the pages need. Nothing is stored but work words.
+#![tactic(auto)]
+
 ghost use Rattle.std.specs.Prelude.{◌≡◌, not, [], ◌∷◌, ◌+◌, ◌*◌, ◌/◌, ◌^◌, ◌≤◌, ◌<◌, length, ltb};
 ghost use Rattle.strip.specs.Reading.{head_at};
 ghost use Rattle.strip.specs.Rows.{after_polygons};
@@ -17,7 +19,7 @@ use write_polygon_checks::{Verdict, decide_polygons};
 
 // What a strip comes to: the verdict, and where nothing is refused its cell's record, its counts, the area table, how many vertices, corners
 // and links there are, and how many coordinates of its vertices are pushed to the border.
-#[derive(Drop)]
+#[derive(Clone, Copy)]
 pub struct Decision {
     pub cell: CellRecord,
     pub counts: Counts,
@@ -65,7 +67,7 @@ fn tree_count(words: usize) -> usize
 
 // Where what the writer keeps begins in work: behind the trees' roots the vertices, their indices by corner, a quarter box for each polygon, a leaf for
 // each point; and where it ends.
-#[derive(Drop)]
+#[derive(Clone, Copy)]
 pub struct WorkPlaces {
     pub vertices: usize,
     pub indices: usize,

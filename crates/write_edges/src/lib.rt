@@ -1,4 +1,6 @@
 // The items of the edge list, made in words of work: two to a corner, one for each half of its edge.
+#![tactic(auto)]
+
 ghost use Rattle.std.specs.Prelude.{cond, ◌≡◌, ◌+◌, ◌*◌, ◌%◌, ◌^◌, ◌≤◌, ◌<◌, ltb, length, take};
 ghost use Rattle.fields.specs.Put.{put};
 ghost use Rattle.strip.specs.Reading.{half_at, polygon_of};

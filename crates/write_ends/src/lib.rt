@@ -1,4 +1,6 @@
 // What the pages take, from counts alone: by it an output is known to be too short before a byte is stored.
+#![tactic(auto)]
+
 ghost use Rattle.std.specs.Prelude.{◌≡◌, ◌^◌, ◌≤◌};
 ghost use Rattle.write_blocks.specs.Laid.{empty, reached, sum_of, Within};
 ghost use Rattle.write_pages.specs.Sectors.{depth_of, byte_count};
@@ -18,7 +20,7 @@ use write_decide::Decision;
 use write_quadtree::subtrees::{Subtree, divide};
 
 // What the pages take: the layout behind all blocks, and the bytes that the sectors' blocks ask for, which count for the header's total.
-#[derive(Drop)]
+#[derive(Clone, Copy)]
 pub struct Extent {
     pub end: Layout,
     pub sectors: u32,

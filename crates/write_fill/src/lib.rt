@@ -1,4 +1,6 @@
 // The pages of a planned strip, filled: the lists, what stands behind them, and the header, stored last.
+#![tactic(auto)]
+
 ghost use Rattle.std.specs.Prelude.{◌≡◌, length};
 ghost use Rattle.areas.specs.Tables.{area_ids};
 ghost use Rattle.write_pages.specs.Sectors.{byte_count};

@@ -1,4 +1,6 @@
 // The header of the pages. Nothing here refuses: what a caller lends was checked before.
+#![tactic(auto)]
+
 ghost use Rattle.std.specs.Prelude.{◌≡◌, length, take};
 ghost use Rattle.fields.specs.Bytes.{les};
 ghost use Rattle.fields.specs.Put.{put};
@@ -13,7 +15,7 @@ use cell_record::CellRecord;
 use math::num::bits_of_float;
 
 // Addresses in the pages: of the four lists, the root, portals and links. 0 where there is no block.
-#[derive(Drop)]
+#[derive(Clone, Copy)]
 pub struct Addresses {
     pub vertices: u32,
     pub indices: u32,
@@ -25,7 +27,7 @@ pub struct Addresses {
 }
 
 // How many there are of each, and the bytes that count for the total.
-#[derive(Drop)]
+#[derive(Clone, Copy)]
 pub struct Totals {
     pub vertices: u32,
     pub indices: u32,

@@ -1,4 +1,6 @@
 // Refusals 17 and 18: no leaf has more polygons or points than it can name.
+#![tactic(auto)]
+
 ghost use Rattle.std.specs.Prelude.{◌≡◌, List, ◌≤◌, length};
 ghost use Rattle.strip.specs.Cell.{NavPoint};
 ghost use Rattle.write_pages.specs.Sectors.{leaf_counts};
@@ -12,7 +14,7 @@ use write_leaf_counts::{count_points, leaf_ids};
 use write_quadtree::subtrees::{Subtree, divide};
 
 // What the checks of leaves answer: nothing is refused, or the first refusal, with the leaf's number as its place.
-#[derive(Drop)]
+#[derive(Clone, Copy)]
 pub enum LeafCheck {
     Passed,
     Refused(Refusal),

@@ -1,4 +1,6 @@
 // What stands in a leaf, by the words that the writer's first pass leaves: three to a polygon's quarter box, one to a point's leaf. `write_leaf_checks` has the limits.
+#![tactic(auto)]
+
 ghost use Rattle.std.specs.Prelude.{◌≡◌, cond, ◌+◌, ◌-◌, ◌*◌, ◌/◌, ◌%◌, ◌≤◌, ◌<◌, length};
 ghost use Rattle.quarters.specs.Quarter.{bits16};
 ghost use Rattle.quarters.specs.Int16.{int16};

@@ -1,4 +1,6 @@
 // A leaf's blocks behind its sector: the ids of the polygons that meet it, its points, its data.
+#![tactic(auto)]
+
 ghost use Rattle.std.specs.Prelude.{◌≡◌, cond, [], ◌∷◌, ◌+◌, ◌*◌, ◌^◌, ◌≤◌, ◌<◌, length};
 ghost use Rattle.fields.specs.Bytes.{les, cat};
 ghost use Rattle.fields.specs.Put.{put};
@@ -20,7 +22,7 @@ use write_blocks::Layout;
 use write_leaf_counts::meets_at;
 
 // The points of a cell: where their records begin in the strip, and the box in which their shorts are measured, bb_min and bb_size.
-#[derive(Drop)]
+#[derive(Clone, Copy)]
 pub struct Points {
     pub at: usize,
     pub bb_min: Vec3,

@@ -1,5 +1,7 @@
 // A leaf of the pages: its sector's block, then its ids, points and data. The sector's record names what stands behind it, so it is stored last, at a place
 // that is kept for it.
+#![tactic(auto)]
+
 ghost use Rattle.std.specs.Prelude.{◌≡◌, ◌+◌, ◌*◌, ◌^◌, ◌≤◌, ◌<◌, length};
 ghost use Rattle.fields.specs.Put.{put};
 ghost use Rattle.fields.specs.Rows.{row_bytes};
@@ -17,7 +19,7 @@ use write_leaf_items::{Points, lay_data, lay_ids, lay_points};
 const NAN: u32 = 0x7FC0_0000;
 
 // Where the writer stands: what is laid out so far, the next leaf's number, the next stored point's number.
-#[derive(Drop)]
+#[derive(Clone, Copy)]
 pub struct SectorCursor {
     pub layout: Layout,
     pub leaf: u32,

@@ -1,4 +1,6 @@
 // The blocks of a list: its header, part table, the items' parts and the offsets; where they end, and what stands in those that hold no items.
+#![tactic(auto)]
+
 ghost use Rattle.std.specs.Prelude.{◌≡◌, [], ◌∷◌, ◌+◌, ◌*◌, ◌^◌, ◌≤◌, ◌<◌};
 ghost use Rattle.fields.specs.Bytes.{les};
 ghost use Rattle.fields.specs.Put.{put};
@@ -128,7 +130,7 @@ fn lay_table(out: &mut [u8], l: Layout, w: usize, per: usize, k: usize, n: usize
 }
 
 // Where the pieces of a list stand: how many parts it has, where its part table starts, and the layout behind its items.
-#[derive(Drop)]
+#[derive(Clone, Copy)]
 struct Places {
     parts: usize,
     table: usize,

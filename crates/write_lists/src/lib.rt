@@ -1,5 +1,7 @@
 // The four lists: vertices, indices and edges, whose items stand in words of work and from there are laid out part by part, and polygons, whose
 // records `write_polygons` builds in their blocks. Around the items stand the lists' headers, part tables and offsets.
+#![tactic(auto)]
+
 ghost use Rattle.std.specs.Prelude.{◌≡◌, [], ◌∷◌, ◌+◌, ◌-◌, ◌*◌, ◌^◌, ◌≤◌, ◌<◌, length, take, drop};
 ghost use Rattle.fields.specs.Bytes.{cat};
 ghost use Rattle.fields.specs.Put.{put};

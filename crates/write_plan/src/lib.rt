@@ -1,4 +1,6 @@
 // The writer's first pass whole: what `decide` decides, then the polygons' quarter boxes and the points' leaves in work, then 17 to 20.
+#![tactic(auto)]
+
 ghost use Rattle.std.specs.Prelude.{◌≡◌, [], ◌∷◌, ltb, ◌+◌, ◌*◌, ◌≤◌, length};
 ghost use Rattle.write_pages.specs.Checks.{fault_if, first_fault, at};
 ghost use Rattle.write_decide.specs.Decide.{work_places};

@@ -1,4 +1,6 @@
 // The polygons of a strip in order: 12, 13, then the corners' checks, then 16.
+#![tactic(auto)]
+
 ghost use Rattle.std.specs.Prelude.{◌≡◌, ◌+◌, ◌*◌, ◌≤◌, length};
 ghost use Rattle.strip.specs.Reading.{polygon_of};
 ghost use Rattle.strip.specs.Rows.{polygons_at, after_polygons};
@@ -13,14 +15,14 @@ use strip::{Poly, Refusal};
 use write_corner_checks::{Check, CornersAfter, Tables, TablesAfter, decide_vertices};
 
 // Nothing is refused, or the first refusal.
-#[derive(Drop)]
+#[derive(Clone, Copy)]
 pub enum Verdict {
     Fine,
     Refused(Refusal),
 }
 
 // What the polygons come to: the tables, how many corners and links there are, how many coordinates are pushed, and the verdict.
-#[derive(Drop)]
+#[derive(Clone, Copy)]
 pub struct Decided {
     pub tables: Tables,
     pub corners: usize,

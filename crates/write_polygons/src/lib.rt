@@ -1,4 +1,6 @@
 // The items of the polygon list, each built in its place in the block of its part.
+#![tactic(auto)]
+
 ghost use Rattle.std.specs.Prelude.{◌≡◌, [], ◌∷◌, ◌+◌, ◌*◌, ◌%◌, ◌^◌, ◌≤◌, ◌<◌, length, get_or};
 ghost use Rattle.fields.specs.Bytes.{les, cat};
 ghost use Rattle.fields.specs.Put.{put};
@@ -46,7 +48,7 @@ fn part_word(k: usize, links: usize, before: usize) -> u32
 }
 
 // Where a polygon stands: its first word in the strip, its number, and how many indices and links come before its own.
-#[derive(Drop)]
+#[derive(Clone, Copy)]
 pub struct PolyCursor {
     pub at: usize,
     pub number: usize,
@@ -133,7 +135,7 @@ fn put_records(
 }
 
 // What stands behind a part.
-#[derive(Drop)]
+#[derive(Clone, Copy)]
 struct Part {
     layout: Layout,
     cursor: PolyCursor,

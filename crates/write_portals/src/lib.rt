@@ -1,4 +1,6 @@
 // The blocks behind the sectors: portals and links. Nothing here refuses: what a caller lends was checked before.
+#![tactic(auto)]
+
 ghost use Rattle.std.specs.Prelude.{◌≡◌, [], ◌∷◌, ◌+◌, ◌*◌, ◌^◌, ◌≤◌, ◌<◌, length};
 ghost use Rattle.fields.specs.Bytes.{les, cat};
 ghost use Rattle.fields.specs.Put.{put};

@@ -27,7 +27,7 @@ pub fn centre_of(b: Aabb) -> Vec3
 }
 
 // The four subs of a box, in writing order.
-#[derive(Drop)]
+#[derive(Clone, Copy)]
 pub struct Subs {
     pub s0: Aabb,
     pub s1: Aabb,
@@ -118,7 +118,7 @@ fn is_inside(b: Aabb, p: Vec3) -> bool
 }
 
 // The sides of the 16 leaves of a box on one axis, from its min to its max.
-#[derive(Drop)]
+#[derive(Clone, Copy)]
 pub struct AxisLines {
     pub a0: f32,
     pub a1: f32,
@@ -128,7 +128,7 @@ pub struct AxisLines {
 }
 
 // On both.
-#[derive(Drop)]
+#[derive(Clone, Copy)]
 pub struct Lines {
     pub x: AxisLines,
     pub y: AxisLines,
@@ -158,7 +158,7 @@ pub fn lines_of(b: Aabb) -> Lines
 }
 
 // Which of an axis's four ranges a number is in, borders included.
-#[derive(Drop)]
+#[derive(Clone, Copy)]
 pub struct Ranges {
     pub r0: bool,
     pub r1: bool,

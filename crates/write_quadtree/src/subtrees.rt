@@ -6,7 +6,7 @@ use super::boxes::{leaf_count, split};
 use quarters::bounds::Aabb;
 
 // A box that splits `depth` times, whose leaves are numbered from `leaf` on.
-#[derive(Drop)]
+#[derive(Clone, Copy)]
 pub struct Subtree {
     pub b: Aabb,
     pub depth: u32,
@@ -14,7 +14,7 @@ pub struct Subtree {
 }
 
 // The four subs of a box that splits, in writing order.
-#[derive(Drop)]
+#[derive(Clone, Copy)]
 pub struct Subtrees {
     pub s0: Subtree,
     pub s1: Subtree,

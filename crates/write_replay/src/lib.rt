@@ -4,6 +4,8 @@
 // checksum, or 0; how many of their bytes are expected; how many words the runs take; the runs; and the bytes expected, padded to whole words. The
 // first word that isn't 8 ends the list.
 // What a run is, is said in `write_runs`.
+#![tactic(auto)]
+
 ghost use Rattle.std.specs.Prelude.{◌≡◌, true, ◌+◌, ◌≤◌, eqb, length};
 ghost use Rattle.fields.specs.Bytes.{le_at};
 ghost use Rattle.strip.specs.Outcome.{values};
@@ -15,7 +17,7 @@ use replay::{end_of, padded, refusal_agrees};
 use ynv_write::{SerializeAnswer, Written};
 
 // Where the runs of a record begin, the bytes expected begin and end, and the next record begins.
-#[derive(Drop)]
+#[derive(Clone, Copy)]
 pub struct Record {
     pub runs: usize,
     pub bytes: usize,

@@ -1,4 +1,6 @@
 // What stands behind the lists, written: sectors, portals and links; and the addresses of all that is laid out.
+#![tactic(auto)]
+
 ghost use Rattle.std.specs.Prelude.{◌≡◌, length};
 ghost use Rattle.strip.specs.Reading.{head_at};
 ghost use Rattle.cell_record.specs.Record.{record_of};
@@ -18,7 +20,7 @@ use write_leaf_items::Points;
 use write_leaves::SectorCursor;
 
 // The layouts behind the header and behind each list.
-#[derive(Drop)]
+#[derive(Clone, Copy)]
 pub struct ListEnds {
     pub header: Layout,
     pub vertices: Layout,
@@ -28,7 +30,7 @@ pub struct ListEnds {
 }
 
 // The layouts behind sectors, portals and links, and how many points are stored.
-#[derive(Drop)]
+#[derive(Clone, Copy)]
 pub struct RestEnds {
     pub sectors: Layout,
     pub portals: Layout,

@@ -1,6 +1,8 @@
 // The strip of a record of the writer's list, which is told in runs.
 // A run is a part of the strip: how many words it makes, how many words are given, which of these grows, and the given words. They come
 // again and again, and the one that grows is greater by 256 each time.
+#![tactic(auto)]
+
 ghost use Rattle.std.specs.Prelude.{◌≡◌, ◌+◌, ◌-◌, ◌^◌, ◌≤◌, ◌<◌, length, take};
 ghost use Rattle.fields.specs.Put.{put};
 ghost use Rattle.write_runs.specs.Runs.{run_word, run_words, run_of, RunAt, Unrolled};
@@ -34,7 +36,7 @@ fn fill_run(words: &[u8], grows: usize, count: usize, strip: &mut [u32], from: u
 }
 
 // Where the given words of a run begin and end, and how many words it makes.
-#[derive(Drop)]
+#[derive(Clone, Copy)]
 struct Run {
     words: usize,
     end: usize,

@@ -1,5 +1,7 @@
 // The sectors of the pages: a sector's block before its subs', which are leaves or split again. A record that names what stands behind it is stored last, at a
 // place that is kept for it.
+#![tactic(auto)]
+
 ghost use Rattle.std.specs.Prelude.{◌≡◌, ◌+◌, ◌*◌, ◌^◌, ◌≤◌, ◌<◌, length};
 ghost use Rattle.fields.specs.Put.{put};
 ghost use Rattle.fields.specs.Rows.{row_bytes};

@@ -1,5 +1,7 @@
 // Replays the oracle's list of strips, which stands on standard input, against the writer, and prints how many records of each number agree.
 // What stands in the list is said in `write_replay`.
+#![tactic(auto)]
+
 ghost use Rattle.std.specs.Prelude.{◌≡◌, true, ◌+◌, ◌≤◌, ◌<◌, length};
 ghost use Rattle.strip.specs.Outcome.{shown};
 ghost use Rattle.ynv_write.specs.Serialize.{paper};

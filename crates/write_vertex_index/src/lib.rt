@@ -1,4 +1,6 @@
 // The vertex table filled: a vertex gets the number that it has, or the next one.
+#![tactic(auto)]
+
 ghost use Rattle.std.specs.Prelude.{◌≡◌, ◌+◌, ◌*◌, ◌/◌, ◌≤◌, ◌<◌, ◌^◌, length};
 ghost use Rattle.write_vertices.specs.Table.{half, half_word_at, cleared, linked_with, added, TableRoom, LookedUp};
 

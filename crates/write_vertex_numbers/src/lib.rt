@@ -1,4 +1,6 @@
 // The number of each triple of a list, as first met: the numbers first in lent words, the vertex table behind them.
+#![tactic(auto)]
+
 ghost use Rattle.std.specs.Prelude.{◌+◌, ◌*◌, ◌≤◌, ◌<◌, ◌^◌, min, length};
 ghost use Rattle.write_vertices.specs.Table.{met};
 ghost use Rattle.write_vertex_numbers.specs.Numbers.{InWork, triples_of, NumberedAll};
@@ -6,7 +8,7 @@ ghost use Rattle.write_vertex_numbers.specs.Numbers.{InWork, triples_of, Numbere
 use write_vertex_index::{clear, vertex_index};
 use write_vertices::{Numbered, tree_count, whole_triple_at};
 
-#[derive(Drop)]
+#[derive(Clone, Copy)]
 pub enum All {
     // How many vertices there are.
     Count(usize),

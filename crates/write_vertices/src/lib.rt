@@ -1,9 +1,11 @@
 // Equal short triples share a vertex, numbered as first met. A triple is the one number
 // x + 2^16 y + 2^32 z. The table lies in lent words: `buckets` roots of trees, then two words to a vertex. No walk has more than 48 steps.
+#![tactic(auto)]
+
 ghost use Rattle.std.specs.Prelude.{◌≡◌, ◌+◌, ◌/◌, ◌≤◌, ◌<◌, ◌^◌, min, length};
 ghost use Rattle.write_vertices.specs.Table.{triple_at, hash_of, half_word_at, child_of, Walked, Table};
 
-#[derive(Drop)]
+#[derive(Clone, Copy)]
 pub enum FoundVertex {
     // The vertex with the triple.
     At(usize),
@@ -11,7 +13,7 @@ pub enum FoundVertex {
     End(usize),
 }
 
-#[derive(Drop)]
+#[derive(Clone, Copy)]
 pub enum Numbered {
     // Its number, and how many vertices there are now.
     Vertex(usize, usize),

@@ -1,4 +1,6 @@
 // The exported library: C entries, each of which takes every argument. Their bodies stand in the crates of their calls, and how they answer in `answers`.
+#![tactic(auto)]
+
 ghost use Rattle.std.specs.Prelude.{◌≡◌, ◌*◌, length, drop};
 ghost use Rattle.fields.specs.Bytes.{over};
 ghost use Rattle.strip.specs.Outcome.{shown, left};

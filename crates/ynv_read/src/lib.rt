@@ -1,5 +1,7 @@
 // The reader of a cell's pages. It decides first (`read_decide`), and then whether the lent strip is long enough. Then it fills the strip, where nothing
 // can fail.
+#![tactic(auto)]
+
 ghost use Rattle.std.specs.Prelude.{◌≡◌, [], ◌∷◌, ℕ, ◌+◌, ◌*◌, ◌≤◌, length};
 ghost use Rattle.fields.specs.Put.{put};
 ghost use Rattle.fields.specs.Sizes.{portal_size};

@@ -1,4 +1,6 @@
 // The writer: `serialize_ynv` decides with the plan, and only when nothing is refused fills the lent pages.
+#![tactic(auto)]
+
 ghost use Rattle.std.specs.Prelude.{◌≡◌, ◌*◌, ◌≤◌, length, drop};
 ghost use Rattle.strip.specs.Reading.{head_at};
 ghost use Rattle.strip.specs.Rows.{polygons_at, points_at};
@@ -16,7 +18,7 @@ use write_polygon_checks::Verdict;
 
 // What an accepted strip came to: the pages' length in bytes, how many of its points they store, how many lie in no leaf and are dropped, and how
 // many coordinates, of vertices, portal ends and points, lie outside the box and are pushed to its border.
-#[derive(Drop)]
+#[derive(Clone, Copy)]
 pub struct Written {
     pub length: usize,
     pub stored: usize,
@@ -24,7 +26,7 @@ pub struct Written {
     pub pushed: usize,
 }
 
-#[derive(Drop)]
+#[derive(Clone, Copy)]
 pub enum SerializeAnswer {
     Written(Written),
     Refused(Refusal),

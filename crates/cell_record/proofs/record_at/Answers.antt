@@ -1,0 +1,8 @@
+-- `cell_record::record_at` meets its contract: field by field, floats from their bits.
+use Rattle.strip.specs.Reading.{head_at}
+use Rattle.cell_record.specs.Record.{record_of}
+use Rattle.cell_record.proofs.record_at.Goals as goal
+
+pub returns : goal.returns
+unfolding record_of head_at
+returns c = rw (c.floats_at-bb_min.ensures, c.floats_at-bb_max.ensures, c.floats_at-bb_size.ensures)

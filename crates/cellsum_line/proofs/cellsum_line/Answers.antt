@@ -1,0 +1,50 @@
+-- `cellsum_line::cellsum_line` meets its contract: the line is that of what the reader decides, or of an input that is too long.
+use native.Mathlib.Omega.{arith}
+use mathlib.Core.Path.{refl, sym, ap, ◌∙◌}
+use mathlib.Core.List.{[]}
+use lib.ListN.{length, get_or}
+use Rattle.read_decide.specs.Answer.{paper}
+use Rattle.ynv_read.specs.Parse.{parse_outcome}
+use Rattle.cellsum_line.specs.Line.{accepted_text}
+use Rattle.cellsum_line.proofs.Outcomes.{short_input, long_input, accepted_line, refused_line, promised}
+use Rattle.cellsum_line.proofs.cellsum_line.Goals as goal
+
+pub returns-then-input-gt-MOST_INPUT : goal.returns-then-input-gt-MOST_INPUT
+returns-then-input-gt-MOST_INPUT c =
+    let start = c.args in
+    let line = c.put_refusal.ensures in
+    let strip = start.strip.now in
+    (line.bound, promised strip strip (long_input start.input.now (length strip) (omega (arith, c.if-input-gt-MOST_INPUT.true))) refl line.stored refl)
+
+pub slice_bounds-parse_ynv-end : goal.slice_bounds-parse_ynv-end
+slice_bounds-parse_ynv-end c = refl
+
+pub bounds-strip-2 : goal.bounds-strip-2
+bounds-strip-2 c =
+    let arm = c.p-1.given in
+    let start = c.before.args in
+    let answer = c.parse_ynv.ensures in
+    let told = accepted_line start.input.now [] start.strip.now arm.0.0 (sym (ap paper arm.1) ∙ answer.answer) in
+    omega (arith, told.0, ap length answer.strip)
+
+pub returns-in-Parsed : goal.returns-in-Parsed
+returns-in-Parsed c =
+    let line = c.put_cell.ensures in
+    let arm = c.p-1.given in
+    let start = c.before.args in
+    let strip = start.strip.now in
+    let answer = c.parse_ynv.ensures in
+    let told = accepted_line start.input.now [] strip arm.0.0 (sym (ap paper arm.1) ∙ answer.answer) in
+    let text = ap (λ s. accepted_text (get_or s 2 0) arm.0.0) answer.strip ∙ told.1 in
+    (line.bound, promised strip _ (short_input start.input.now (length strip) c.if-input-gt-MOST_INPUT.false) text line.stored answer.strip)
+
+pub returns-in-Refused : goal.returns-in-Refused
+returns-in-Refused c =
+    let line = c.put_refusal-in-Refused.ensures in
+    let arm = c.r-1.given in
+    let start = c.before.args in
+    let strip = start.strip.now in
+    let answer = c.parse_ynv.ensures in
+    let decided = parse_outcome start.input.now [] (length strip) in
+    let text = refused_line decided arm.0.0.number arm.0.0.place (sym (ap paper arm.1) ∙ answer.answer) in
+    (line.bound, promised strip _ (short_input start.input.now (length strip) c.if-input-gt-MOST_INPUT.false) text line.stored answer.strip)

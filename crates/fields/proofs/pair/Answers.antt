@@ -1,0 +1,7 @@
+-- `fields::pair` meets its contract, by the law of two shorts in a word.
+use borrow.Author.Rules.{rules}
+use Rattle.fields.proofs.Bytes.{le_pair}
+use Rattle.fields.proofs.pair.Goals as goal
+
+pub returns : goal.returns
+returns c = le_pair c.args.lo c.args.hi (search rules)

@@ -1,0 +1,13 @@
+-- `leaf_replay::strip_agrees` meets its contract: what the entry ensures of its number and its answer.
+use Prim.Native.Nat.{ℕ}
+use mathlib.Core.Path.{sym, subst, ◌∙◌}
+use mathlib.Core.List.{List}
+use Rattle.leaf_replay.specs.Agreement.{FirstThree}
+use Rattle.leaf_replay.proofs.strip_agrees.Goals as goal
+
+pub returns : goal.returns
+returns c =
+    λ h. (
+      sym c.leaf_check_strip-number.ensures.number ∙ (c.answer_agrees.ensures h).0,
+      subst (λ (l : List ℕ). FirstThree l c.args.output.now) c.leaf_check_strip-number.ensures.words (c.answer_agrees.ensures h).1,
+    )

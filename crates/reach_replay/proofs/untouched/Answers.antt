@@ -1,0 +1,14 @@
+-- `reach_replay::untouched` meets its contract: an array of so many equal bytes is that list, and has that length.
+use Prim.Native.Nat.{ℕ}
+use mathlib.Core.Path.{refl, sym}
+use lib.ListN.{length-replicate}
+use Rattle.reach_replay.specs.Agreement.{untouched_bytes}
+use Rattle.reach_replay.proofs.untouched.Goals as goal
+
+pub returns : goal.returns
+unfolding untouched_bytes
+returns c =
+    record {
+      content = refl;
+      size = sym (length-replicate {A = ℕ} 256 0xD1);
+    }

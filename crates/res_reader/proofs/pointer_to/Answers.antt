@@ -1,0 +1,17 @@
+-- `res_reader::pointer_to` meets its contract: each return is one case of `pointer_to`.
+use mathlib.Core.Path.{sym, ◌∙◌}
+use borrow.Author.Tests.{eq-eqb, ne_eqb}
+use Rattle.res_reader.specs.Looked.{pointer_to}
+use Rattle.res_reader.proofs.pointer_to.Goals as goal
+
+pub returns-then-va-eq0 : goal.returns-then-va-eq0
+unfolding pointer_to
+returns-then-va-eq0 c = rw (eq-eqb _ 0 c.if-va-eq0.true)
+
+pub returns-then-is_good : goal.returns-then-is_good
+unfolding pointer_to
+returns-then-is_good c = rw (ne_eqb _ 0 c.if-va-eq0.false, sym c.is_good.ensures ∙ c.if-is_good.true)
+
+pub returns : goal.returns
+unfolding pointer_to
+returns c = rw (ne_eqb _ 0 c.if-va-eq0.false, sym c.is_good.ensures ∙ c.if-is_good.false)

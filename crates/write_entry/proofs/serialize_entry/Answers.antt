@@ -1,0 +1,20 @@
+-- `write_entry::serialize_entry` meets its contract: the words of what the writer answers, stored or refused.
+use mathlib.Core.Path.{sym, ap, ◌∙◌}
+use Rattle.ynv_write.specs.Serialize.{paper}
+use Rattle.write_entry.specs.Entries.{written_words}
+use Rattle.answers.proofs.Answers.{answers}
+use Rattle.write_entry.proofs.serialize_entry.Goals as goal
+
+pub returns-in-Written : goal.returns-in-Written
+returns-in-Written c =
+    let call = c.serialize_ynv in
+    let told = sym (ap paper c.in-Written.is) ∙ call.ensures.answer in
+    let a = answers written_words told c.args.answer.now c.accept.ensures.number c.accept.ensures.words in
+    (a.0, (a.1, call.ensures.1))
+
+pub returns-in-Refused : goal.returns-in-Refused
+returns-in-Refused c =
+    let call = c.serialize_ynv in
+    let told = sym (ap paper c.in-Refused.is) ∙ call.ensures.answer in
+    let a = answers written_words told c.args.answer.now c.refuse.ensures.number c.refuse.ensures.words in
+    (a.0, (a.1, call.ensures.1))

@@ -1,0 +1,83 @@
+-- `write_polygon_checks::decide_polygons` meets its contract. The invariant, `Onward`: what is done with the polygons that are left is done with all; and what is pushed and what is left to push make the whole. Assumes nothing.
+use mathlib.Core.Path.{refl}
+use native.Mathlib.Omega.{arith}
+use Rattle.strip.specs.Reading.{poly_at}
+use Rattle.strip.proofs.Steps.{parts}
+use Rattle.pushed.proofs.Sums.{from_none, polygons_turn, polygons_end, few_of_polygon}
+use Rattle.write_polygon_checks.proofs.Said.{never_both}
+use Rattle.write_polygon_checks.proofs.Onward.{begin, next_in, stop, again, done}
+use Rattle.write_polygon_checks.proofs.decide_polygons.Goals as goal
+
+pub loop-i-init : goal.loop-i-init
+loop-i-init c = (begin _ _ _ _ _ _ _ _ _ c.requires.0 c.requires.2, omega arith, rw (from_none c.args.n) (omega arith))
+
+pub poly_at-p-requires : goal.poly_at-p-requires
+poly_at-p-requires c =
+    let s = c.args.strip.now in
+    let l = c.loop-i in
+    let q = poly_at s l.at in
+    omega (arith, parts s l.at q refl, next_in _ _ _ _ _ _ _ _ _ _ _ _ _ _ _ _ l.invariant.0 c.loop-i-test.true q refl)
+
+pub decide_polygon-done-requires : goal.decide_polygon-done-requires
+decide_polygon-done-requires c =
+    let q = parts _ _ _ c.poly_at-p.ensures in
+    let g = c.loop-i.invariant.0 in
+    let x = next_in _ _ _ _ _ _ _ _ _ _ _ _ _ _ _ _ g c.loop-i-test.true _ c.poly_at-p.ensures in
+    (omega (arith, q, x), omega (arith, q.edges_end, x), omega (arith, q, x, g.ahead, c.requires.1), g.ready)
+
+pub returns-in-Refused : goal.returns-in-Refused
+returns-in-Refused c =
+    record {
+      polygons = stop _ _ _ _ _ _ _ _ _ _ _ _ _ _ _ _ c.loop-i.invariant.0 c.loop-i-test.true _ c.poly_at-p.ensures _ _ _ c.decide_polygon-done.ensures.polygon _ _ c.in-Refused.is;
+      pushed = λ z. never_both _ _ refl z;
+    }
+
+pub overflow_add-start : goal.overflow_add-start
+overflow_add-start c =
+    let q = parts _ _ _ c.poly_at-p.ensures in
+    let g = c.loop-i.invariant.0 in
+    let x = next_in _ _ _ _ _ _ _ _ _ _ _ _ _ _ _ _ g c.loop-i-test.true _ c.poly_at-p.ensures in
+    omega (arith, q, x, g.ahead, g.links)
+
+pub overflow_add-links : goal.overflow_add-links
+overflow_add-links c =
+    let q = parts _ _ _ c.poly_at-p.ensures in
+    let g = c.loop-i.invariant.0 in
+    let x = next_in _ _ _ _ _ _ _ _ _ _ _ _ _ _ _ _ g c.loop-i-test.true _ c.poly_at-p.ensures in
+    omega (arith, q, x, g.ahead, g.links)
+
+pub overflow_add-pushed : goal.overflow_add-pushed
+overflow_add-pushed c =
+    let a = c.args in
+    let q = parts _ _ _ c.poly_at-p.ensures in
+    let g = c.loop-i.invariant.0 in
+    let x = next_in _ _ _ _ _ _ _ _ _ _ _ _ _ _ _ _ g c.loop-i-test.true _ c.poly_at-p.ensures in
+    let one = c.decide_polygon-done.ensures.pushed c.in_default.is in
+    omega (arith, q, x, g.ahead, c.loop-i.invariant.1, one, few_of_polygon a.bb_min a.bb_size a.strip.now c.poly_at-p.result, c.well_formed)
+
+pub overflow_add-i : goal.overflow_add-i
+overflow_add-i c = omega (arith, c.loop-i-test.true, c.ranges.n)
+
+pub loop-i-smaller : goal.loop-i-smaller
+loop-i-smaller c = omega (arith, c.loop-i-test.true)
+
+pub loop-i-preserved : goal.loop-i-preserved
+loop-i-preserved c =
+    let a = c.args in
+    let p = c.poly_at-p.result in
+    let e = c.poly_at-p.ensures in
+    let turn = polygons_turn a.bb_min a.bb_size a.strip.now c.loop-i.at a.n c.loop-i.i c.loop-i-test.true p e in
+    let one = c.decide_polygon-done.ensures.pushed c.in_default.is in (
+      again _ _ _ _ _ _ _ _ _ _ _ _ _ _ _ _ c.loop-i.invariant.0 c.loop-i-test.true _ c.poly_at-p.ensures _ _ _ c.decide_polygon-done.ensures.polygon c.in_default.is,
+      omega (arith, c.loop-i.invariant.1, one, few_of_polygon a.bb_min a.bb_size a.strip.now p),
+      omega (arith, c.loop-i.invariant.2, turn, one),
+    )
+
+pub returns : goal.returns
+returns c =
+    let a = c.args in
+    let end = polygons_end a.bb_min a.bb_size a.strip.now c.loop-i.at a.n c.loop-i.i c.loop-i-test.false in
+    record {
+      polygons = done _ _ _ _ _ _ _ _ _ _ _ _ _ _ _ _ _ c.loop-i.invariant.0 c.loop-i-test.false c.requires.1;
+      pushed = λ z. omega (arith, c.loop-i.invariant.2, end);
+    }

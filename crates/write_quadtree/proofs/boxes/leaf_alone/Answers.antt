@@ -1,0 +1,15 @@
+-- `write_quadtree::boxes::leaf_alone` meets its contract: of one leaf the first that holds the point is 0, or none, by `is_inside`.
+use mathlib.Core.Path.{sym, ◌∙◌}
+use Rattle.write_pages.specs.Sectors.{leaves, leaf_of}
+use Rattle.write_quadtree.proofs.boxes.leaf_alone.Goals as goal
+
+pub is_inside-requires : goal.is_inside-requires
+is_inside-requires c = tt
+
+pub returns-then-is_inside : goal.returns-then-is_inside
+unfolding leaves leaf_of
+returns-then-is_inside c = rw (sym c.is_inside.ensures ∙ c.if-is_inside.true)
+
+pub returns : goal.returns
+unfolding leaves leaf_of
+returns c = rw (sym c.is_inside.ensures ∙ c.if-is_inside.false)
