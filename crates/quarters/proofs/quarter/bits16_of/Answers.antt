@@ -4,8 +4,8 @@ use lib.Signed.{lt_z, non_neg}
 use mir.ValLaws.{to_z-of_z}
 use Rattle.quarters.specs.Quarter.{bits16}
 use Rattle.quarters.proofs.Quarters.{wide}
-use Rattle.quarters.proofs.quarter.bits16_of.Statement.{statement}
-use Rattle.quarters.proofs.quarter.bits16_of.Tie as tie
+use Rattle.quarters.proofs.quarter.bits16_of.Goals as goal
+use Rattle.quarters.proofs.quarter.bits16_of.Goals.{Then-x-lt0}
 
 -- a negative side: its distance below 0
 record Lifted (z : ℤ) : Type 0 where
@@ -36,43 +36,43 @@ back z f = to_z-of_z w16 z f
 twice : (z : ℤ) → SFits w16 z → to_z w32 (of_z w32 (to_z w16 (of_z w16 z))) ≡ z
 twice z f = ap (λ (y : ℤ). to_z w32 (of_z w32 y)) (back z f) ∙ to_z-of_z w32 z (wide z f)
 
-lift : (c : tie.Then1) → Lifted c.before.args.x
-lift c = let x = c.before.args.x in
-    let f = c.before.ranges.x in
-    lifted x f (rw (back x f) at c.if1.true)
+lift : (c : Then-x-lt0) → Lifted c.args.x
+lift c =
+    let x = c.args.x in
+    let f = c.ranges.x in
+    lifted x f (rw (back x f) at c.if-x-lt0.true)
 
-cast-below : tie.Need-overflow-cast-below
-cast-below c = let f = c.before.ranges.x in rw (back c.before.args.x f) (wide c.before.args.x f)
+pub overflow_cast-below : goal.overflow_cast-below
+overflow_cast-below c = let f = c.ranges.x in rw (back c.args.x f) (wide c.args.x f)
 
-sub-below : tie.Need-overflow-sub-below
-sub-below c = rw (twice c.before.args.x c.before.ranges.x) (lift c).ranges
+pub overflow_sub-below : goal.overflow_sub-below
+overflow_sub-below c = rw (twice c.args.x c.ranges.x) (lift c).fits
 
-cast-below-2 : tie.Need-overflow-cast-below-2
-cast-below-2 c =
+pub overflow_cast-below-then-x-lt0 : goal.overflow_cast-below-then-x-lt0
+overflow_cast-below-then-x-lt0 c =
     let s = lift c in
-    rw (twice c.before.args.x c.before.ranges.x, to_z-of_z w32 (pos 0 -ℤ c.before.args.x) s.fits) (s.up, record { fits = omega (arith, s.small) })
+    rw (twice c.args.x c.ranges.x, to_z-of_z w32 (pos 0 -ℤ c.args.x) s.fits) (s.up, record { fits = omega (arith, s.small) })
 
-sub-result : tie.Need-overflow-sub-result
-sub-result c =
+pub overflow_sub-result : goal.overflow_sub-result
+overflow_sub-result c =
     let s = lift c in
-    rw (twice c.before.args.x c.before.ranges.x, to_z-of_z w32 (pos 0 -ℤ c.before.args.x) s.fits) (omega (arith, s.small))
+    rw (twice c.args.x c.ranges.x, to_z-of_z w32 (pos 0 -ℤ c.args.x) s.fits) (omega (arith, s.small))
 
-returns : tie.Need-returns
-returns c =
+pub returns-then-x-lt0 : goal.returns-then-x-lt0
+returns-then-x-lt0 c =
     let s = lift c in
-    rw (twice c.before.args.x c.before.ranges.x, to_z-of_z w32 (pos 0 -ℤ c.before.args.x) s.fits) (omega (arith, s.is), omega (arith, s.some))
+    rw (twice c.args.x c.ranges.x, to_z-of_z w32 (pos 0 -ℤ c.args.x) s.fits) record { bits = omega (arith, s.is); bound = omega (arith, s.some) }
 
-cast-result : tie.Need-overflow-cast-result
-cast-result c = let x = c.before.args.x in
-    let f = c.before.ranges.x in
-    let s = kept x f (rw (back x f) at c.if1.false) in
+pub overflow_cast-result : goal.overflow_cast-result
+overflow_cast-result c =
+    let x = c.args.x in
+    let f = c.ranges.x in
+    let s = kept x f (rw (back x f) at c.if-x-lt0.false) in
     rw (back x f) (s.up, record { fits = omega (arith, s.is, s.small) })
 
-returns-2 : tie.Need-returns-2
-returns-2 c = let x = c.before.args.x in
-    let f = c.before.ranges.x in
-    let s = kept x f (rw (back x f) at c.if1.false) in
-    rw (back x f) (s.is, omega (arith, s.is, s.small))
-
-pub bits16-of-spec : {M : Type 1} → statement M
-bits16-of-spec = tie.close (tie.spec cast-below sub-below cast-below-2 sub-result returns cast-result returns-2)
+pub returns : goal.returns
+returns c =
+    let x = c.args.x in
+    let f = c.ranges.x in
+    let s = kept x f (rw (back x f) at c.if-x-lt0.false) in
+    rw (back x f) record { bits = s.is; bound = omega (arith, s.is, s.small) }
