@@ -1,5 +1,4 @@
-// The two lent sections in a struct, with thin methods over the lookup. A function that takes, makes or holds a struct with references is
-// proved by a walk of its code, by hand; whoever calls `resolve_in` or `pointer_to`, whose parameters are plain, needs none.
+// The two lent sections in a struct, with thin methods over the lookup.
 #![tactic(auto)]
 
 ghost use Rattle.std.specs.Prelude.{◌≡◌};
