@@ -16,8 +16,8 @@ pub lay_table-requires : goal.lay_table-requires
 lay_table-requires c =
     let list-places = c.list_places-p in
     let a = c.args in
-    let e = (list-places.ensures.parts, (list-places.ensures.table, list-places.ensures.items)) in
-    rw (header_end a.vft a.n (address list-places.result.table) c.address_of-offsets.result list-places.result.parts c.lay_list_header-next.ensures, e.0)
+    let e = list-places.ensures in
+    rw (header_end a.vft a.n (address list-places.result.table) c.address_of-offsets.result list-places.result.parts c.lay_list_header-next.ensures, e.parts)
     (per_room a.w c.requires.some c.requires.page, omega (arith, room_items c.requires), omega (arith, list_ends c.args.l.at c.args.w c.args.n, c.requires.below))
 
 pub returns : goal.returns
@@ -25,6 +25,6 @@ returns c =
     let list-places = c.list_places-p in
     let offsets = c.address_of-offsets in
     let a = c.args in
-    let e = (list-places.ensures.parts, (list-places.ensures.table, list-places.ensures.items)) in
-    front_laid a.vft a.w a.n list-places.result.table offsets.result list-places.result.parts e.0 e.1.0
-    (rw (items_at a.l a.w a.n e.1.1, e.0, address_optional) at offsets.ensures) c.lay_list_header-next.ensures c.lay_table.ensures
+    let e = list-places.ensures in
+    front_laid a.vft a.w a.n list-places.result.table offsets.result list-places.result.parts e.parts e.table
+    (rw (items_at a.l a.w a.n e.items, e.parts, address_optional) at offsets.ensures) c.lay_list_header-next.ensures c.lay_table.ensures

@@ -10,7 +10,7 @@ use Rattle.write_list_blocks.proofs.lay_table.Goals.{Start}
 
 -- the table ends below 2^28, since the items behind it do
 below : (s : Start) → behind s.args.l.at (16 * s.args.k) < 2 ^ 28
-below s = let a = c.args in omega (arith, c.requires.2, end_ge (behind a.l.at (16 * a.k)) (sizes a.w (part_counts a.k a.per a.n)))
+below s = let a = s.args in omega (arith, s.requires.2, end_ge (behind a.l.at (16 * a.k)) (sizes a.w (part_counts a.k a.per a.n)))
 
 pub overflow_mul-k : goal.overflow_mul-k
 overflow_mul-k c = omega (arith, below (goal.at.overflow_mul-k c).Start)

@@ -5,7 +5,7 @@ use Rattle.write_list_blocks.proofs.list_places.Goals as goal
 use Rattle.write_list_blocks.proofs.list_places.Goals.{Start}
 
 ends : (s : Start) → Ends s.args.l.at s.args.w s.args.n
-ends s = list_ends c.args.l.at c.args.w c.args.n
+ends s = list_ends s.args.l.at s.args.w s.args.n
 
 pub alloc-header-requires : goal.alloc-header-requires
 alloc-header-requires c = omega (arith, ends (goal.at.alloc-header-requires c).Start, c.requires.below)
