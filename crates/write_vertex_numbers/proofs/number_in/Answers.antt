@@ -21,7 +21,7 @@ long : (c : At-loop-i) →
     length c.loop-i.work ≡ length c.args.work.now
 long c =
     let a = c.args in
-    c.loop-i.invariant.0 ∙ back_length a.m a.work.now (omega (arith, c.requires)) c.clear.new.table c.clear.auto.0
+    c.loop-i.invariant.0 ∙ back_length a.m a.work.now (omega (arith, c.requires)) c.clear.new.table c.clear.auto.table
 
 within : (c : At-loop-i) →
     c.args.m ≤ length c.loop-i.work
@@ -38,7 +38,7 @@ begun c =
 step : (c : After-vertex_index-known) →
     let a = c.args in
     let at = c.loop-i in
-    Step (met a.triples.now 0 a.m) a.m a.buckets (drop a.m (begun c.At-loop-i)) (take a.m (begun c.At-loop-i))
+    Step (met a.triples.now 0 a.m) a.m a.buckets (drop a.m (begun (goal.at.After-vertex_index-known c).At-loop-i)) (take a.m (begun (goal.at.After-vertex_index-known c).At-loop-i))
     (drop a.m at.work) (take a.m at.work) at.n at.i c.whole_triple_at-triple.result c.vertex_index-known.new.table c.vertex_index-known.result
 step c =
     record {
@@ -54,7 +54,7 @@ loop-i-init c =
     let a = c.args in
     let w = a.work.now in
     let h : a.m ≤ length w = omega (arith, c.requires) in
-    (refl, start _ _ _ (drop a.m w) _ _ c.requires.0 c.requires.1 (omega (arith, c.requires, length-drop a.m w)) (tail_cleared a.m _ w h _ c.clear.auto.0 c.clear.ensures))
+    (refl, start _ _ _ (drop a.m w) _ _ c.requires.0 c.requires.1 (omega (arith, c.requires, length-drop a.m w)) (tail_cleared a.m _ w h _ c.clear.auto.table c.clear.ensures))
 
 pub whole_triple_at-triple-requires : goal.whole_triple_at-triple-requires
 whole_triple_at-triple-requires c = omega (arith, c.loop-i-test.true, c.requires.2)
@@ -77,8 +77,8 @@ returns-in-Full c =
     let f = c.vertex_index-known in
     let first = c.clear in
     let fits = c.requires in
-    finish a.m _ a.work.now (omega (arith, fits)) first.new.table first.auto.0 first.ensures (omega (arith, fits)) _ _ _
-    (rw (back_drop a.m w h f.new.table f.auto.0, back_take a.m w h f.new.table f.auto.0) (over (step (goal.at.returns-in-Full c).After-vertex_index-known) c.in-Full.is))
+    finish a.m _ a.work.now (omega (arith, fits)) first.new.table first.auto.table first.ensures (omega (arith, fits)) _ _ _
+    (rw (back_drop a.m w h f.new.table f.auto.table, back_take a.m w h f.new.table f.auto.table) (over (step (goal.at.returns-in-Full c).After-vertex_index-known) c.in-Full.is))
 
 pub loop-i-preserved : goal.loop-i-preserved
 loop-i-preserved c =
@@ -87,7 +87,7 @@ loop-i-preserved c =
     let h = within (goal.at.loop-i-preserved c).At-loop-i in
     let f = c.vertex_index-known in
     let e = f.new.table in
-    let l = f.auto.0 in
+    let l = f.auto.table in
     let k = c.in-Vertex.number in
     let q = c.loop-i-test.true in (
       store_length m at.work h e l at.i k ∙ at.invariant.0,
@@ -100,5 +100,5 @@ returns c =
     let a = c.args in
     let first = c.clear in
     let fits = c.requires in
-    finish a.m _ a.work.now (omega (arith, fits)) first.new.table first.auto.0 first.ensures (omega (arith, fits)) _ _ _
+    finish a.m _ a.work.now (omega (arith, fits)) first.new.table first.auto.table first.ensures (omega (arith, fits)) _ _ _
     (done _ _ _ _ _ _ _ _ _ (length_met _ _ _) c.loop-i-test.false c.loop-i.invariant.1)
