@@ -1,9 +1,9 @@
 -- A tally holds further on; and where as many agree as are seen, each of them does.
-use Prim.Native.Nat.{ℕ, suc, ◌+◌, ◌≤◌}
+use Prim.Native.Nat.{ℕ, ◌≤◌}
 use native.Mathlib.Omega.{arith}
 use mathlib.Core.Path.{◌≡◌, refl}
 use mathlib.Core.Bool.{Bool, true, false}
-use Rattle.replay.specs.Tallies.{Tallied, begun, counting, Step, left_out, agrees, differs, Passed, at_first, more, Counted, AllAgree, no_record, beside, with_one}
+use Rattle.replay.specs.Tallies.{Tallied, counting, Step, left_out, agrees, differs, Passed, at_first, more, AllAgree, no_record, beside, with_one}
 use Rattle.replay.specs.declared.Tally.{Tally}
 
 pub later : (n a b : ℕ) (t : Tally) → Tallied n a t → a ≤ b → Tallied n b t

@@ -1,5 +1,5 @@
 -- What a tally says of a list's records. Definitions only.
-use Rattle.std.specs.Prelude.{ℕ, suc, ◌+◌, ◌≤◌, min, ◌≡◌, Bool, true, false}
+use Rattle.std.specs.Prelude.{ℕ, ◌+◌, ◌≤◌, min, ◌≡◌, Bool, true, false}
 use Rattle.replay.specs.declared.Tally.{Tally}
 
 -- the tally of no record, of a list with n places

@@ -6,6 +6,7 @@ ghost use Rattle.replay.specs.Ends.{record_end, padded};
 ghost use Rattle.replay.specs.Tallies.{Tallied, Within, counting};
 
 use fields::least;
+use std::io;
 use strip::Refusal;
 
 // Where `count` bytes from `from` on end, of n in all. What the list lacks is left out.
@@ -90,31 +91,32 @@ pub fn refusal_agrees(r: Refusal, number: u32, place: u32) -> bool
     r.place == place as usize
 }
 
-pub fn print(text: &[u8]) {
-    io::write_all(1, text);
+pub fn print(rt: &impl Print, text: &[u8]) -> io::Result<()> {
+    rt.write_all(text)
 }
 
-pub fn print_tally(t: Tally) {
-    io::print_decimal(1, t.agreed as u64);
-    print(b" of ");
-    io::print_decimal(1, t.seen as u64);
-    print(b"\n");
+pub fn print_tally(rt: &impl Print, t: Tally) -> io::Result<()> {
+    rt.print(t.agreed)?;
+    print(rt, b" of ")?;
+    rt.print(t.seen)?;
+    print(rt, b"\n")
 }
 
 // What a line begins with that is about one number of the refusals.
-pub fn print_number(n: u32) {
-    print(b"number ");
-    io::print_decimal(1, n as u64);
-    print(b": ");
+pub fn print_number(rt: &impl Print, n: u32) -> io::Result<()> {
+    print(rt, b"number ")?;
+    rt.print(n)?;
+    print(rt, b": ")
 }
 
 // A line with the first difference, of n places, if there is one.
-pub fn print_first(first: usize, n: usize, unit: &[u8]) {
+pub fn print_first(rt: &impl Print, first: usize, n: usize, unit: &[u8]) -> io::Result<()> {
     if first < n {
-        print(b"first difference at ");
-        print(unit);
-        print(b" ");
-        io::print_decimal(1, first as u64);
-        print(b"\n");
+        print(rt, b"first difference at ")?;
+        print(rt, unit)?;
+        print(rt, b" ")?;
+        rt.print(first)?;
+        print(rt, b"\n")?;
     }
+    Ok(())
 }
