@@ -134,6 +134,7 @@ module _ (own : ℕ) (e : NavEdge) (m : List ℕ) where
 
 pub edges_hit : (own : ℕ) (es : List NavEdge) (m : List ℕ) (j : ℕ) → EdgesLead own es j → j < length m → 1 ≤ get_or (edge_pass own es m) j 0
 unfolding edge_pass
+edges_hit own [] m j x k = elim x [ ]
 edges_hit own (e ∷ es) m j (by_a h) k = adds_seen Any (step_rest own e m es) j (adds_seen Any (step_b own e m) j (half_hits own e.a m j h k))
 edges_hit own (e ∷ es) m j (by_b h) k =
     adds_seen Any (step_rest own e m es) j (half_hits own e.b (half_pass own e.a m) j h (omega (arith, (step_a own e m).long)))
@@ -143,6 +144,7 @@ edges_hit own (e ∷ es) m j (EdgesLead.later h) k =
 pub portals_hit : (own : ℕ) (qs : List NavPortal) (m : List ℕ) (i j : ℕ) → PortalLeads own qs i j → 1 ≤ get_or m i 0 → j < length m
     → 1 ≤ get_or (portal_pass own qs m) j 0
 unfolding portal_pass cross lead
+portals_hit own [] m i j x h k = elim x [ ]
 portals_hit own (q ∷ qs) m i j (PortalLeads.here f t) h k =
     let r = portals_add Any own qs (cross own q m) (λ k h. tt) (λ i j l h k. tt) in
     adds_seen Any r j (rw (eq-eqb _ _ f, eq-eqb _ _ t, ne_eqb (get_or m i 0) 0 (λ z. omega arith)) (mark_hits j m k))
