@@ -18,20 +18,9 @@ use Rattle.write_leaf_counts.specs.Work.{boxes_in, picked_from, count_in}
 use Rattle.write_leaf_counts.proofs.Picks.{count_picked}
 use Rattle.write_leaves.specs.Written.{TreeRoom}
 use Rattle.write_leaves.proofs.Leaves.{Bounds, bounds, ids_ends, points_ends, leaf_wrote}
-use Rattle.write_leaves.proofs.write_leaf.Statement.{statement}
-use Rattle.write_leaves.proofs.write_leaf.Tie as tie
-use Rattle.write_leaves.proofs.write_leaf.Reads as reads
 use Rattle.write_leaves.proofs.write_leaf.Lts as lts
 use Rattle.write_blocks.proofs.Layouts.{at_of}
-use Rattle.write_blocks.proofs.Layout.alloc.Reads as alloc-reads
-use Rattle.write_blocks.proofs.pad.Reads as pad-reads
-use Rattle.write_leaf_counts.proofs.count_points.Reads as count-points-reads
-use Rattle.write_leaf_counts.proofs.leaf_ids.Reads as leaf-ids-reads
-use Rattle.write_blocks.proofs.address_of.Reads as address-of-reads
-use Rattle.write_leaf_items.proofs.lay_data.Reads as lay-data-reads
-use Rattle.write_leaf_items.proofs.lay_ids.Reads as lay-ids-reads
-use Rattle.write_leaf_items.proofs.lay_points.Reads as lay-points-reads
-use Rattle.write_leaves.proofs.put_sector.Reads as put-sector-reads
+use Rattle.write_leaves.proofs.write_leaf.Goals as goal
 
 abbrev claims : lts.Claims
 claims = (
@@ -151,167 +140,94 @@ points_behind c =
 data_small : (c : Stored) → behind c.lay-points.result.at 32 < 2 ^ 28
 data_small c = let b = bounded (start (own (laid_ids c))) in rw (points_behind c) (omega arith)
 
-leaf-ids-requires : tie.Need-leaf-ids-requires
-leaf-ids-requires c κs = tt
+pub leaf_ids-m-requires : goal.leaf_ids-m-requires
+leaf_ids-m-requires c = tt
 
-count-points-requires : tie.Need-count-points-requires
-count-points-requires c κs = tt
+pub count_points-n-requires : goal.count_points-n-requires
+count_points-n-requires c = tt
 
-pad-requires : tie.Need-pad-requires
-pad-requires c κs =
-    let after-l = c.before.before.before in
-    let entry = after-l.before.before.before.before.before in
-    own_small entry
+pub pad-at-requires : goal.pad-at-requires
+pad-at-requires c = own_small {-PLACE Start-} c
 
-alloc-requires : tie.Need-alloc-requires
-alloc-requires c κs =
-    let after-leaf-ids = c.before.before.before.before.before in
-    let after-l = after-leaf-ids.before in
-    let entry = after-l.before.before.before.before.before in
-    own_small entry
+pub alloc-l1-requires : goal.alloc-l1-requires
+alloc-l1-requires c = own_small {-PLACE Start-} c
 
-lay-ids-requires : tie.Need-lay-ids-requires
-lay-ids-requires c κs =
-    let k = c.before in
+pub lay_ids-l2-requires : goal.lay_ids-l2-requires
+lay_ids-l2-requires c =
+    let b = bounded (start {-PLACE After-alloc-} c) in
+    ((after_counts {-PLACE After-alloc-} c).before.leaf-ids.ensures, omega (arith, ids_count (after_counts {-PLACE After-alloc-} c)), omega (arith, ids_end {-PLACE After-alloc-} c))
+
+pub lay_points-l3-requires : goal.lay_points-l3-requires
+lay_points-l3-requires c =
+    let k = own {-PLACE After-lay_ids-} c in
     let b = bounded (start k) in
-    ((after_counts k).before.leaf-ids.ensures, omega (arith, ids_count (after_counts k)), omega (arith, ids_end k))
+    ((start k).pre.0.1, points_count (after_counts k), omega (arith, points_count (after_counts k)), omega (arith, points_end {-PLACE After-lay_ids-} c))
 
-lay-points-requires : tie.Need-lay-points-requires
-lay-points-requires c κs =
-    let q = c.before.before.before in
-    let k = own q in
-    let b = bounded (start k) in
-    ((start k).pre.0.1, points_count (after_counts k), omega (arith, points_count (after_counts k)), omega (arith, points_end q))
-
-mul-address-of : tie.Need-overflow-mul-address-of
-mul-address-of c =
-    let k = own (laid_ids c.before.before) in
+pub overflow_mul-m : goal.overflow_mul-m
+overflow_mul-m c =
+    let k = own (laid_ids {-PLACE After-lay_points-} c) in
     let b = bounded (start k) in
     omega (arith, ids_count (after_counts k))
 
-address-of-requires : tie.Need-address-of-requires
-address-of-requires c κs =
-    let k = own (laid_ids c.before.before) in
+pub address_of-ids_at-requires : goal.address_of-ids_at-requires
+address_of-ids_at-requires c =
+    let k = own (laid_ids {-PLACE After-lay_points-} c) in
     let b = bounded (start k) in
     omega (arith, ids_end k)
 
-mul-address-of-2 : tie.Need-overflow-mul-address-of-2
-mul-address-of-2 c =
-    let k = own (laid_ids c.before.before.before) in
+pub overflow_mul-n : goal.overflow_mul-n
+overflow_mul-n c =
+    let k = own (laid_ids {-PLACE After-lay_points-} c) in
     let b = bounded (start k) in
     omega (arith, points_count (after_counts k))
 
-address-of-requires-2 : tie.Need-address-of-requires-2
-address-of-requires-2 c κs =
-    let q = laid_ids c.before.before.before in
+pub address_of-points_at-requires : goal.address_of-points_at-requires
+address_of-points_at-requires c =
+    let q = laid_ids {-PLACE After-lay_points-} c in
     let b = bounded (start (own q)) in
     omega (arith, points_end q)
 
-cast-lay-data : tie.Need-overflow-cast-lay-data
-cast-lay-data c =
-    let k = own (laid_ids c.before.before.before.before.before) in
+pub overflow_cast-m : goal.overflow_cast-m
+overflow_cast-m c =
+    let k = own (laid_ids {-PLACE After-lay_points-} c) in
     let b = bounded (start k) in
     omega (arith, ids_count (after_counts k), points_count (after_counts k))
 
-cast-lay-data-2 : tie.Need-overflow-cast-lay-data-2
-cast-lay-data-2 c =
-    let k = own (laid_ids c.before.before.before.before.before) in
+pub overflow_cast-n : goal.overflow_cast-n
+overflow_cast-n c =
+    let k = own (laid_ids {-PLACE After-lay_points-} c) in
     let b = bounded (start k) in
     omega (arith, ids_count (after_counts k), points_count (after_counts k))
 
-lay-data-requires : tie.Need-lay-data-requires
-lay-data-requires c κs = data_small c.before.before.before.before.before
+pub lay_data-l4-requires : goal.lay_data-l4-requires
+lay_data-l4-requires c = data_small {-PLACE After-lay_points-} c
 
-address-of-requires-3 : tie.Need-address-of-requires-3
-address-of-requires-3 c κs =
-    let after-address-of = c.before.before.before.before.before in
-    let after-lay-points = after-address-of.before.before.before in
-    data_small after-lay-points
+pub address_of-data_at-requires : goal.address_of-data_at-requires
+address_of-data_at-requires c = data_small {-PLACE After-lay_points-} c
 
-put-sector-requires : tie.Need-put-sector-requires
-put-sector-requires c κs = tt
+pub put_sector-requires : goal.put_sector-requires
+put_sector-requires c = tt
 
-add-t35 : tie.Need-overflow-add-t35
-add-t35 c =
-    let after-address-of3 = c.before.before.before.before in
-    let after-address-of2 = after-address-of3.before.before.before.before.before in
-    let after-lay-points = after-address-of2.before.before.before.before in
-    let after-lay-ids = after-lay-points.before.before.before.before in
-    let after-pad = after-lay-ids.before.before.before.before.before in
-    let after-l = after-pad.before.before.before.before in
-    let entry = after-l.before.before.before.before.before in
-    omega (arith, entry.requires.0.0)
+pub overflow_add-result : goal.overflow_add-result
+overflow_add-result c = omega (arith, c.requires.leaf_bound.0)
 
-cast-t36 : tie.Need-overflow-cast-t36
-cast-t36 c =
-    let after-address-of3 = c.before.before.before.before in
-    let after-address-of2 = after-address-of3.before.before.before.before.before in
-    let after-lay-points = after-address-of2.before.before.before.before in
-    let k = own (laid_ids after-lay-points) in
+pub overflow_cast-result : goal.overflow_cast-result
+overflow_cast-result c =
+    let k = own (laid_ids {-PLACE After-lay_points-} c) in
     let b = bounded (start k) in
     omega (arith, points_count (after_counts k))
 
-add-t37 : tie.Need-overflow-add-t37
-add-t37 c =
-    let after-address-of3 = c.before.before.before.before in
-    let after-address-of2 = after-address-of3.before.before.before.before.before in
-    let after-lay-points = after-address-of2.before.before.before.before in
-    let k = own (laid_ids after-lay-points) in
+pub overflow_add-result-2 : goal.overflow_add-result-2
+overflow_add-result-2 c =
+    let k = own (laid_ids {-PLACE After-lay_points-} c) in
     let b = bounded (start k) in
     omega (arith, points_count (after_counts k))
 
-same_length : tie.Need-same-length
-same_length c =
-    let after-put-sector = c.before.before in
-    let after-lay-data = after-put-sector.before.before.before.before.before in
-    let after-address-of = after-lay-data.before.before.before in
-    let after-lay-points = after-address-of.before.before.before in
-    let after-lay-ids = after-lay-points.before.before.before.before in
-    let after-pad = after-lay-ids.before.before.before.before.before in
-    omega (
-      arith,
-      after-put-sector.put-sector.auto,
-      after-lay-data.lay-data.auto,
-      after-lay-points.lay-points.auto,
-      after-lay-ids.lay-ids.auto,
-      after-pad.pad.auto,
-    )
-
-returns : tie.Need-returns
+pub returns : goal.returns
 unfolding grown
 returns c =
-    let after-address-of3 = c.before.before.before.before in
-    let after-lay-data = after-address-of3.before.before.before in
-    let after-address-of2 = after-lay-data.before.before in
-    let after-address-of = after-address-of2.before in
-    let q = after-address-of.before.before.before in
-    let k = own (laid_ids q) in
+    let k = own (laid_ids {-PLACE After-lay_points-} c) in
     let s = start k in
-    leaf_wrote s.args.points.bb_min s.args.points.bb_size s.args.b (ids_in s) (points_in s) k.alloc.ensures k.before.before.before.pad.ensures.1 (ids_laid (laid_ids q)) q.lay-points.ensures
-    after-address-of.address-of.ensures after-address-of2.address-of2.ensures (ids_count (after_counts k)) (points_count (after_counts k)) after-lay-data.lay-data.ensures
-    after-address-of3.address-of3.ensures k.before.before.before.pad.ensures.0 c.before.before.put-sector.ensures refl refl
-
-pub write-leaf-spec : {M : Type 1} → statement M
-write-leaf-spec =
-    tie.close
-    (tie.spec
-    leaf-ids-requires
-    count-points-requires
-    pad-requires
-    alloc-requires
-    lay-ids-requires
-    lay-points-requires
-    mul-address-of
-    address-of-requires
-    mul-address-of-2
-    address-of-requires-2
-    cast-lay-data
-    cast-lay-data-2
-    lay-data-requires
-    address-of-requires-3
-    put-sector-requires
-    add-t35
-    cast-t36
-    add-t37
-    same_length
-    returns)
+    leaf_wrote s.args.points.bb_min s.args.points.bb_size s.args.b (ids_in s) (points_in s) k.alloc.ensures k.before.before.before.pad.ensures.1 (ids_laid (laid_ids {-PLACE After-lay_points-} c)) c.lay_points-l3.ensures
+    c.address_of-ids_at.ensures c.address_of-points_at.ensures (ids_count (after_counts k)) (points_count (after_counts k)) c.lay_data-l4.ensures
+    c.address_of-data_at.ensures k.before.before.before.pad.ensures.0 c.put_sector.ensures refl refl
