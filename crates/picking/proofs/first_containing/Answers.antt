@@ -12,6 +12,7 @@ use Rattle.cell_record.specs.Record.{record_of}
 use Rattle.picking.specs.Picking.{contains, found}
 use Rattle.picking.proofs.Search.{first_found, first_turn, first_done}
 use Rattle.picking.proofs.first_containing.Goals as goal
+use Rattle.picking.proofs.first_containing.Goals.{then-contains, else-contains}
 
 pub record_at-cell-requires : goal.record_at-cell-requires
 record_at-cell-requires c = c.requires.0
@@ -50,13 +51,13 @@ loop-i-preserved c =
     let e = c.poly_at-p.ensures in
     let m = rw (c.x_axis-x.ensures, c.y_axis-y.ensures, c.record_at-cell.ensures) at c.contains.ensures in (
       omega arith,
-      ⊎_elim (λ w. omega arith) (λ w. omega arith) c.if-contains.branch,
+      elim c.if-contains.branch [ then-contains w ↦ omega arith | else-contains w ↦ omega arith ],
       omega (arith, after_polygon ws l.at l.i a.n k _ e),
       ⊎_elim
-          (λ (none, left). ⊎_elim
-          (λ w. inr (omega arith, left ∙ first_found test ws l.at l.i a.n k _ e _ m w.0.taken ∙ ap found (sym w.1)))
-          (λ w. inl (w.1 ∙ none, left ∙ first_turn test ws l.at l.i a.n k _ e _ m w.0.left))
-          c.if-contains.branch)
+          (λ (none, left). elim c.if-contains.branch [
+            | then-contains w ↦ inr (omega arith, left ∙ first_found test ws l.at l.i a.n k _ e _ m w.if-contains.true ∙ ap found (sym w.first-is))
+            | else-contains w ↦ inl (w.first-is ∙ none, left ∙ first_turn test ws l.at l.i a.n k _ e _ m w.if-contains.false)
+          ])
           (λ (one, is). absurd (omega arith))
           l.invariant.3,
     )
