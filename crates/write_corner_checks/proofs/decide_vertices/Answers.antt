@@ -6,10 +6,6 @@ use Rattle.write_corner_checks.proofs.Faults.{not_passed}
 use Rattle.write_corner_checks.proofs.Corners.{area_of, begin, stop, again, done}
 use Rattle.write_corner_checks.proofs.decide_vertices.Goals as goal
 
--- ---- where a corner that isn't refused has been counted, seen from where the loop goes on
-abbrev passed : tie.After-struct-known invariant-loop decreases-loop → tie.After-decide-corner invariant-loop decreases-loop
-passed c = c.before.before.before.before.before.before
-
 pub loop-i-init : goal.loop-i-init
 loop-i-init c = (begin _ _ _ _ _ _ _ _ _ _ _ _ _ c.requires.3, omega arith, rw (from_none c.args.p.vertices) (omega arith))
 
@@ -40,60 +36,26 @@ returns-in-Refused c =
     }
 
 pub overflow_add-pushed : goal.overflow_add-pushed
-overflow_add-pushed c =
-    let after-decide-corner = passed c in
-    let after-vertex-at = after-decide-corner.before.before.before.before.before in
-    let tested = after-vertex-at.before in
-    let at-loop = tested.before in
-    let entry = at-loop.before.before.before in
-    omega (arith, at-loop.loop.inv.1, tested.loop-test.taken, after-vertex-at.vertex-at.ensures.1.1.1, entry.pre.0)
+overflow_add-pushed c = omega (arith, c.loop-i.invariant.1, c.loop-i-test.true, c.vertex_at-vertex.ensures.bound, c.requires.0)
 
 pub overflow_add-v : goal.overflow_add-v
-overflow_add-v c =
-    let after-decide-corner = passed c in
-    let after-vertex-at = after-decide-corner.before.before.before.before.before in
-    let tested = after-vertex-at.before in
-    let at-loop = tested.before in
-    let entry = at-loop.before.before.before in
-    omega (arith, at-loop.loop.inv.0.vertex, tested.loop-test.taken, entry.pre.0)
+overflow_add-v c = omega (arith, c.loop-i.invariant.0.vertex, c.loop-i-test.true, c.requires.0)
 
 pub overflow_add-e-in-loop-i : goal.overflow_add-e-in-loop-i
-overflow_add-e-in-loop-i c =
-    let after-decide-corner = passed c in
-    let after-vertex-at = after-decide-corner.before.before.before.before.before in
-    let tested = after-vertex-at.before in
-    let at-loop = tested.before in
-    let entry = at-loop.before.before.before in
-    omega (arith, at-loop.loop.inv.0.edge, tested.loop-test.taken, entry.pre)
+overflow_add-e-in-loop-i c = omega (arith, c.loop-i.invariant.0.edge, c.loop-i-test.true, c.requires)
 
 pub overflow_add-i : goal.overflow_add-i
-overflow_add-i c =
-    let after-decide-corner = passed c in
-    let after-vertex-at = after-decide-corner.before.before.before.before.before in
-    let tested = after-vertex-at.before in
-    let entry = tested.before.before.before.before in
-    omega (arith, tested.loop-test.taken, entry.pre.2)
+overflow_add-i c = omega (arith, c.loop-i-test.true, c.requires.2)
 
 pub loop-i-smaller : goal.loop-i-smaller
-loop-i-smaller c =
-    let after-decide-corner = passed c in
-    let after-vertex-at = after-decide-corner.before.before.before.before.before in
-    let tested = after-vertex-at.before in
-    omega (arith, tested.loop-test.taken)
+loop-i-smaller c = omega (arith, c.loop-i-test.true)
 
 pub loop-i-preserved : goal.loop-i-preserved
 loop-i-preserved c =
-    let after-decide-corner = passed c in
-    let after-area-at2 = after-decide-corner.before.before.before in
-    let after-area-at = after-area-at2.before in
-    let after-vertex-at = after-area-at.before in
-    let tested = after-vertex-at.before in
-    let at-loop = tested.before in
-    let a = at-loop.before.before.before.args in
-    let turn = vertices_turn a.bb_min a.bb_size a.strip.now at-loop.loop.v a.p.vertices at-loop.loop.i tested.loop-test.taken in (
-      again _ _ _ _ _ _ _ _ _ _ _ _ _ _ _ _ _ _ _ _ _ _ _ _ at-loop.loop.inv.0 tested.loop-test.taken after-vertex-at.vertex-at.ensures.0 (area_of _ _ _ _ after-area-at.area-at.ensures (omega arith) (omega arith)) (area_of _ _ _ _ after-area-at2.area-at2.ensures (omega arith) (omega arith)) _ after-decide-corner.decide-corner.ensures c.in_default.is,
-      omega (arith, at-loop.loop.inv.1, after-vertex-at.vertex-at.ensures.1.1.1),
-      omega (arith, at-loop.loop.inv.2, turn, after-vertex-at.vertex-at.ensures.1.1.0),
+    let turn = vertices_turn c.args.bb_min c.args.bb_size c.args.strip.now c.loop-i.v c.args.p.vertices c.loop-i.i c.loop-i-test.true in (
+      again _ _ _ _ _ _ _ _ _ _ _ _ _ _ _ _ _ _ _ _ _ _ _ _ c.loop-i.invariant.0 c.loop-i-test.true c.vertex_at-vertex.ensures.triple (area_of _ _ _ _ c.area_at-a.ensures (omega arith) (omega arith)) (area_of _ _ _ _ c.area_at-b.ensures (omega arith) (omega arith)) _ c.decide_corner-after.ensures c.in_default.is,
+      omega (arith, c.loop-i.invariant.1, c.vertex_at-vertex.ensures.bound),
+      omega (arith, c.loop-i.invariant.2, turn, c.vertex_at-vertex.ensures.outside),
     )
 
 pub returns : goal.returns
