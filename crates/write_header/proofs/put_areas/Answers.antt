@@ -9,9 +9,7 @@ pub returns-then-len-gt32 : goal.returns-then-len-gt32
 returns-then-len-gt32 c = areas_all c.args.ids.now c.args.len c.args.out.now _ c.requires (omega (arith, c.if-len-gt32.true)) c.put_all.ensures
 
 pub slice_bounds-put_all-end : goal.slice_bounds-put_all-end
-slice_bounds-put_all-end c = sym (length-take-le c.before.args.len c.before.args.ids.now (omega (arith, c.before.requires, c.if-len-gt32.false)))
+slice_bounds-put_all-end c = sym (length-take-le c.args.len c.args.ids.now (omega (arith, c.requires, c.if-len-gt32.false)))
 
 pub returns : goal.returns
-returns c =
-    let entry = c.before in
-    areas_some _ _ _ _ _ entry.requires c.if1.false c.put_all-2.ensures c.put_le.ensures
+returns c = areas_some _ _ _ _ _ c.requires c.if-len-gt32.false c.put_all-2.ensures c.put_le.ensures
