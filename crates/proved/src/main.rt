@@ -10,6 +10,7 @@ ghost use Rattle.proved.specs.Table.{empty_strip, length_in};
 use areas::edge::half_word;
 use quantise::short::quantise_axis;
 use quarters::quarter::{bits16_of, quarter_ceil, quarter_floor};
+use std::io;
 use ynv_write::SerializeAnswer;
 
 // lo 0, extent 2, a 1
@@ -164,65 +165,65 @@ fn p12_grid() -> usize
     save_empty(1, 4040, &mut pages)
 }
 
-fn print(text: &[u8]) {
-    io::write_all(1, text);
+fn print(rt: &impl Print, text: &[u8]) -> io::Result<()> {
+    rt.write_all(text)
 }
 
 // A name and a number, then the line's end.
-fn line(name: &[u8], n: u64) {
-    print(name);
-    io::print_decimal(1, n);
-    print(b"\n");
+fn line(rt: &impl Print, name: &[u8], n: u64) -> io::Result<()> {
+    print(rt, name)?;
+    rt.print(n)?;
+    print(rt, b"\n")
 }
 
 // The same with a number of 16 signed bits.
-fn signed_line(name: &[u8], n: i16) {
+fn signed_line(rt: &impl Print, name: &[u8], n: i16) -> io::Result<()> {
     let bits = bits16_of(n);
-    print(name);
+    print(rt, name)?;
     if bits < 32768 {
-        io::print_decimal(1, bits as u64);
+        rt.print(bits as u64)?;
     } else {
-        print(b"-");
-        io::print_decimal(1, (65536 - bits) as u64);
+        print(rt, b"-")?;
+        rt.print((65536 - bits) as u64)?;
     }
-    print(b"\n");
+    print(rt, b"\n")
 }
 
-fn seeds_line(name: &[u8], ids: [u32; 32]) {
-    print(name);
+fn seeds_line(rt: &impl Print, name: &[u8], ids: [u32; 32]) -> io::Result<()> {
+    print(rt, name)?;
     let mut i = 0;
     while i < 6 {
-        print(b" ");
-        io::print_decimal(1, ids[i] as u64);
+        print(rt, b" ")?;
+        rt.print(ids[i] as u64)?;
         i += 1;
     }
-    print(b"\n");
+    print(rt, b"\n")
 }
 
-fn shorts() {
-    line(b"P1 ", p1() as u64);
-    line(b"P2 ", p2() as u64);
-    line(b"P3 ", p3() as u64);
-    line(b"P4 ", p4() as u64);
+fn shorts(rt: &impl Print) -> io::Result<()> {
+    line(rt, b"P1 ", p1() as u64)?;
+    line(rt, b"P2 ", p2() as u64)?;
+    line(rt, b"P3 ", p3() as u64)?;
+    line(rt, b"P4 ", p4() as u64)
 }
 
-fn quarters() {
-    signed_line(b"P5 min ", p5_min());
-    signed_line(b"P5 max ", p5_max());
-    signed_line(b"P6 8192 ", p6_high());
-    signed_line(b"P6 -8192 ", p6_low());
+fn quarters(rt: &impl Print) -> io::Result<()> {
+    signed_line(rt, b"P5 min ", p5_min())?;
+    signed_line(rt, b"P5 max ", p5_max())?;
+    signed_line(rt, b"P6 8192 ", p6_high())?;
+    signed_line(rt, b"P6 -8192 ", p6_low())
 }
 
-fn main() {
-    shorts();
-    quarters();
-    seeds_line(b"P7", p7());
-    line(b"P8 ", p8() as u64);
-    line(b"P9 ", p9() as u64);
-    line(b"P10 ", p10() as u64);
-    line(b"P11 96 bytes ", p11_fits());
-    line(b"P11 112 bytes ", p11_next());
-    line(b"P12 vehicle ", p12_vehicle() as u64);
-    line(b"P12 total ", p12_total() as u64);
-    line(b"P12 grid ", p12_grid() as u64);
+fn main(rt: HostRuntime) -> io::Result<()> {
+    shorts(&rt)?;
+    quarters(&rt)?;
+    seeds_line(&rt, b"P7", p7())?;
+    line(&rt, b"P8 ", p8() as u64)?;
+    line(&rt, b"P9 ", p9() as u64)?;
+    line(&rt, b"P10 ", p10() as u64)?;
+    line(&rt, b"P11 96 bytes ", p11_fits())?;
+    line(&rt, b"P11 112 bytes ", p11_next())?;
+    line(&rt, b"P12 vehicle ", p12_vehicle() as u64)?;
+    line(&rt, b"P12 total ", p12_total() as u64)?;
+    line(&rt, b"P12 grid ", p12_grid() as u64)
 }

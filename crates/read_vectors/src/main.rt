@@ -2,7 +2,7 @@
 // What stands in the list is said in `read_replay`.
 #![tactic(auto)]
 
-ghost use Rattle.std.specs.Prelude.{◌≡◌, true, ◌+◌, ◌≤◌, ◌<◌, length};
+ghost use Rattle.std.specs.Prelude.{◌≡◌, true, ◌+◌, ◌≤◌, ◌<◌, length, IfOk};
 ghost use Rattle.strip.specs.Outcome.{shown};
 ghost use Rattle.read_decide.specs.Answer.{paper};
 ghost use Rattle.replay.specs.Tallies.{Tallied, Step};
@@ -11,7 +11,8 @@ ghost use Rattle.read_replay.specs.Agreement.{untouched_words, outcome_of, strip
 use fields::u32_le;
 use read_decide::ParseAnswer;
 use read_replay::{Record, answer_agrees, record_at, words_agree};
-use replay::{Tally, asked, print, print_first, print_number, print_tally, tallied};
+use replay::{Tally, asked, print, print_first, print_number, print_tally, read_full, tallied};
+use std::io;
 
 // Reads the sections of a record into as much of the strip as the record says.
 fn read_record(bytes: &[u8], at: usize, r: Record, strip: &mut [u32]) -> ParseAnswer
@@ -88,34 +89,36 @@ fn tally_of(bytes: &[u8], low: u32, high: u32) -> Tally
 }
 
 // Prints how many of the records with such a number agree. The answer is where the first stands that doesn't.
-fn report(bytes: &[u8], low: u32, high: u32) -> usize
-    ensures { result ≤ length bytes.now }
+fn report(rt: &impl Print, bytes: &[u8], low: u32, high: u32) -> io::Result<usize>
+    ensures { IfOk result (λ first. first ≤ length bytes.now) }
 {
     let t = tally_of(bytes, low, high);
-    print_tally(t);
-    t.first
+    print_tally(rt, t)?;
+    Ok(t.first)
 }
 
-fn report_number(bytes: &[u8], n: u32) {
-    print_number(n);
-    report(bytes, n, n);
+fn report_number(rt: &impl Print, bytes: &[u8], n: u32) -> io::Result<()> {
+    print_number(rt, n)?;
+    report(rt, bytes, n, n)?;
+    Ok(())
 }
 
-fn report_numbers(bytes: &[u8], low: u32, high: u32) {
+fn report_numbers(rt: &impl Print, bytes: &[u8], low: u32, high: u32) -> io::Result<()> {
     let mut n = low;
     while n < high {
-        report_number(bytes, n);
+        report_number(rt, bytes, n)?;
         n += 1;
     }
+    Ok(())
 }
 
-fn report_all(bytes: &[u8]) {
-    report_number(bytes, 0);
-    report_number(bytes, 2);
-    report_numbers(bytes, 30, 41);
-    print(b"all ");
-    let first = report(bytes, 0, 4294967295);
-    print_first(first, bytes.len(), b"byte");
+fn report_all(rt: &impl Print, bytes: &[u8]) -> io::Result<()> {
+    report_number(rt, bytes, 0)?;
+    report_number(rt, bytes, 2)?;
+    report_numbers(rt, bytes, 30, 41)?;
+    print(rt, b"all ")?;
+    let first = report(rt, bytes, 0, 4294967295)?;
+    print_first(rt, first, bytes.len(), b"byte")
 }
 
 // Room for a list of 700,000 bytes. What it says of the zeros is their number, which lending them as a slice needs.
@@ -125,8 +128,8 @@ fn room() -> [u8; 700000]
     [0; 700000]
 }
 
-fn main() {
+fn main(rt: HostRuntime) -> io::Result<()> {
     let mut bytes = room();
-    io::read_full(0, &mut bytes);
-    report_all(&bytes);
+    read_full(&mut rt.stdin(), &mut bytes)?;
+    report_all(&rt, &bytes)
 }

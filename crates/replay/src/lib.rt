@@ -1,12 +1,13 @@
-// What the programs that replay the oracle's lists share: where the parts of a record end, the tally of the records, and the lines that are printed.
+// What the programs that replay the oracle's lists share: where the parts of a record end, the tally of the records, how the list is read, and the lines that are printed.
 #![tactic(auto)]
 
-ghost use Rattle.std.specs.Prelude.{◌≡◌, true, false, ◌+◌, ◌≤◌, ◌<◌, get_or};
+ghost use Rattle.std.specs.Prelude.{◌≡◌, true, false, ◌+◌, ◌≤◌, ◌<◌, length, get_or, IfOk};
 ghost use Rattle.replay.specs.Ends.{record_end, padded};
 ghost use Rattle.replay.specs.Tallies.{Tallied, Within, counting};
 
 use fields::least;
 use std::io;
+use std::io::Read;
 use strip::Refusal;
 
 // Where `count` bytes from `from` on end, of n in all. What the list lacks is left out.
@@ -89,6 +90,21 @@ pub fn refusal_agrees(r: Refusal, number: u32, place: u32) -> bool
         return false;
     }
     r.place == place as usize
+}
+
+// Reads until the buffer is full or the input ends, and answers how many bytes it put at the start of the buffer.
+pub fn read_full(input: &mut impl Read, buffer: &mut [u8]) -> io::Result<usize>
+    ensures { IfOk result (λ n. n ≤ length buffer.new) }
+{
+    let mut done = 0;
+    while done < buffer.len() {
+        let got = input.read(&mut buffer[done..])?;
+        if got == 0 {
+            break;
+        }
+        done += got;
+    }
+    Ok(done)
 }
 
 pub fn print(rt: &impl Print, text: &[u8]) -> io::Result<()> {

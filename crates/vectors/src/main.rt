@@ -2,13 +2,14 @@
 // how many records of each kind agree. What stands in the list is said in `leaf_replay`.
 #![tactic(auto)]
 
-ghost use Rattle.std.specs.Prelude.{◌≡◌, ℕ, ◌+◌, ◌*◌, ◌≤◌, ◌<◌, length, get_or};
+ghost use Rattle.std.specs.Prelude.{◌≡◌, ℕ, ◌+◌, ◌*◌, ◌≤◌, ◌<◌, length, get_or, IfOk};
 ghost use Rattle.fields.specs.Bytes.{le_at};
 ghost use Rattle.replay.specs.Tallies.{Tallied, Step};
 ghost use Rattle.leaf_replay.specs.Agreement.{AgreesAt, Asked, TallyOf, LeafRecordInside};
 
 use leaf_replay::{Record, agrees, record_at};
-use replay::{Tally, asked, print, print_first, print_tally, tallied};
+use replay::{Tally, asked, print, print_first, print_tally, read_full, tallied};
+use std::io;
 
 // The tally with the record at a place, where the record's tag is from low to high.
 fn with_record(words: &[u32], at: usize, r: Record, t: Tally, low: u32, high: u32) -> Tally
@@ -46,13 +47,13 @@ fn tally_of(words: &[u32], low: u32, high: u32) -> Tally
 }
 
 // Prints how many of the records with such a tag agree. The answer is where the first stands that doesn't.
-fn report(name: &[u8], words: &[u32], low: u32, high: u32) -> usize
-    ensures { result ≤ length words.now }
+fn report(rt: &impl Print, name: &[u8], words: &[u32], low: u32, high: u32) -> io::Result<usize>
+    ensures { IfOk result (λ first. first ≤ length words.now) }
 {
     let t = tally_of(words, low, high);
-    print(name);
-    print_tally(t);
-    t.first
+    print(rt, name)?;
+    print_tally(rt, t)?;
+    Ok(t.first)
 }
 
 // The words of the bytes.
@@ -67,26 +68,26 @@ fn load(bytes: &[u8], words: &mut [u32])
 }
 
 // A line for each kind and one for all, where a record of another tag counts as one that differs.
-fn report_all(words: &[u32]) {
-    report(b"short ", words, 1, 1);
-    report(b"back ", words, 2, 2);
-    report(b"quarter ", words, 3, 3);
-    report(b"areas ", words, 4, 4);
-    report(b"place ", words, 5, 5);
-    report(b"strip ", words, 6, 6);
-    report(b"pick ", words, 7, 7);
-    report(b"obj ", words, 8, 8);
-    report(b"seams ", words, 9, 9);
-    report(b"reach ", words, 10, 10);
-    let first = report(b"all ", words, 1, 4294967295);
-    print_first(first, words.len(), b"word");
+fn report_all(rt: &impl Print, words: &[u32]) -> io::Result<()> {
+    report(rt, b"short ", words, 1, 1)?;
+    report(rt, b"back ", words, 2, 2)?;
+    report(rt, b"quarter ", words, 3, 3)?;
+    report(rt, b"areas ", words, 4, 4)?;
+    report(rt, b"place ", words, 5, 5)?;
+    report(rt, b"strip ", words, 6, 6)?;
+    report(rt, b"pick ", words, 7, 7)?;
+    report(rt, b"obj ", words, 8, 8)?;
+    report(rt, b"seams ", words, 9, 9)?;
+    report(rt, b"reach ", words, 10, 10)?;
+    let first = report(rt, b"all ", words, 1, 4294967295)?;
+    print_first(rt, first, words.len(), b"word")
 }
 
 // The list has at most 130,000 bytes; zeros lie behind it.
-fn main() {
+fn main(rt: HostRuntime) -> io::Result<()> {
     let mut bytes = [0u8; 131072];
-    io::read_full(0, &mut bytes);
+    read_full(&mut rt.stdin(), &mut bytes)?;
     let mut words = [0u32; 32768];
     load(&bytes, &mut words);
-    report_all(&words);
+    report_all(&rt, &words)
 }

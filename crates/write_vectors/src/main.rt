@@ -2,14 +2,15 @@
 // What stands in the list is said in `write_replay`.
 #![tactic(auto)]
 
-ghost use Rattle.std.specs.Prelude.{◌≡◌, true, ◌+◌, ◌≤◌, ◌<◌, length};
+ghost use Rattle.std.specs.Prelude.{◌≡◌, true, ◌+◌, ◌≤◌, ◌<◌, length, IfOk};
 ghost use Rattle.strip.specs.Outcome.{shown};
 ghost use Rattle.ynv_write.specs.Serialize.{paper};
 ghost use Rattle.replay.specs.Tallies.{Tallied, Step};
 ghost use Rattle.write_replay.specs.Agreement.{untouched_bytes, outcome_of, pages_of, Agrees, Asked, TallyOf, WriteRecordInside};
 
 use fields::u32_le;
-use replay::{Tally, asked, print, print_first, print_number, print_tally, tallied};
+use replay::{Tally, asked, print, print_first, print_number, print_tally, read_full, tallied};
+use std::io;
 use write_replay::{Record, answer_agrees, pages_agree, record_at};
 use write_runs::make_strip;
 use ynv_write::SerializeAnswer;
@@ -98,33 +99,35 @@ fn tally_of(list: &[u8], low: u32, high: u32) -> Tally
 }
 
 // Prints how many of the records with such a number agree. The answer is where the first stands that doesn't.
-fn report(list: &[u8], low: u32, high: u32) -> usize
-    ensures { result ≤ length list.now }
+fn report(rt: &impl Print, list: &[u8], low: u32, high: u32) -> io::Result<usize>
+    ensures { IfOk result (λ first. first ≤ length list.now) }
 {
     let t = tally_of(list, low, high);
-    print_tally(t);
-    t.first
+    print_tally(rt, t)?;
+    Ok(t.first)
 }
 
-fn report_number(list: &[u8], n: u32) {
-    print_number(n);
-    report(list, n, n);
+fn report_number(rt: &impl Print, list: &[u8], n: u32) -> io::Result<()> {
+    print_number(rt, n)?;
+    report(rt, list, n, n)?;
+    Ok(())
 }
 
-fn report_numbers(list: &[u8], low: u32, high: u32) {
+fn report_numbers(rt: &impl Print, list: &[u8], low: u32, high: u32) -> io::Result<()> {
     let mut n = low;
     while n < high {
-        report_number(list, n);
+        report_number(rt, list, n)?;
         n += 1;
     }
+    Ok(())
 }
 
-fn report_all(list: &[u8]) {
-    report_numbers(list, 0, 4);
-    report_numbers(list, 10, 21);
-    print(b"all ");
-    let first = report(list, 0, 4294967295);
-    print_first(first, list.len(), b"byte");
+fn report_all(rt: &impl Print, list: &[u8]) -> io::Result<()> {
+    report_numbers(rt, list, 0, 4)?;
+    report_numbers(rt, list, 10, 21)?;
+    print(rt, b"all ")?;
+    let first = report(rt, list, 0, 4294967295)?;
+    print_first(rt, first, list.len(), b"byte")
 }
 
 // Room for a list of 250,000 bytes. What it says of the zeros is their number, which lending them as a slice needs.
@@ -134,8 +137,8 @@ fn room() -> [u8; 250000]
     [0; 250000]
 }
 
-fn main() {
+fn main(rt: HostRuntime) -> io::Result<()> {
     let mut list = room();
-    io::read_full(0, &mut list);
-    report_all(&list);
+    read_full(&mut rt.stdin(), &mut list)?;
+    report_all(&rt, &list)
 }
