@@ -155,6 +155,7 @@ none_leads own j half e l = omega (arith, e, somebody_below half.poly l.some)
 -- "areas, 16 bits as in the strip": a cell whose id has more of them has no portal that serves
 portals_small : (s : List ℕ) (own n at i j : ℕ) → 65536 ≤ own → PortalLeads own (portals_at s at n) i j → ⊥
 unfolding items_at nav_portal_at
+portals_small s own zero at i j h l = elim l [ ]
 portals_small s own (suc n) at i j h (PortalLeads.here f t) = omega (arith, mod-lt (word s (at + 9)) {m = 65536} (omega arith))
 portals_small s own (suc n) at i j h (PortalLeads.later l) = portals_small s own n (at + 11) i j h l
 

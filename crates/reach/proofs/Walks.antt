@@ -30,6 +30,7 @@ leads_to s own (suc n) (suc i) at j h l = PolygonLeads.later (leads_to s own n i
 
 pub leads_of : (s : List ℕ) (own n i at j : ℕ) → PolygonLeads own (polygons_at s at n) i j → EdgesLead own (served (polygon_at s (after_polygons s at i))) j
 unfolding items_at after
+leads_of s own zero i at j l = elim l [ ]
 leads_of s own (suc n) zero at j (PolygonLeads.here l) = l
 leads_of s own (suc n) (suc i) at j (PolygonLeads.later l) = leads_of s own n i (poly_at s at).next j l
 

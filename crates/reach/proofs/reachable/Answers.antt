@@ -14,13 +14,13 @@ pub returns-then-polys-start : goal.returns-then-polys-start
 returns-then-polys-start c =
     let a = c.args in
     let w = well _ _ _ c.check_strip.ensures c.in-WellFormed.is in
-    rw (no_start a.strip.now a.start (length a.marks.now) _ w c.if-polys-start.true) (c.refused.ensures, refl)
+    rw (no_start a.strip.now a.start (length a.marks.now) _ w c.if-polys-start.true) record { answer = c.refused.ensures; marks = refl }
 
 pub returns-then-room-polys : goal.returns-then-room-polys
 returns-then-room-polys c =
     let a = c.args in
     let w = well _ _ _ c.check_strip.ensures c.in-WellFormed.is in
-    rw (no_room a.strip.now a.start (length a.marks.now) _ w c.if-polys-start.false c.if-room-polys.true) (c.refused-then-room-polys.ensures, refl)
+    rw (no_room a.strip.now a.start (length a.marks.now) _ w c.if-polys-start.false c.if-room-polys.true) record { answer = c.refused-then-room-polys.ensures; marks = refl }
 
 pub first_portal-at-requires : goal.first_portal-at-requires
 first_portal-at-requires c = (well _ _ _ c.check_strip.ensures c.in-WellFormed.is).length_is
@@ -51,7 +51,7 @@ returns-else-room-polys c =
     let t = rw (k, c.first_portal-at.ensures) at c.mark_all.ensures in
     let last = c.mark_all.new.marks in
     rw (all_marked a.strip.now a.start (length a.marks.now) n w c.if-polys-start.false c.if-room-polys.false _ _ t)
-    (refl, ap (λ x. last ++ drop x a.marks.now) (sym (one_each a.strip.now a.start (length a.marks.now) n w c.if-polys-start.false c.if-room-polys.false _ _ t)))
+    record { answer = refl; marks = ap (λ x. last ++ drop x a.marks.now) (sym (one_each a.strip.now a.start (length a.marks.now) n w c.if-polys-start.false c.if-room-polys.false _ _ t)) }
 
 pub returns-in-Refused : goal.returns-in-Refused
-returns-in-Refused c = rw (not_well _ _ _ c.check_strip.ensures c.in-Refused.is) (refl, refl)
+returns-in-Refused c = rw (not_well _ _ _ c.check_strip.ensures c.in-Refused.is) record { answer = refl; marks = refl }
