@@ -17,15 +17,11 @@ use Rattle.write_leaf_items.proofs.lay_ids.Goals as goal
 use Rattle.write_leaf_items.proofs.lay_ids.Goals.{After-quarter_box-q}
 
 -- the ids of the quarter box that was made are the leaf's
-abbrev start : tie.After-quarter-box → tie.Start
-start c = c.before.before.before.before
+ids_are : (c : After-quarter_box-q) → leaf_ids c.quarter_box-q.result 0 (boxes_in c.args.boxes.now) ≡ leaf_ids (quarters c.args.b) 0 (boxes_in c.args.boxes.now)
+ids_are c = ap (λ (q : QuarterBox). leaf_ids q 0 (boxes_in c.args.boxes.now)) c.quarter_box-q.ensures
 
-ids_are : (c : After-quarter_box-q) → let s = start c in
-    leaf_ids c.quarter_box-q.result 0 (boxes_in s.args.boxes.now) ≡ leaf_ids (quarters s.args.b) 0 (boxes_in s.args.boxes.now)
-ids_are c = ap (λ (q : QuarterBox). leaf_ids q 0 (boxes_in (start c).args.boxes.now)) c.quarter_box-q.ensures
-
-room : (c : After-quarter_box-q) → let s = start c in end_of s.args.l.at (size_of (2 * s.args.n)) ≡ behind s.args.l.at (2 * s.args.n)
-room c = let s = start c in behind_some s.args.l.at (2 * s.args.n) (omega (arith, c.if-n-eq0.false))
+room : (c : After-quarter_box-q) → end_of c.args.l.at (size_of (2 * c.args.n)) ≡ behind c.args.l.at (2 * c.args.n)
+room c = behind_some c.args.l.at (2 * c.args.n) (omega (arith, c.if-n-eq0.false))
 
 pub returns-then-n-eq0 : goal.returns-then-n-eq0
 returns-then-n-eq0 c =
@@ -37,30 +33,26 @@ pub quarter_box-q-requires : goal.quarter_box-q-requires
 quarter_box-q-requires c = tt
 
 pub overflow_mul-n : goal.overflow_mul-n
-overflow_mul-n c = let s = start {-PLACE After-quarter_box-} c in omega (arith, s.pre.1)
+overflow_mul-n c = omega (arith, c.requires.1)
 
 pub pad-at-requires : goal.pad-at-requires
-pad-at-requires c = let s = start {-PLACE After-quarter_box-} c in omega (arith, room (goal.at.pad-at-requires c).After-quarter_box-q, s.pre.2)
+pad-at-requires c = omega (arith, room (goal.at.pad-at-requires c).After-quarter_box-q, c.requires.2)
 
 pub put_ids-requires : goal.put_ids-requires
 put_ids-requires c =
-    let s = start {-PLACE After-quarter_box-} c in
-    omega (arith, room (goal.at.put_ids-requires c).After-quarter_box-q, ap length (ids_are (goal.at.put_ids-requires c).After-quarter_box-q), s.pre.0, s.pre.2, c.pad-at.ensures.start)
+    omega (arith, room (goal.at.put_ids-requires c).After-quarter_box-q, ap length (ids_are (goal.at.put_ids-requires c).After-quarter_box-q), c.requires.0, c.requires.2, c.pad-at.ensures.start)
 
 pub overflow_mul-n-2 : goal.overflow_mul-n-2
 overflow_mul-n-2 c =
-    let s = start {-PLACE After-quarter_box-} c in
-    omega (arith, s.pre.1)
+    omega (arith, c.requires.1)
 
 pub alloc-requires : goal.alloc-requires
 alloc-requires c =
-    let s = start {-PLACE After-quarter_box-} c in
-    omega (arith, room (goal.at.alloc-requires c).After-quarter_box-q, s.pre.2)
+    omega (arith, room (goal.at.alloc-requires c).After-quarter_box-q, c.requires.2)
 
 pub returns : goal.returns
 returns c =
-    let s = start {-PLACE After-quarter_box-} c in
-    let a = s.args in
+    let a = c.args in
     let is = leaf_ids (quarters a.b) 0 (boxes_in a.boxes.now) in
-    laid_some (les 2 is) (length_les 2 is ∙ ap (λ (j : ℕ). 2 * j) (sym s.pre.0)) (omega (arith, c.if-n-eq0.false)) c.pad-at.ensures.start c.pad-at.ensures.out
+    laid_some (les 2 is) (length_les 2 is ∙ ap (λ (j : ℕ). 2 * j) (sym c.requires.0)) (omega (arith, c.if-n-eq0.false)) c.pad-at.ensures.start c.pad-at.ensures.out
     (c.put_ids.ensures ∙ ap (λ (js : List ℕ). put c.pad-at.result (les 2 js) c.pad-at.new.out) (ids_are (goal.at.returns c).After-quarter_box-q)) c.alloc.ensures

@@ -8,8 +8,8 @@ use Rattle.write_leaf_items.proofs.put_id_if.Goals as goal
 
 pub returns-then-test : goal.returns-then-test
 unfolding les
-returns-then-test c = rw c.if-test.true (omega arith, rw append-nil c.put_le.ensures)
+returns-then-test c = rw c.if-test.true record { next = omega arith; content = rw append-nil c.put_le.ensures }
 
 pub returns : goal.returns
 unfolding les
-returns c = rw c.if-test.false (omega arith, sym (put_nil c.args.p c.args.out.now))
+returns c = rw c.if-test.false record { next = omega arith; content = sym (put_nil c.args.p c.args.out.now) }

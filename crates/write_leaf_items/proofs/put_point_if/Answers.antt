@@ -9,8 +9,8 @@ use Rattle.write_leaf_items.proofs.put_point_if.Goals as goal
 
 pub returns-then-test : goal.returns-then-test
 unfolding point_items cat
-returns-then-test c = rw c.if-test.true (omega arith, rw append-nil c.put_point.ensures)
+returns-then-test c = rw c.if-test.true record { next = omega arith; content = rw append-nil c.put_point.ensures }
 
 pub returns : goal.returns
 unfolding point_items cat
-returns c = rw c.if-test.false (omega arith, sym (put_nil c.args.p c.args.out.now))
+returns c = rw c.if-test.false record { next = omega arith; content = sym (put_nil c.args.p c.args.out.now) }
