@@ -13,12 +13,12 @@ returns-then-work-strip c = λ rest. ap (λ (f : ℕ). at 0 f rest) (first_fails
 
 pub returns-then-not-finite_box : goal.returns-then-not-finite_box
 unfolding at
-returns-then-not-finite_box c = λ rest. ap (λ (f : ℕ). at 0 f rest) (first_passes _ 1 _ _ (le-ltb _ _ c.if-work-strip.false) (first_fails _ 9 _ (sym (ap not c.finite_box.ensures) ∙ c.if-not-finite_box.true)))
+returns-then-not-finite_box c = λ rest. ap (λ (f : ℕ). at 0 f rest) (first_passes _ 1 _ _ (le-ltb _ _ c.if-work-strip.false) (first_fails _ 9 _ (sym (ap not c.finite_box.ensures) ∙ ap not c.if-not-finite_box.true)))
 
 pub returns-then-polys-gt16383 : goal.returns-then-polys-gt16383
 unfolding at
-returns-then-polys-gt16383 c = λ rest. ap (λ (f : ℕ). at 0 f rest) (first_passes _ 1 _ _ (le-ltb _ _ c.if-work-strip.false) (first_passes _ 10 _ _ (sym (ap not c.finite_box.ensures) ∙ c.if-not-finite_box.false) (first_fails _ 10 _ (lt-ltb _ _ c.if-polys-gt16383.true))))
+returns-then-polys-gt16383 c = λ rest. ap (λ (f : ℕ). at 0 f rest) (first_passes _ 1 _ _ (le-ltb _ _ c.if-work-strip.false) (first_passes _ 10 _ _ (sym (ap not c.finite_box.ensures) ∙ ap not c.if-not-finite_box.false) (first_fails _ 10 _ (lt-ltb _ _ c.if-polys-gt16383.true))))
 
 pub returns : goal.returns
 unfolding at
-returns c = λ rest. ap (λ (f : ℕ). at 0 f rest) (first_passes _ 1 _ _ (le-ltb _ _ c.if-work-strip.false) (first_passes _ 10 _ _ (sym (ap not c.finite_box.ensures) ∙ c.if-not-finite_box.false) (first_passes _ 11 _ _ (le-ltb _ _ c.if-polys-gt16383.false) first_nothing)))
+returns c = λ rest. ap (λ (f : ℕ). at 0 f rest) (first_passes _ 1 _ _ (le-ltb _ _ c.if-work-strip.false) (first_passes _ 10 _ _ (sym (ap not c.finite_box.ensures) ∙ ap not c.if-not-finite_box.false) (first_passes _ 11 _ _ (le-ltb _ _ c.if-polys-gt16383.false) first_nothing)))
