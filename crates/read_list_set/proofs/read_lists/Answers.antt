@@ -54,14 +54,14 @@ pub returns-in-Items-read_list-3 : goal.returns-in-Items-read_list-3
 unfolding lists_of
 returns-in-Items-read_list-3 c =
     let read-list = c.read_list in
-    let vertices = c.vertices-1 in
+    let vertices = c.in-Items in
     let read-list2 = c.read_list-in-Items in
-    let indices = c.indices-1 in
+    let indices = c.in-Items-read_list in
     let read-list3 = c.read_list-in-Items-read_list in
-    let edges = c.edges-1 in
+    let edges = c.in-Items-read_list-2 in
     let read-list4 = c.read_list-in-Items-read_list-2 in
-    let polys = c.polys-1 in
-    let r6 = readable _ _ 6 c.args.va 1 (omega arith) (read-list.ensures.answer, read-list.ensures.bound) vertices.given.1 in let r2 = readable _ _ 2 c.args.ia 2 (omega arith) (read-list2.ensures.answer, read-list2.ensures.bound) indices.given.1 in let r8 = readable _ _ 8 c.args.ea 3 (omega arith) (read-list3.ensures.answer, read-list3.ensures.bound) edges.given.1 in let r48 = readable _ _ 48 c.args.pa 4 (omega arith) (read-list4.ensures.answer, read-list4.ensures.bound) polys.given.1 in record {
-      answer = rw ((sym read-list.ensures.answer ∙ ap paper vertices.given.1), (sym read-list2.ensures.answer ∙ ap paper indices.given.1), (sym read-list3.ensures.answer ∙ ap paper edges.given.1), (sym read-list4.ensures.answer ∙ ap paper polys.given.1));
+    let polys = c.in-Items-read_list-3 in
+    let r6 = readable _ _ 6 c.args.va 1 (omega arith) (read-list.ensures.answer, read-list.ensures.bound) vertices.is in let r2 = readable _ _ 2 c.args.ia 2 (omega arith) (read-list2.ensures.answer, read-list2.ensures.bound) indices.is in let r8 = readable _ _ 8 c.args.ea 3 (omega arith) (read-list3.ensures.answer, read-list3.ensures.bound) edges.is in let r48 = readable _ _ 48 c.args.pa 4 (omega arith) (read-list4.ensures.answer, read-list4.ensures.bound) polys.is in record {
+      answer = rw ((sym read-list.ensures.answer ∙ ap paper vertices.is), (sym read-list2.ensures.answer ∙ ap paper indices.is), (sym read-list3.ensures.answer ∙ ap paper edges.is), (sym read-list4.ensures.answer ∙ ap paper polys.is));
       lists = record { vertices = record { readable = r6.0; count = r6.1 }; indices = record { readable = r2.0; count = r2.1 }; edges = record { readable = r8.0; count = r8.1 }; polys = record { readable = r48.0; count = r48.1 }; link_count = refl };
     }
