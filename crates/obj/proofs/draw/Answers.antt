@@ -17,7 +17,7 @@ fits-requires c =
     (c.requires.0, c.requires.1, t.1, omega arith)
 
 pub put_obj-requires : goal.put_obj-requires
-put_obj-requires c = (c.requires.0, c.requires.1, leb-true _ _ (sym c.fits2.ensures ∙ c.if-fits.true))
+put_obj-requires c = (c.requires.0, c.requires.1, leb-true _ _ (sym c.fits.ensures ∙ c.if-fits.true))
 
 pub returns-then-fits : goal.returns-then-fits
 returns-then-fits c =
@@ -26,9 +26,12 @@ returns-then-fits c =
     let ps = polygons_at s 14 a.n in
     let room = length a.text.now in
     let t = told_vertices ps c.tally_polygons.ensures c.in-Vertices.is in
-    let fine = sym c.fits2.ensures ∙ c.if-fits.true in
+    let fine = sym c.fits.ensures ∙ c.if-fits.true in
     let stored = c.put_obj.ensures in
-    rw (fitting room (head_at s 0) ps t.0 fine) (ap values (omega (arith, stored.place)), stored.bytes ∙ put_whole _ _ (leb-true _ room fine))
+    rw (fitting room (head_at s 0) ps t.0 fine) record {
+      answer = ap values (omega (arith, stored.place));
+      text = stored.bytes ∙ put_whole _ _ (leb-true _ room fine);
+    }
 
 pub returns-in-Thin : goal.returns-in-Thin
 returns-in-Thin c =
@@ -36,7 +39,7 @@ returns-in-Thin c =
     let s = a.strip.now in
     let ps = polygons_at s 14 a.n in
     let room = length a.text.now in
-    rw (too_thin room (head_at s 0) ps _ (told_thin ps c.tally_polygons.ensures c.in-Thin.is)) (c.refused.ensures, refl)
+    rw (too_thin room (head_at s 0) ps _ (told_thin ps c.tally_polygons.ensures c.in-Thin.is)) record { answer = c.refused.ensures; text = refl }
 
 pub returns-else-fits : goal.returns-else-fits
 returns-else-fits c =
@@ -45,4 +48,4 @@ returns-else-fits c =
     let ps = polygons_at s 14 a.n in
     let room = length a.text.now in
     let t = told_vertices ps c.tally_polygons.ensures c.in-Vertices.is in
-    rw (too_long room (head_at s 0) ps t.0 (sym c.fits2.ensures ∙ c.if-fits.false)) (c.refused-in-Vertices.ensures, refl)
+    rw (too_long room (head_at s 0) ps t.0 (sym c.fits.ensures ∙ c.if-fits.false)) record { answer = c.refused-in-Vertices.ensures; text = refl }

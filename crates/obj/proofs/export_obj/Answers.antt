@@ -15,9 +15,9 @@ pub returns-in-WellFormed : goal.returns-in-WellFormed
 returns-in-WellFormed c =
     let a = c.args in
     let b = boxed _ _ _ c.check_cell.ensures c.in-WellFormed.is in
-    rw (on_box_lem _ (λ c. drawn (length a.text.now) c.head c.polys) b) (c.draw.ensures.answer, c.draw.ensures.text)
+    rw (on_box_lem _ (λ c. drawn (length a.text.now) c.head c.polys) b) record { answer = c.draw.ensures.answer; text = c.draw.ensures.text }
 
 pub returns-in-Refused : goal.returns-in-Refused
 returns-in-Refused c =
     let a = c.args in
-    rw (not_boxed _ (λ c. drawn (length a.text.now) c.head c.polys) _ _ c.check_cell.ensures c.in-Refused.is) (refl, refl)
+    rw (not_boxed _ (λ c. drawn (length a.text.now) c.head c.polys) _ _ c.check_cell.ensures c.in-Refused.is) record { answer = refl; text = refl }
