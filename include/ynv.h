@@ -1,4 +1,4 @@
-/* The verified core of navmesh cells for C: the calls of libynv.a, which `rt staticlib ynv` makes (x86-64 Linux).
+/* The verified core of navmesh cells for C: the calls of libynv.a, which `sh tools/staticlib ynv` makes (x86-64 Linux).
  * C99, C11 and C++.
  *
  * One convention for every call:

@@ -12,7 +12,7 @@ fn main() {
     let library = folder.join("libynv.a");
     if !library.exists() {
         let missing = library.display();
-        panic!("{missing} is not there: run `rt staticlib ynv`, or set YNV_LIB_DIR to the folder that holds libynv.a");
+        panic!("{missing} is not there: run `sh tools/staticlib ynv`, or set YNV_LIB_DIR to the folder that holds libynv.a");
     }
     println!("cargo:rerun-if-changed={}", library.display());
     println!("cargo:rustc-link-search=native={}", folder.display());

@@ -1,5 +1,5 @@
-// C entries of the leaves, by which the oracle holds them against the Rust and times them. Floats pass as their bits, and each entry takes
-// every argument.
+// Entries of the leaves, by which the oracle holds them against the Rust and times them; `units_c` exports them. Floats pass as their bits, and each
+// entry takes every argument.
 #![tactic(auto)]
 
 ghost use Rattle.std.specs.Prelude.{◌≡◌, ◌∷◌, [], ◌%◌, ◌/◌, ◌*◌, ◌+◌, ◌≤◌, min, length, take, drop};
@@ -28,8 +28,7 @@ use strip::StripAnswer;
 use write_vertex_numbers::All;
 
 // The short of a on an axis.
-#[unsafe(no_mangle)]
-pub extern "C" fn leaf_short(a: u32, lo: u32, extent: u32) -> u32
+pub fn leaf_short(a: u32, lo: u32, extent: u32) -> u32
     ensures { result ≡ short (of_bits binary32 a) (of_bits binary32 lo) (of_bits binary32 extent) }
 {
     let made = quantise::short::quantise_axis(
@@ -41,8 +40,7 @@ pub extern "C" fn leaf_short(a: u32, lo: u32, extent: u32) -> u32
 }
 
 // The coordinate of a short, of which the low 16 bits count.
-#[unsafe(no_mangle)]
-pub extern "C" fn leaf_back(q: u32, lo: u32, extent: u32) -> u32
+pub fn leaf_back(q: u32, lo: u32, extent: u32) -> u32
     ensures { result ≡ to_bits binary32 (coordinate (q % 65536) (of_bits binary32 lo) (of_bits binary32 extent)) }
 {
     bits_of_float(quantise::short::unquantise_axis(
@@ -53,8 +51,7 @@ pub extern "C" fn leaf_back(q: u32, lo: u32, extent: u32) -> u32
 }
 
 // A side of a quarter box in 16 bits: the floor for 0, and otherwise the ceiling.
-#[unsafe(no_mangle)]
-pub extern "C" fn leaf_quarter(x: u32, ceil: u32) -> u32
+pub fn leaf_quarter(x: u32, ceil: u32) -> u32
     ensures { result ≡ bits16 (side_of (of_bits binary32 x) ceil) }
 {
     if ceil == 0 {
@@ -64,8 +61,7 @@ pub extern "C" fn leaf_quarter(x: u32, ceil: u32) -> u32
 }
 
 // Id i of the table with which a cell begins, 0 past its end; or, for an i from 32 on, how many ids it has.
-#[unsafe(no_mangle)]
-pub extern "C" fn leaf_seed_area(own: u32, i: usize) -> u32
+pub fn leaf_seed_area(own: u32, i: usize) -> u32
     ensures { result ≡ seed_at (seeded own) i }
 {
     let t = areas::seed_areas(own);
@@ -76,8 +72,7 @@ pub extern "C" fn leaf_seed_area(own: u32, i: usize) -> u32
 }
 
 // The index of an id among the first len of ids, which is added where it is new; or 32 where it would be a 33rd.
-#[unsafe(no_mangle)]
-pub extern "C" fn leaf_ensure_area(ids: &mut [u32; 32], len: usize, id: u32) -> u32
+pub fn leaf_ensure_area(ids: &mut [u32; 32], len: usize, id: u32) -> u32
     ensures answer { result ≡ index_or_full (area_at (take len ids.old) id) }
     ensures table { ids.new ≡ over (up_to 32 (take len ids.old) id) ids.old }
 {
@@ -90,8 +85,7 @@ pub extern "C" fn leaf_ensure_area(ids: &mut [u32; 32], len: usize, id: u32) -> 
 }
 
 // Where a block of `size` bytes starts, the end so far being `end`.
-#[unsafe(no_mangle)]
-pub extern "C" fn leaf_place(end: u32, size: u32) -> u64
+pub fn leaf_place(end: u32, size: u32) -> u64
     ensures { result ≡ place_of end size }
 {
     write_blocks::place(end, size)
@@ -107,8 +101,7 @@ fn store(out: &mut [u32], at: usize, q: Shorts)
 }
 
 // The shorts of each vertex, three words to a vertex, in a box given by bb_min and bb_size; as many as both slices hold, which is the answer.
-#[unsafe(no_mangle)]
-pub extern "C" fn leaf_quantise_all(vertices: &[u32], bounds: &[u32; 6], out: &mut [u32]) -> usize
+pub fn leaf_quantise_all(vertices: &[u32], bounds: &[u32; 6], out: &mut [u32]) -> usize
     ensures count { result ≡ min (length vertices.now / 3) (length out.old / 3) }
     ensures content { out.new ≡ over (shorts_to vertices.now (floats_at bounds.now 0) (floats_at bounds.now 3) result) out.old }
 {
@@ -126,8 +119,7 @@ pub extern "C" fn leaf_quantise_all(vertices: &[u32], bounds: &[u32; 6], out: &m
 
 // How many distinct triples there are, two words to a triple, whose numbers then stand first in work; 65537 where there are more than
 // 65,536; 65538 where there is less work than four words to a triple.
-#[unsafe(no_mangle)]
-pub extern "C" fn leaf_number_all(triples: &[u32], work: &mut [u32]) -> usize
+pub fn leaf_number_all(triples: &[u32], work: &mut [u32]) -> usize
     ensures answer { result ≡ count_or_why (answer_with (length work.old) (triples_of triples.now)) }
     ensures numbers { result ≤ 65536 → take (length (triples_of triples.now)) work.new ≡ numbers_from [] (triples_of triples.now) }
     ensures rest { drop (4 * length (triples_of triples.now)) work.new ≡ drop (4 * length (triples_of triples.now)) work.old }
@@ -140,8 +132,7 @@ pub extern "C" fn leaf_number_all(triples: &[u32], work: &mut [u32]) -> usize
 }
 
 // Whether a strip is well formed: 0 with its polygons, portals and points, or a refusal's number with its place.
-#[unsafe(no_mangle)]
-pub extern "C" fn leaf_check_strip(strip: &[u32], answer: &mut [u64; 8]) -> u32
+pub fn leaf_check_strip(strip: &[u32], answer: &mut [u64; 8]) -> u32
     ensures number { result ≡ number_of (shown (strip_outcome strip.now)) }
     ensures words { answer.new ≡ over (answer_of (shown (strip_outcome strip.now))) answer.old }
 {
