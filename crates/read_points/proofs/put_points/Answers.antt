@@ -24,7 +24,7 @@ loop-i-preserved c =
     let f = point_of as_shorts in
     let e : 8 * k.i + 8 - 8 * k.i ≡ 8 = omega arith in
     let stored = c.put_point.ensures ∙ ap (λ (w : ℕ). put (a.at + 4 * k.i) (point_words (f (take w (drop (8 * k.i) a.points.now)))) k.strip) e in
-    (search rules, c.put_point.auto.1.0 ∙ k.invariant.1, rw stored (put_item point_words 4 point_length f 8 a.n a.points.now a.at k.i k.strip c.loop-i-test.true) ∙ k.invariant.2)
+    (search rules, c.put_point.auto.strip ∙ k.invariant.1, rw stored (put_item point_words 4 point_length f 8 a.n a.points.now a.at k.i k.strip c.loop-i-test.true) ∙ k.invariant.2)
 
 pub returns : goal.returns
 unfolding points_words

@@ -9,14 +9,14 @@ pub overflow_sub-next : goal.overflow_sub-next
 overflow_sub-next c = let e = count_is c.requires c.put_sector-r.ensures in omega arith
 
 pub turn_points-requires : goal.turn_points-requires
-turn_points-requires c = turn_fits c.requires c.put_sector-r.ensures _ refl c.put_sector-r.auto.1.1.1.1.0
+turn_points-requires c = turn_fits c.requires c.put_sector-r.ensures _ refl c.put_sector-r.auto.strip
 
 pub returns : goal.returns
 returns c =
     let a = c.args in
     let f = c.requires in
     let t = c.put_sector-r.ensures in
-    let q = walk_shorts a.system.now a.graphics.now (λ i. omega (arith, c.shared_slice_known-1.given i)) (λ i. omega (arith, c.shared_slice_known-2-1.given i)) 4096 _ f.is in
+    let q = walk_shorts a.system.now a.graphics.now (λ i. omega (arith, c.type_inv.system i)) (λ i. omega (arith, c.type_inv.graphics i)) 4096 _ f.is in
     record {
       next = next_is f t;
       content = all_turned f t _ _ _ q refl c.turn_points.ensures;

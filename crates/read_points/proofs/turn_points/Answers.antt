@@ -13,7 +13,7 @@ loop-i-preserved c =
     let k = c.loop-i in
     let a = c.args in
     let t = c.turn_point in
-    (search rules, t.auto.0 ∙ k.invariant.1, turned_more _ _ a.n k.i a.at _ c.loop-i-test.true t.ensures ∙ k.invariant.2)
+    (search rules, t.auto.strip ∙ k.invariant.1, turned_more _ _ a.n k.i a.at _ c.loop-i-test.true t.ensures ∙ k.invariant.2)
 
 pub returns : goal.returns
 returns c = sym (turned_end _ _ c.args.n c.loop-i.i _ _ (omega arith)) ∙ c.loop-i.invariant.2
