@@ -2,7 +2,6 @@
 use native.Mathlib.Omega.{arith}
 use mathlib.Core.Path.{ap, ◌∙◌}
 use borrow.Author.Rules.{rules}
-use borrow.Author.Tests.{not-true, not-false}
 use Rattle.fields.specs.Bytes.{cut}
 use Rattle.read_polygon_words.specs.Words.{all_below}
 use Rattle.read_list_set.specs.Items.{items_in}
@@ -29,7 +28,7 @@ returns-then-not-all_below c =
     let list-run = c.list_run-run in
     let least = c.least-n in
     let t = taken _ _ 2 _ (omega arith) c.requires.0 c.args.start c.args.count turn.k seek.ensures list-run.ensures.content least.ensures c.requires.2 c.loop-k-test.true in record {
-      below = not_below_part _ (cut 2 least.result list-run.result.now) _ t.step c.all_below.ensures (not-true _ c.if-not-all_below.true) ∙ turn.invariant.2;
+      below = not_below_part _ (cut 2 least.result list-run.result.now) _ t.step c.all_below.ensures c.if-not-all_below.true ∙ turn.invariant.2;
       cursor = seek.ensures.stands;
     }
 
@@ -45,7 +44,7 @@ loop-k-preserved c =
     let seek = c.seek-c in
     let list-run = c.list_run-run in
     let least = c.least-n in
-    let t = taken _ _ 2 _ (omega arith) c.requires.0 c.args.start c.args.count turn.k seek.ensures list-run.ensures.content least.ensures c.requires.2 c.loop-k-test.true in (t.fits, seek.ensures.stands, below_part _ (cut 2 least.result list-run.result.now) _ t.step c.all_below.ensures (not-false _ c.if-not-all_below.false) ∙ turn.invariant.2)
+    let t = taken _ _ 2 _ (omega arith) c.requires.0 c.args.start c.args.count turn.k seek.ensures list-run.ensures.content least.ensures c.requires.2 c.loop-k-test.true in (t.fits, seek.ensures.stands, below_part _ (cut 2 least.result list-run.result.now) _ t.step c.all_below.ensures c.if-not-all_below.false ∙ turn.invariant.2)
 
 pub returns : goal.returns
 returns c =
