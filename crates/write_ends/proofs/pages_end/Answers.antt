@@ -10,11 +10,8 @@ pub work_places-places-requires : goal.work_places-places-requires
 work_places-places-requires c = omega (arith, c.requires.held.room, c.well_formed)
 
 -- the places in work, behind the call that gives them
-abbrev entry_of : tie.After-work-places → tie.Start
-entry_of c = c.before.before.before.before
-
-places : (c : After-work_places-places) → Cut (length (entry_of c).args.strip.now) (entry_of c).args.d.counts c.work_places-places.result
-places c = cut (length (entry_of c).args.strip.now) (entry_of c).args.d.counts c.work_places-places.ensures
+places : (c : After-work_places-places) → Cut (length c.args.strip.now) c.args.d.counts c.work_places-places.result
+places c = cut (length c.args.strip.now) c.args.d.counts c.work_places-places.ensures
 
 pub offset_bounds-work-boxes : goal.offset_bounds-work-boxes
 offset_bounds-work-boxes c = omega (arith, c.requires.held.room, c.well_formed, places (goal.at.offset_bounds-work-boxes c).After-work_places-places)

@@ -2,9 +2,6 @@
 use Rattle.write_quadtree.proofs.Dividing.{root_numbered}
 use Rattle.write_ends.proofs.sectors_end.Goals as goal
 
-pub depth_of-depth-requires : goal.depth_of-depth-requires
-depth_of-depth-requires c = tt
-
 pub tree_end-requires : goal.tree_end-requires
 tree_end-requires c = (root_numbered c.args.b c.depth_of-depth.result c.depth_of-depth.ensures.bound, rw c.depth_of-depth.ensures.depth c.requires)
 
