@@ -14,11 +14,8 @@ pub first_point-requires : goal.first_point-requires
 first_point-requires c = c.requires.0.length_is
 
 -- the places in work, behind the call that gives them
-abbrev entry_of : tie.After-work-places → tie.Start
-entry_of c = c.before.before.before.before
-
-places : (c : After-work_places-places) → Cut (length (entry_of c).args.strip.now) (entry_of c).args.n c.work_places-places.result
-places c = cut (length (entry_of c).args.strip.now) (entry_of c).args.n c.work_places-places.ensures
+places : (c : After-work_places-places) → Cut (length c.args.strip.now) c.args.n c.work_places-places.result
+places c = cut (length c.args.strip.now) c.args.n c.work_places-places.ensures
 
 pub offset_bounds-work-boxes : goal.offset_bounds-work-boxes
 offset_bounds-work-boxes c = omega (arith, c.requires.0.held.room, places (goal.at.offset_bounds-work-boxes c).After-work_places-places, c.well_formed)
