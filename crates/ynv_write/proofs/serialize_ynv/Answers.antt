@@ -11,53 +11,30 @@ use Rattle.write_ends.proofs.Planned.{pages_reached}
 use Rattle.ynv_write.proofs.Answer.{refuses, too_short, all_points, writes, answers}
 use Rattle.ynv_write.proofs.serialize_ynv.Goals as goal
 
--- ---- places: where `fill`, `pages_end`, the test of the verdict and `plan` have answered, each seen from the next, and where the call begins
-abbrev filled : tie.After-struct-known → tie.After-fill
-filled c = c.before.before.before.before.before
-
-abbrev ended : tie.After-fill → tie.After-pages-end
-ended c = c.before.before.before.before.before
-
-abbrev fine : tie.After-pages-end → tie.After-enum-told
-fine c = c.before.before
-
-abbrev planned : tie.After-enum-told → tie.After-plan
-planned c = c.before.before.before.before
-
-abbrev entry : tie.After-plan → tie.Start
-entry c = c.before.before.before.before.before
-
 pub pages_end-ends-requires : goal.pages_end-ends-requires
-pages_end-ends-requires c = ready _ _ _ _ (planned {-PLACE At-match-keys1-} c).plan.ensures c.in-Fine.is
+pages_end-ends-requires c = ready _ _ _ _ c.plan-d.ensures c.in-Fine.is
 
 pub fill-stored-requires : goal.fill-stored-requires
-fill-stored-requires c =
-    let told = fine {-PLACE After-pages_end-} c in
-    (ready _ _ _ _ (planned told).plan.ensures told.enum_told.given.1, c.pages_end-ends.ensures.sectors)
+fill-stored-requires c = (ready _ _ _ _ c.plan-d.ensures c.in-Fine.is, c.pages_end-ends.ensures.sectors)
 
 -- no more are stored than there are
 pub overflow_sub-dropped : goal.overflow_sub-dropped
-overflow_sub-dropped c =
-    let at-plan = planned (fine (ended (filled c))) in
-    omega (arith, (filled c).fill.ensures.1, all_points (entry at-plan).args.strip.now at-plan.plan.result.counts)
+overflow_sub-dropped c = omega (arith, c.fill.ensures.points, all_points c.args.strip.now c.plan-d.result.counts)
 
 pub count_pushed-pushed-requires : goal.count_pushed-pushed-requires
 count_pushed-pushed-requires c =
-    let told = fine (ended (filled c)) in
-    let R = ready _ _ _ _ (planned told).plan.ensures told.enum_told.given.1 in
-    let few = all_points (entry (planned told)).args.strip.now (planned told).plan.result.counts in
-    (R.length_is, omega (arith, (filled c).fill.ensures.1, few), R.tabled.cell, R.tabled.pushed_count)
+    let R = ready _ _ _ _ c.plan-d.ensures c.in-Fine.is in
+    let few = all_points c.args.strip.now c.plan-d.result.counts in
+    (R.length_is, omega (arith, c.fill.ensures.points, few), R.tabled.cell, R.tabled.pushed_count)
 
 -- ---- the three ends
 -- the pages don't fit, and none of their bytes is stored
 pub returns-then-pages-length : goal.returns-then-pages-length
 returns-then-pages-length c =
-    let told = fine {-PLACE After-pages_end-} c in
-    let at-plan = planned told in
-    let a = (entry at-plan).args in
-    let P = at-plan.plan.ensures in
-    let long = pages_reached (cell_at a.strip.now at-plan.plan.result.counts) c.pages_end-ends.ensures.end in
-    let short = too_short a.strip.now a.work.now _ _ P (length a.pages.now) told.enum_told.given.1 (omega (arith, c.if-pages-length.true, long)) in
+    let a = c.args in
+    let P = c.plan-d.ensures in
+    let long = pages_reached (cell_at a.strip.now c.plan-d.result.counts) c.pages_end-ends.ensures.end in
+    let short = too_short a.strip.now a.work.now _ _ P (length a.pages.now) c.in-Fine.is (omega (arith, c.if-pages-length.true, long)) in
     record {
       answer = rw short;
       pages = rw short;
@@ -68,20 +45,16 @@ returns-then-pages-length c =
 -- they fit, and are filled
 pub returns-else-pages-length : goal.returns-else-pages-length
 returns-else-pages-length c =
-    let reached = ended (filled {-PLACE After-struct_known-} c) in
-    let told = fine reached in
-    let at-plan = planned told in
-    let a = (entry at-plan).args in
-    let P = at-plan.plan.ensures in
+    let a = c.args in
+    let P = c.plan-d.ensures in
     let out = length a.pages.now in
-    let none = told.enum_told.given.1 in
-    let long = pages_reached (cell_at a.strip.now at-plan.plan.result.counts) reached.pages-end.ensures.0 in
-    let enough = (filled {-PLACE After-struct_known-} c).before.before.before.before.if1.false in
-    let room : length (pages (cell_at a.strip.now at-plan.plan.result.counts)) ≤ out = omega (arith, enough, long) in
-    let F = (filled {-PLACE After-struct_known-} c).fill.ensures.0 in
-    let stored = (filled {-PLACE After-struct_known-} c).fill.ensures.1 in
+    let none = c.in-Fine.is in
+    let long = pages_reached (cell_at a.strip.now c.plan-d.result.counts) c.pages_end-ends.ensures.end in
+    let room : length (pages (cell_at a.strip.now c.plan-d.result.counts)) ≤ out = omega (arith, c.if-pages-length.false, long) in
+    let F = c.fill.ensures.pages in
+    let stored = c.fill.ensures.points in
     record {
-      answer = answers a.strip.now a.work.now _ _ P out none room long (omega (arith, stored)) (omega (arith, stored, all_points a.strip.now at-plan.plan.result.counts)) c.count_pushed-pushed.ensures;
+      answer = answers a.strip.now a.work.now _ _ P out none room long (omega (arith, stored)) (omega (arith, stored, all_points a.strip.now c.plan-d.result.counts)) c.count_pushed-pushed.ensures;
       pages = rw (writes a.strip.now a.work.now _ _ P out none room) (F.bytes ∙ put_whole _ _ room);
       work = F.long ∙ P.long;
       beyond = F.beyond ∙ P.beyond;
@@ -90,7 +63,7 @@ returns-else-pages-length c =
 -- the plan refuses
 pub returns-in-Refused : goal.returns-in-Refused
 returns-in-Refused c =
-    let a = (entry {-PLACE After-plan-} c).args in
+    let a = c.args in
     let P = c.plan-d.ensures in
     let refusal = refuses a.strip.now a.work.now _ _ P (length a.pages.now) _ c.in-Refused.is in
     record {
