@@ -37,5 +37,5 @@ returns c =
     let old = c.args.strip.now in
     let m = room S G c.requires.1 in
     let known = cell_of S G c.requires.0 c.record_of-cell.ensures in
-    let head = head_is S G known.cell_is (λ i. omega (arith, c.shared_slice_known-1.given i)) (λ i. omega (arith, c.shared_slice_known-2-1.given i)) m.box in
+    let head = head_is S G known.cell_is (λ i. omega (arith, c.type_inv.system i)) (λ i. omega (arith, c.type_inv.graphics i)) m.box in
     λ cell k e. filled S G e old (c.put_cell.ensures ∙ ap (λ (h : Head). put 0 (head_words h) old) head) (c.fill_polygons-portals_at.ensures.next, c.fill_polygons-portals_at.ensures.content) (c.fill_portals-points_at.ensures.next, c.fill_portals-points_at.ensures.content) (c.fill_points-end.ensures.next, c.fill_points-end.ensures.content)
