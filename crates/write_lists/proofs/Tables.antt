@@ -16,7 +16,7 @@ use Rattle.write_blocks.specs.Lists.{list_blocks}
 use Rattle.write_blocks.specs.declared.Layout.{Layout}
 use Rattle.distinct.specs.Distinct.{index_of}
 use Rattle.write_vertices.specs.Table.{triple_at, met}
-use Rattle.write_pages.specs.Items.{Corner, vertex_row, vertex_items, index_items, edge_items}
+use Rattle.write_pages.specs.Items.{Corner, half_of, vertex_row, vertex_items, index_items, edge_items}
 use Rattle.write_edges.specs.Made.{edge_words}
 use Rattle.write_edges.proofs.Halves.{length_words}
 use Rattle.write_lists.specs.Words.{item_of, items_in, number_items}
@@ -83,7 +83,8 @@ index_items_lem table (k ∷ ks) =
 made_items : (ids : List ℕ) (ks : List Corner) (rest : List ℕ) → items_in 1 8 (length ks) (edge_words ids ks ++ rest) ≡ edge_items ids ks
 unfolding items_in item_of edge_words edge_items les row_bytes
 made_items ids [] rest = refl
-made_items ids (k ∷ ks) rest = rw (made_items ids ks rest) (simp append-nil)
+made_items ids (k ∷ ks) rest =
+    rw (append-nil, append-nil) (ap (λ (l : List (List ℕ)). (le_bytes 4 (half_of ids k.edge.a) ++ le_bytes 4 (half_of ids k.edge.b)) ∷ l) (made_items ids ks rest))
 
 pub edge_words_lem : (ids : List ℕ) (ks : List Corner) (w w' : List ℕ) (n b : ℕ) → n ≡ length ks → b + 2 * n ≤ length w → w' ≡ put b (edge_words ids ks) w
     → items_in 1 8 n (drop b w') ≡ edge_items ids ks

@@ -7,10 +7,9 @@ use Rattle.write_lists.proofs.lay_edges.Goals as goal
 
 pub returns : goal.returns
 returns c =
-    let entry = c.before in
-    let a = entry.args in
-    let made = c.put-edges.ensures in
+    let a = c.args in
+    let made = c.put_edges.ensures in
     record {
-      laid = relaid list_vft_edges 8 (edge_words_lem (area_ids a.areas) (corners_at a.strip.now a.n) a.work.now _ a.corners a.base entry.requires.1 entry.requires.2 made) c.write_list.ensures;
+      laid = relaid list_vft_edges 8 (edge_words_lem (area_ids a.areas) (corners_at a.strip.now a.n) a.work.now _ a.corners a.base c.requires.1 c.requires.2 made) c.write_list.ensures;
       made = made;
     }
