@@ -14,37 +14,40 @@ returns-then-input-gt-MOST_INPUT c =
     let start = c.args in
     let line = c.put_refusal.ensures in
     let strip = start.strip.now in
-    (line.bound, promised strip strip (long_input start.input.now (length strip) (omega (arith, c.if-input-gt-MOST_INPUT.true))) refl line.stored refl)
+    let w = promised strip strip (long_input start.input.now (length strip) (omega (arith, c.if-input-gt-MOST_INPUT.true))) refl line.stored refl in
+    record { bound = line.bound; size = w.0; line = w.1.0; strip = w.1.1 }
 
 pub slice_bounds-parse_ynv-end : goal.slice_bounds-parse_ynv-end
 slice_bounds-parse_ynv-end c = refl
 
 pub bounds-strip-2 : goal.bounds-strip-2
 bounds-strip-2 c =
-    let arm = c.p-1.given in
-    let start = c.before.args in
+    let p = c.in-Parsed.p in
+    let start = c.args in
     let answer = c.parse_ynv.ensures in
-    let told = accepted_line start.input.now [] start.strip.now arm.0.0 (sym (ap paper arm.1) ∙ answer.answer) in
+    let told = accepted_line start.input.now [] start.strip.now p (sym (ap paper c.in-Parsed.is) ∙ answer.answer) in
     omega (arith, told.0, ap length answer.strip)
 
 pub returns-in-Parsed : goal.returns-in-Parsed
 returns-in-Parsed c =
     let line = c.put_cell.ensures in
-    let arm = c.p-1.given in
-    let start = c.before.args in
+    let p = c.in-Parsed.p in
+    let start = c.args in
     let strip = start.strip.now in
     let answer = c.parse_ynv.ensures in
-    let told = accepted_line start.input.now [] strip arm.0.0 (sym (ap paper arm.1) ∙ answer.answer) in
-    let text = ap (λ s. accepted_text (get_or s 2 0) arm.0.0) answer.strip ∙ told.1 in
-    (line.bound, promised strip _ (short_input start.input.now (length strip) c.if-input-gt-MOST_INPUT.false) text line.stored answer.strip)
+    let told = accepted_line start.input.now [] strip p (sym (ap paper c.in-Parsed.is) ∙ answer.answer) in
+    let text = ap (λ s. accepted_text (get_or s 2 0) p) answer.strip ∙ told.1 in
+    let w = promised strip _ (short_input start.input.now (length strip) c.if-input-gt-MOST_INPUT.false) text line.stored answer.strip in
+    record { bound = line.bound; size = w.0; line = w.1.0; strip = w.1.1 }
 
 pub returns-in-Refused : goal.returns-in-Refused
 returns-in-Refused c =
     let line = c.put_refusal-in-Refused.ensures in
-    let arm = c.r-1.given in
-    let start = c.before.args in
+    let r = c.in-Refused.r in
+    let start = c.args in
     let strip = start.strip.now in
     let answer = c.parse_ynv.ensures in
     let decided = parse_outcome start.input.now [] (length strip) in
-    let text = refused_line decided arm.0.0.number arm.0.0.place (sym (ap paper arm.1) ∙ answer.answer) in
-    (line.bound, promised strip _ (short_input start.input.now (length strip) c.if-input-gt-MOST_INPUT.false) text line.stored answer.strip)
+    let text = refused_line decided r.number r.place (sym (ap paper c.in-Refused.is) ∙ answer.answer) in
+    let w = promised strip _ (short_input start.input.now (length strip) c.if-input-gt-MOST_INPUT.false) text line.stored answer.strip in
+    record { bound = line.bound; size = w.0; line = w.1.0; strip = w.1.1 }
