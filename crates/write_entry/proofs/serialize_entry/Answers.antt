@@ -10,11 +10,23 @@ returns-in-Written c =
     let call = c.serialize_ynv in
     let told = sym (ap paper c.in-Written.is) ∙ call.ensures.answer in
     let a = answers written_words told c.args.answer.now c.accept.ensures.number c.accept.ensures.words in
-    (a.0, (a.1, call.ensures.1))
+    record {
+      number = a.0;
+      words = a.1;
+      pages = call.ensures.pages;
+      work = call.ensures.work;
+      beyond = call.ensures.beyond;
+    }
 
 pub returns-in-Refused : goal.returns-in-Refused
 returns-in-Refused c =
     let call = c.serialize_ynv in
     let told = sym (ap paper c.in-Refused.is) ∙ call.ensures.answer in
     let a = answers written_words told c.args.answer.now c.refuse.ensures.number c.refuse.ensures.words in
-    (a.0, (a.1, call.ensures.1))
+    record {
+      number = a.0;
+      words = a.1;
+      pages = call.ensures.pages;
+      work = call.ensures.work;
+      beyond = call.ensures.beyond;
+    }

@@ -14,7 +14,7 @@ pub returns-then-checksum-u32_le : goal.returns-then-checksum-u32_le
 returns-then-checksum-u32_le c = λ h. absurd (false≢true h)
 
 pub returns-then-bytes_agree : goal.returns-then-bytes_agree
-returns-then-bytes_agree c = λ h. pages_agreed _ _ c.before.args.r _ _ (c.least-filled.ensures ∙ ap (λ (w : ℕ). min w (length c.before.args.pages.now)) c.told_length.ensures) (sym c.checksum.ensures ∙ c.if-checksum-u32_le.false ∙ c.u32_le.ensures) (c.bytes_agree.ensures c.if-bytes_agree.true) (c.stays_from.ensures h)
+returns-then-bytes_agree c = λ h. pages_agreed _ _ c.args.r _ _ (c.least-filled.ensures ∙ ap (λ (w : ℕ). min w (length c.args.pages.now)) c.told_length.ensures) (sym c.checksum.ensures ∙ c.if-checksum-u32_le.false ∙ c.u32_le.ensures) (c.bytes_agree.ensures c.if-bytes_agree.true) (c.stays_from.ensures h)
 
 pub returns : goal.returns
 returns c = λ h. absurd (false≢true h)

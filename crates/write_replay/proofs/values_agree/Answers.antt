@@ -9,6 +9,7 @@ use Rattle.write_replay.proofs.values_agree.Goals as goal
 
 pub returns-then-word_is-3 : goal.returns-then-word_is-3
 returns-then-word_is-3 c =
+    λ pushed.
     told_values _ _ _ _ (omega (arith, c.if-u32_le-eq0.true, c.u32_le.ensures))
     (same_values _
     (eqb-true _ _ (sym c.word_is.ensures ∙ c.if-word_is.true))

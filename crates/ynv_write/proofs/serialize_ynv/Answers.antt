@@ -19,13 +19,13 @@ fill-stored-requires c = (ready _ _ _ _ c.plan-d.ensures c.in-Fine.is, c.pages_e
 
 -- no more are stored than there are
 pub overflow_sub-dropped : goal.overflow_sub-dropped
-overflow_sub-dropped c = omega (arith, c.fill.ensures.points, all_points c.args.strip.now c.plan-d.result.counts)
+overflow_sub-dropped c = omega (arith, c.fill-stored.ensures.points, all_points c.args.strip.now c.plan-d.result.counts)
 
 pub count_pushed-pushed-requires : goal.count_pushed-pushed-requires
 count_pushed-pushed-requires c =
     let R = ready _ _ _ _ c.plan-d.ensures c.in-Fine.is in
     let few = all_points c.args.strip.now c.plan-d.result.counts in
-    (R.length_is, omega (arith, c.fill.ensures.points, few), R.tabled.cell, R.tabled.pushed_count)
+    (R.length_is, omega (arith, c.fill-stored.ensures.points, few), R.tabled.cell, R.tabled.pushed_count)
 
 -- ---- the three ends
 -- the pages don't fit, and none of their bytes is stored
@@ -51,8 +51,8 @@ returns-else-pages-length c =
     let none = c.in-Fine.is in
     let long = pages_reached (cell_at a.strip.now c.plan-d.result.counts) c.pages_end-ends.ensures.end in
     let room : length (pages (cell_at a.strip.now c.plan-d.result.counts)) ≤ out = omega (arith, c.if-pages-length.false, long) in
-    let F = c.fill.ensures.pages in
-    let stored = c.fill.ensures.points in
+    let F = c.fill-stored.ensures.pages in
+    let stored = c.fill-stored.ensures.points in
     record {
       answer = answers a.strip.now a.work.now _ _ P out none room long (omega (arith, stored)) (omega (arith, stored, all_points a.strip.now c.plan-d.result.counts)) c.count_pushed-pushed.ensures;
       pages = rw (writes a.strip.now a.work.now _ _ P out none room) (F.bytes ∙ put_whole _ _ room);
