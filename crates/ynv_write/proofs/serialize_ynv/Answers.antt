@@ -64,11 +64,11 @@ returns-else-pages-length c =
 pub returns-in-Refused : goal.returns-in-Refused
 returns-in-Refused c =
     let a = c.args in
-    let P = c.plan-d.ensures in
-    let refusal = refuses a.strip.now a.work.now _ _ P (length a.pages.now) _ c.in-Refused.is in
+    let refused = c.plan-d.ensures in
+    let refusal = refuses a.strip.now a.work.now _ _ refused (length a.pages.now) _ c.in-Refused.is in
     record {
       answer = rw refusal;
       pages = rw refusal;
-      work = P.long;
-      beyond = P.beyond;
+      work = refused.long;
+      beyond = refused.beyond;
     }
