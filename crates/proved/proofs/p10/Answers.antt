@@ -1,0 +1,9 @@
+-- `proved::p10` meets its contract: `half_word` gives the definition's word, which the table computes.
+use mathlib.Core.Path.{◌∙◌}
+use lib.Ieee.{of_bits, neg, div}
+use Rattle.proved.proofs.Table.{table}
+use Rattle.proved.proofs.p10.Goals as goal
+
+pub returns : goal.returns
+unfolding of_bits neg div
+returns c = c.half_word.ensures ∙ table.p10
