@@ -1,12 +1,12 @@
 -- The root of a written tree: the first of its blocks, with the cell's box as it stands in the strip; and how many sectors a tree has. Assumes nothing.
-use mathlib.Core.Path.{◌≡◌, refl, sym, ap, ◌∙◌}
-use mathlib.Core.Bool.{Bool, true, false, cond, ◌||◌}
+use mathlib.Core.Path.{◌≡◌, refl, ap, ◌∙◌}
+use mathlib.Core.Bool.{Bool, true, false, cond}
 use mathlib.Core.List.{List, [], ◌∷◌, ◌++◌}
 use Prim.Native.Nat.{ℕ, zero, suc, ◌+◌, ◌*◌, ◌/◌, ◌%◌, ◌^◌, ◌≤◌, ◌<◌}
 use native.Mathlib.Nat.{mod-eq_of_lt}
 use native.Mathlib.Omega.{arith}
 use lib.ListN.{length}
-use lib.Dec.{ltb, eqb}
+use lib.Dec.{eqb}
 use lib.Ieee.{Float, binary32, of_bits, to_bits}
 use Rattle.fields.specs.Rows.{row_bytes}
 use Rattle.fields.proofs.Holds.{Holds}
@@ -15,7 +15,7 @@ use Rattle.math.specs.declared.vec3.Vec3.{Vec3 as Floats}
 use Rattle.math.proofs.Finite.{float_back}
 use Rattle.quarters.specs.declared.quarter.QuarterBox.{QuarterBox}
 use Rattle.quarters.specs.declared.bounds.Aabb.{Aabb}
-use Rattle.strip.specs.Cell.{Vec3, NavPoint, Head, Cell}
+use Rattle.strip.specs.Cell.{Vec3, NavPoint, Cell}
 use Rattle.strip.specs.Fits.{All}
 use Rattle.strip.specs.Box as Box
 use Rattle.strip.proofs.Box.{FiniteVec, FiniteBox}

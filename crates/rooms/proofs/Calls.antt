@@ -11,7 +11,6 @@ use Rattle.strip.specs.Cell.{Cell, encode}
 use Rattle.strip.specs.Fits.{Words, InRange}
 use Rattle.strip.specs.Scan.{Scanned, ok, fault, scan}
 use Rattle.strip.specs.Outcome.{Outcome, values, refusal, shown, left}
-use Rattle.strip.specs.Outcome as Outcome
 use Rattle.strip.specs.Check.{on_cell}
 use Rattle.strip.proofs.Exact.{scan_exact, scan_fits}
 use Rattle.strip.proofs.Faults.{scan_fault, refused_three}

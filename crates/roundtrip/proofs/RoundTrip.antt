@@ -24,10 +24,8 @@ use Rattle.read_decide.specs.Answer.{counts_of}
 use Rattle.ynv_read.proofs.Theorems.{accepted_exactly as read-exactly, too_short_exactly}
 use Rattle.write_pages.specs.Preorder.{sector_count, preorder}
 use Rattle.write_pages.specs.Pages.{bb_min, bb_size, sectors, pages}
-use Rattle.write_pages.specs.Checks.{refused}
 use Rattle.write_pages.specs.Reread.{portal_again, point_again, reread}
 use Rattle.write_pages.specs.Accepted.{Accepted}
-use Rattle.write_pages.proofs.Accepted.{accepted}
 use Rattle.ynv_write.specs.declared.Written.{Written}
 use Rattle.ynv_write.specs.Theorems.{Accepts}
 use Rattle.ynv_write.proofs.Theorems.{accepted_exactly}

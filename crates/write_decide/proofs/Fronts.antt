@@ -13,7 +13,7 @@ use Rattle.strip.specs.Cell.{Head}
 use Rattle.strip.specs.Box.{finite_box}
 use Rattle.strip.specs.Reading.{head_at}
 use Rattle.strip.specs.Rows.{polygons_at}
-use Rattle.strip.specs.Scan.{Scanned, fault, scan}
+use Rattle.strip.specs.Scan.{Scanned, scan}
 use Rattle.strip.specs.Laid.{cell_counts}
 use Rattle.strip.specs.declared.Counts.{Counts}
 use Rattle.strip.proofs.Lengths.{poly_count}

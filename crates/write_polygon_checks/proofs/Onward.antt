@@ -28,7 +28,6 @@ use Rattle.write_pages.proofs.Firsts.{passed, first_none, first_some, first_last
 use Rattle.write_corner_checks.specs.Steps.{HasFault, TablesReady, Added, CornersDone, behind_table}
 use Rattle.write_polygon_checks.specs.Steps.{run_fault, PolygonDone, PolygonsDone}
 use Rattle.write_corner_checks.specs.declared.Check.{Check}
-use Rattle.write_corner_checks.specs.declared.Check.TheVariants as Check
 use Rattle.write_corner_checks.specs.declared.Tables.{Tables}
 use Rattle.write_corner_checks.specs.declared.TablesAfter.{TablesAfter}
 use Rattle.write_polygon_checks.specs.declared.Decided.{Decided}

@@ -1,7 +1,7 @@
 -- The writer's theorems, on what `serialize_ynv` decides. It accepts exactly when the strip is well formed, work has four words to each of its words,
 -- and its cell is accepted and has pages that fit, with those pages and their length (`accepted_exactly`); the blocks of what is written stand as the
 -- layout promises (`written_placed`); points stored and points dropped make the cell's (`points_told`); what is pushed to the border (`none_pushed_told`, `most_pushed_told`); each refusal is one that is named for writing, with its place (`refused_named`). Assumes nothing.
-use Prim.Native.Nat.{ℕ, ◌+◌, ◌*◌, ◌/◌, ◌^◌, ◌≤◌, ◌<◌}
+use Prim.Native.Nat.{ℕ, ◌+◌, ◌*◌, ◌^◌, ◌≤◌, ◌<◌}
 use native.Mathlib.Omega.{arith}
 use mathlib.Core.Path.{◌≡◌, refl, subst}
 use mathlib.Core.List.{List}
@@ -21,7 +21,6 @@ use Rattle.strip.proofs.Faults as Faults
 use Rattle.write_blocks.specs.Placed.{Placed}
 use Rattle.write_pages.specs.Pages.{blocks, pages}
 use Rattle.write_pages.specs.Checks.{Verdict, fine, refused, on_verdict, cell_verdict, cell_outcome}
-use Rattle.write_pages.specs.Accepted.{Accepted}
 use Rattle.write_pages.proofs.Accepted.{accepted}
 use Rattle.write_pages.proofs.Placed.{pages_placed, pages_short}
 use Rattle.write_pages.proofs.Stored.{stored_and_dropped}

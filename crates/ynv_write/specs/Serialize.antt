@@ -8,7 +8,6 @@ use Rattle.write_pages.specs.PointCounts.{stored_count, dropped_count}
 use Rattle.write_pages.specs.Checks.{write_outcome}
 use Rattle.ynv_write.specs.declared.Written.{Written}
 use Rattle.ynv_write.specs.declared.SerializeAnswer.{SerializeAnswer}
-use Rattle.ynv_write.specs.declared.SerializeAnswer.TheVariants as SerializeAnswer
 
 -- what each case of the answer says
 abbrev pub paper : SerializeAnswer → Paper Written
