@@ -239,7 +239,7 @@ uint32_t ynv_cell_bounds(uint32_t cx, uint32_t cy, uint64_t answer[8]);
 #define YNV_MOST_BYTES ((size_t)6553600)
 
 /* Words of strip to lend for such pages: one for each byte of both sections, since every record takes at least as many
- * bytes in pages as words in a strip (proved: crate `rooms`, strip-room). */
+ * bytes in pages as words in a strip (proved: crate `rooms`, strip_room_lem). */
 static inline size_t ynv_strip_words(size_t system_len, size_t graphics_len)
 {
     if (system_len >= YNV_MOST_WORDS || graphics_len >= YNV_MOST_WORDS - system_len)
@@ -259,7 +259,7 @@ static inline size_t ynv_work_used(size_t strip_len)
     return 2 * strip_len;
 }
 
-/* Bytes of pages to lend for a strip, from its length alone (proved: crate `rooms`, pages-room). A block and what is
+/* Bytes of pages to lend for a strip, from its length alone (proved: crate `rooms`, pages_room_lem). A block and what is
  * skipped before it take at most twice its bytes and 15. The dearest words are a triangle's, 128 bytes to 13 words;
  * header, list headers and sectors, which every cell has, take less than 8,192 bytes with what is skipped. */
 static inline size_t ynv_pages_bytes(size_t strip_len)
@@ -267,7 +267,7 @@ static inline size_t ynv_pages_bytes(size_t strip_len)
     return strip_len > (YNV_MOST_BYTES - 8192) / 20 ? YNV_MOST_BYTES : 20 * strip_len + 8192;
 }
 
-/* Bytes of text to lend for a strip's drawing (proved: crate `obj`, room-enough). A vertex takes three words, 20 bytes of its
+/* Bytes of text to lend for a strip's drawing (proved: crate `obj`, room_enough). A vertex takes three words, 20 bytes of its
  * line and 21 of its number at most. */
 static inline size_t ynv_obj_bytes(size_t strip_len)
 {

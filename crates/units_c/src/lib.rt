@@ -1,11 +1,10 @@
 // The exports of libunits.a: each calls the entry of `units` with its name, and promises the same.
 #![tactic(auto)]
 
-ghost use Rattle.std.specs.Prelude.{◌≡◌, ◌∷◌, [], ◌%◌, ◌/◌, ◌*◌, ◌+◌, ◌≤◌, min, length, take, drop};
+ghost use Rattle.std.specs.Prelude.{◌≡◌, [], ◌%◌, ◌/◌, ◌*◌, ◌≤◌, min, length, take, drop};
 ghost use Rattle.std.specs.Float.{binary32};
 ghost use Rattle.std.specs.Float.Ieee.{of_bits, to_bits};
 ghost use Rattle.fields.specs.Bytes.{over};
-ghost use Rattle.fields.specs.Put.{put};
 ghost use Rattle.distinct.specs.Numbers.{up_to, numbers_from};
 ghost use Rattle.quantise.specs.Short.{short, coordinate};
 ghost use Rattle.quarters.specs.Quarter.{bits16};
