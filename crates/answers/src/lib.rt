@@ -2,6 +2,7 @@
 // rest of `answer` as it was.
 #![tactic(auto)]
 
+ghost use Rattle.strip.specs.Reasons.{reason_number};
 ghost use Rattle.std.specs.Prelude.{◌≡◌, [], ◌∷◌, get_or};
 ghost use Rattle.fields.specs.Bytes.{over};
 ghost use Rattle.answers.specs.Words.{filled};
@@ -12,10 +13,7 @@ use strip::Refusal;
 fn value_at(values: &[u64], k: usize) -> u64
     ensures { result ≡ get_or values.now k 0 }
 {
-    if values.len() <= k {
-        return 0;
-    }
-    values[k]
+    values.get(k).copied().unwrap_or(0)
 }
 
 // Stores the values, the first eight of them, and zeros behind.
@@ -36,9 +34,9 @@ pub fn accept(answer: &mut [u64; 8], values: &[u64]) -> u32
 
 // Stores a refusal's place, and returns its number.
 pub fn refuse(answer: &mut [u64; 8], refusal: Refusal) -> u32
-    ensures number { result ≡ refusal.number }
+    ensures number { result ≡ reason_number refusal.reason }
     ensures words { answer.new ≡ over (refusal.place ∷ []) answer.old }
 {
     answer[0] = refusal.place as u64;
-    refusal.number
+    u32::from(refusal.reason)
 }

@@ -1,5 +1,5 @@
 -- The seeds: at most six, and a turn of `seed_areas`, where what is left of them, added from here, makes the whole.
-use Rattle.std.proofs.Common.{◌≡◌, ℕ, ◌+◌, ◌-◌, ◌%◌, ◌^◌, ◌<◌, ◌≤◌, List, [], ◌∷◌, length, get_or, take, drop, sym, refl, ap, ◌∙◌, add-one, arith, length-append, length-take-le, drop-cons}
+use Rattle.std.proofs.Common.{◌≡◌, ℕ, ◌+◌, ◌<◌, ◌≤◌, List, [], ◌∷◌, length, get_or, take, drop, sym, refl, ap, ◌∙◌, add-one, arith, length-append, length-take-le, drop-cons}
 use lib.Seq.{drop-length}
 use Rattle.fields.specs.Bytes.{over, zeros}
 use Rattle.fields.proofs.Over.{length_over, take_over, over_longer}
@@ -7,8 +7,7 @@ use Rattle.distinct.specs.Distinct.{with_new, distinct_from}
 use Rattle.distinct.specs.Numbers.{up_to}
 use Rattle.distinct.proofs.Laws.{length_with, up_room}
 use Rattle.distinct.proofs.Final.{with_grows, length_distinct}
-use Rattle.areas.specs.Areas.{wrap, seeds, seeded}
-use Rattle.areas.specs.EdgeHalf.{adjacent_none}
+use Rattle.areas.specs.Areas.{seeds, seeded}
 use Rattle.areas.specs.Tables.{with_area, stored}
 use Rattle.areas.specs.declared.Areas.{Areas}
 
@@ -68,12 +67,3 @@ seeding_done xs ids len i g e few =
     let taken_length : len ≡ length (distinct_from [] xs) = sym (length-take-le len ids (omega (arith, g.few, g.long))) ∙ ap length all in
     let words : ids ≡ over (distinct_from [] xs) (zeros 32) = g.words ∙ ap (λ (l : List ℕ). over l (zeros 32)) all in
     cc
-
--- a - k in 32 bits
-pub wrap_sub : (k a r : ℕ) → k ≤ 100 → 0 < k → r < 2 ^ 32 → (r + k) % 2 ^ 32 ≡ a → r ≡ wrap (a + (2 ^ 32 - k))
-wrap_sub k a r h z l e = omega arith
-
--- the table of six numbers that are the seeds
-pub seeds_by_number : (a : ℕ) {w x y z : ℕ} → w ≡ wrap (a + (2 ^ 32 - 100)) → x ≡ wrap (a + (2 ^ 32 - 1)) → y ≡ wrap (a + 1) → z ≡ wrap (a + 100)
-    → stored (distinct_from [] (a ∷ adjacent_none ∷ w ∷ x ∷ y ∷ z ∷ [])) (zeros 32) ≡ stored (seeded a) (zeros 32)
-seeds_by_number a e f g h = rw (e, f, g, h)

@@ -1,5 +1,5 @@
 -- The area table as the code holds it, and what its functions answer. Definitions only.
-use Rattle.std.specs.Prelude.{◌≡◌, ℕ, cond, List, length, take, nat_le}
+use Rattle.std.specs.Prelude.{◌≡◌, ℕ, cond, List, length, take, nat_le, Option, Some, None}
 use Rattle.fields.specs.Bytes.{over}
 use Rattle.strip.specs.Outcome.{Paper, refusal, values}
 use Rattle.distinct.specs.Distinct.{index_of, with_new}
@@ -7,13 +7,11 @@ use Rattle.distinct.specs.Numbers.{up_to}
 use Rattle.areas.specs.declared.Areas.{Areas}
 use Rattle.areas.specs.declared.Ensured.{Ensured}
 use Rattle.areas.specs.declared.Entry.{Entry}
-use Rattle.areas.specs.declared.AreaAnswer.{AreaAnswer}
-use Rattle.areas.specs.declared.AreaAnswer.TheVariants.{At, Full}
 
 -- what an answer says to a caller that has come to the polygon `place`
-abbrev pub paper : AreaAnswer → ℕ → Paper ℕ
-paper (At i) place = values i
-paper Full place = refusal 15 place
+abbrev pub paper : (Option ℕ) → ℕ → Paper ℕ
+paper (Some i) place = values i
+paper None place = refusal 15 place
 
 -- the index of an id, which is the next where it is new; or 15 at the caller's polygon, where it would be a 33rd
 abbrev pub area_at : List ℕ → ℕ → ℕ → Paper ℕ

@@ -1,7 +1,7 @@
 // The areas that a cell's edges name: its own id, none and its neighbours first, equal ones once, 32 at most.
 #![tactic(auto)]
 
-ghost use Rattle.std.specs.Prelude.{◌≡◌, min, take};
+ghost use Rattle.std.specs.Prelude.{◌≡◌, take};
 ghost use Rattle.fields.specs.Bytes.{over, zeros};
 ghost use Rattle.distinct.specs.Numbers.{up_to};
 ghost use Rattle.areas.specs.Areas.{seeded};
@@ -19,35 +19,18 @@ pub struct Areas {
     pub len: usize,
 }
 
-#[derive(Clone, Copy)]
-pub enum AreaAnswer {
-    // The index of an area.
-    At(u32),
-    // It would be a 33rd.
-    Full,
-}
-
 // An answer with the table after it.
 #[derive(Clone, Copy)]
 pub struct Ensured {
     pub areas: Areas,
-    pub at: AreaAnswer,
+    pub at: Option<u32>,
 }
 
 // An answer with the table's length after it.
 #[derive(Clone, Copy)]
 pub struct Entry {
-    pub at: AreaAnswer,
+    pub at: Option<u32>,
     pub len: usize,
-}
-
-fn held(len: usize) -> usize
-    ensures { result ≡ min len 32 }
-{
-    if len < 32 {
-        return len;
-    }
-    32
 }
 
 // The index of an id among the first `len` of `ids`, after which it is added where it is new.
@@ -55,32 +38,29 @@ pub fn ensure_id(ids: &mut [u32; 32], len: usize, id: u32) -> Entry
     ensures answer { Entered (take len ids.old) id result }
     ensures table { ids.new ≡ over (up_to 32 (take len ids.old) id) ids.old }
 {
-    let count = held(len);
+    let count = len.min(32);
     let at = distinct::index_of(ids, len, id);
     if at < count {
         return Entry {
-            at: AreaAnswer::At(at as u32),
+            at: Some(at as u32),
             len: count,
         };
     }
     if count < 32 {
         ids[count] = id;
         return Entry {
-            at: AreaAnswer::At(count as u32),
+            at: Some(count as u32),
             len: count + 1,
         };
     }
-    Entry {
-        at: AreaAnswer::Full,
-        len: 32,
-    }
+    Entry { at: None, len: 32 }
 }
 
 // The table of the first `len` of an array that was lent.
 pub fn areas_of(ids: [u32; 32], len: usize) -> Areas
     ensures { result ≡ record { ids = ids; len = len } }
 {
-    Areas { ids: ids, len: len }
+    Areas { ids, len }
 }
 
 // `ensure_id` on a table that goes in and comes back by value.
@@ -89,9 +69,10 @@ pub fn ensure_area(t: Areas, id: u32) -> Ensured
 {
     let mut ids = t.ids;
     let e = ensure_id(&mut ids, t.len, id);
-    let at = e.at;
-    let areas = areas_of(ids, e.len);
-    Ensured { areas, at }
+    Ensured {
+        areas: areas_of(ids, e.len),
+        at: e.at,
+    }
 }
 
 // The table with which every cell begins.
@@ -101,18 +82,14 @@ pub fn seed_areas(area_id: u32) -> Areas
     let seeds = [
         area_id,
         ADJACENT_NONE,
-        std::num::wrapping_sub_u32(area_id, 100),
-        std::num::wrapping_sub_u32(area_id, 1),
-        std::num::wrapping_add_u32(area_id, 1),
-        std::num::wrapping_add_u32(area_id, 100),
+        area_id.wrapping_sub(100),
+        area_id.wrapping_sub(1),
+        area_id.wrapping_add(1),
+        area_id.wrapping_add(100),
     ];
-    let mut t = areas_of([0u32; 32], 0);
-    let mut i = 0;
-    while i < 6 {
-        let e = ensure_area(t, seeds[i]);
-        let next = e.areas;
-        t = next;
-        i += 1;
+    let mut t = areas_of([0; 32], 0);
+    for seed in seeds {
+        t = ensure_area(t, seed).areas;
     }
     t
 }

@@ -1,5 +1,5 @@
 -- The whole part of a float, cut to the grid, by the whole part as 64 bits have it.
-use Rattle.std.proofs.Common.{◌≡◌, ℕ, ◌<◌, ◌≤◌, min, true, false, refl, arith}
+use Rattle.std.proofs.Common.{◌≡◌, ℕ, min, true, false, refl, arith}
 use lib.Ieee.{Float, nan, inf, fin, to_unsigned}
 use Rattle.cell_grid.specs.Grid.{in_grid}
 
@@ -11,9 +11,5 @@ cut (inf false) = refl
 cut (fin true m e) = refl
 cut (fin false m e) = omega arith
 
-module _ (t : Float) (n : ℕ) (is : n ≡ to_unsigned 64 t) where
-  pub cut_below : n < 99 → n ≡ in_grid t
-  cut_below h = omega (arith, cut t)
-
-  pub cut_above : 99 ≤ n → 99 ≡ in_grid t
-  cut_above h = omega (arith, cut t)
+pub cut_to : (t : Float) (n : ℕ) {m : ℕ} → n ≡ to_unsigned 64 t → m ≡ min n 99 → m ≡ in_grid t
+cut_to t n is e = rw (cut t, ← is) e

@@ -2,11 +2,9 @@
 use Rattle.std.specs.Prelude.{ℕ, ◌*◌, ◌/◌, min, true, false, cond, ◌&&◌, [], pos, nat_le, Float}
 use Rattle.std.specs.Float.{nan, inf, fin, binary32}
 use Rattle.std.specs.Float.Ieee.{up, down, add, sub, mul, div, of_int}
-use Rattle.strip.specs.Outcome.{Outcome, refused, done, Paper, values, refusal_of}
+use Rattle.strip.specs.Outcome.{Outcome, refused, done}
 use Rattle.cell_grid.specs.declared.CellXY.{CellXY}
 use Rattle.cell_grid.specs.declared.CellBounds.{CellBounds}
-use Rattle.cell_grid.specs.declared.BoundsAnswer.{BoundsAnswer}
-use Rattle.cell_grid.specs.declared.BoundsAnswer.TheVariants.{Bounds, Refused}
 
 -- 150 and -6000, each an odd number times a power of 2
 abbrev pub cell_size : Float
@@ -40,10 +38,6 @@ high_side c = add binary32 (low_side c) cell_size
 abbrev pub bounds_of : ℕ → ℕ → CellBounds
 bounds_of cx cy = record { x0 = low_side cx; y0 = low_side cy; x1 = high_side cx; y1 = high_side cy }
 
--- what each case of `cell_bounds`'s answer says, and what the call has to decide
-abbrev pub paper : BoundsAnswer → Paper CellBounds
-paper (Bounds b) = values b
-paper (Refused r) = refusal_of r
-
+-- what `cell_bounds` has to decide
 unfoldable pub bounds_outcome : ℕ → ℕ → Outcome CellBounds
 bounds_outcome cx cy = cond (nat_le cx 99 && nat_le cy 99) (done (bounds_of cx cy) []) (refused 5 0)

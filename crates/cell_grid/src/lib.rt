@@ -4,12 +4,12 @@
 ghost use Rattle.std.specs.Prelude.{◌≡◌, ◌≤◌};
 ghost use Rattle.fields.specs.Bytes.{over};
 ghost use Rattle.answers.specs.Words.{number_of, answer_words};
-ghost use Rattle.strip.specs.Outcome.{shown};
-ghost use Rattle.cell_grid.specs.Grid.{coordinate, cell_at, low_side, bounds_of, paper, bounds_outcome};
+ghost use Rattle.strip.specs.Outcome.{shown, paper};
+ghost use Rattle.cell_grid.specs.Grid.{coordinate, cell_at, low_side, bounds_of, bounds_outcome};
 ghost use Rattle.cell_grid.specs.Entries.{cell_words, bounds_words};
 
 use answers::{accept, refuse};
-use strip::Refusal;
+use strip::{Reason, Refusal};
 
 pub const CELL_SIZE: f32 = 150.0;
 
@@ -31,19 +31,13 @@ pub struct CellBounds {
     pub y1: f32,
 }
 
-#[derive(Clone, Copy)]
-pub enum BoundsAnswer {
-    Bounds(CellBounds),
-    Refused(Refusal),
-}
-
 // The Rust's `((x - CELL_ORIGIN) / CELL_SIZE).floor().clamp(0.0, 99.0) as u32`.
 fn coordinate_of(x: f32) -> u32
     ensures { result ≡ coordinate x }
 {
     let t = (x - CELL_ORIGIN) / CELL_SIZE;
     let n = math::num::saturating_f64_to_u64(std::num::f32_to_f64_with_nan(t));
-    if n < 99 { n as u32 } else { 99 }
+    n.min(99) as u32
 }
 
 // The cell that contains a position; for a position beside the grid the nearest one, and coordinate 0 for a NaN.
@@ -80,22 +74,13 @@ fn bounds_of(cx: u32, cy: u32) -> CellBounds
 }
 
 // The sides of a cell, or refusal 5 for a coordinate above 99.
-pub fn cell_bounds(cx: u32, cy: u32) -> BoundsAnswer
+pub fn cell_bounds(cx: u32, cy: u32) -> Result<CellBounds, Refusal>
     ensures { paper result ≡ shown (bounds_outcome cx cy) }
 {
-    if 99 < cx {
-        return BoundsAnswer::Refused(Refusal {
-            number: 5,
-            place: 0,
-        });
+    if 99 < cx || 99 < cy {
+        return Err(Refusal::from(Reason::NoSuchCell));
     }
-    if 99 < cy {
-        return BoundsAnswer::Refused(Refusal {
-            number: 5,
-            place: 0,
-        });
-    }
-    BoundsAnswer::Bounds(bounds_of(cx, cy))
+    Ok(bounds_of(cx, cy))
 }
 
 // `cell_for_position` for C: the two coordinates. It refuses nothing.
@@ -113,7 +98,7 @@ pub fn bounds_entry(cx: u32, cy: u32, answer: &mut [u64; 8]) -> u32
     ensures words { answer.new ≡ over (answer_words bounds_words (shown (bounds_outcome cx cy))) answer.old }
 {
     match cell_bounds(cx, cy) {
-        BoundsAnswer::Bounds(b) => accept(
+        Ok(b) => accept(
             answer,
             &[
                 math::num::bits_of_float(b.x0) as u64,
@@ -122,6 +107,6 @@ pub fn bounds_entry(cx: u32, cy: u32, answer: &mut [u64; 8]) -> u32
                 math::num::bits_of_float(b.y1) as u64,
             ],
         ),
-        BoundsAnswer::Refused(r) => refuse(answer, r),
+        Err(r) => refuse(answer, r),
     }
 }

@@ -1,5 +1,4 @@
 -- On a finite box the record keeps the head: the bits of its floats are the words that they were made of.
-use Prim.Native.Nat.{ℕ, ◌^◌, ◌<◌}
 use mathlib.Core.Path.{◌≡◌}
 use Rattle.math.proofs.Finite.{float_back}
 use Rattle.strip.specs.Cell.{Vec3, Head}

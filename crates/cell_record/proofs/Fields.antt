@@ -3,8 +3,6 @@ use Prim.Native.Nat.{ℕ, ◌^◌, ◌<◌}
 use mathlib.Core.Path.{◌≡◌, ap, ◌∙◌}
 use mathlib.Core.Bool.{true}
 use mathlib.Core.List.{List}
-use Rattle.math.specs.declared.vec3.Vec3.{Vec3 as Floats}
-use Rattle.quarters.specs.declared.bounds.Aabb.{Aabb}
 use Rattle.strip.specs.Cell.{Head}
 use Rattle.strip.specs.Box.{finite_box}
 use Rattle.strip.specs.Reading.{word, head_at}

@@ -2,6 +2,7 @@
 use Rattle.std.specs.Float.{binary32}
 use Rattle.std.specs.Float.Ieee.{to_bits}
 use Rattle.math.specs.declared.vec3.Vec3.{Vec3 as Floats}
+use Rattle.quantise.specs.declared.short.Frame.{Frame}
 use Rattle.quarters.specs.declared.bounds.Aabb.{Aabb}
 use Rattle.strip.specs.Cell.{Vec3, Head}
 use Rattle.cell_record.specs.declared.CellRecord.{CellRecord}
@@ -36,3 +37,7 @@ head_by r = record {
 -- the box from bb_min to bb_max
 abbrev pub root_in : CellRecord → Aabb
 root_in r = record { min = r.bb_min; max = r.bb_max }
+
+-- the box in which shorts are measured
+abbrev pub frame_in : CellRecord → Frame
+frame_in r = record { bb_min = r.bb_min; bb_size = r.bb_size }

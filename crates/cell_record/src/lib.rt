@@ -4,9 +4,10 @@
 
 ghost use Rattle.std.specs.Prelude.{◌≡◌, ◌≤◌, length};
 ghost use Rattle.strip.specs.Reading.{head_at};
-ghost use Rattle.cell_record.specs.Record.{record_of, root_in};
+ghost use Rattle.cell_record.specs.Record.{record_of, root_in, frame_in};
 
 use math::vec3::{Vec3, floats_at};
+use quantise::short::Frame;
 use quarters::bounds::Aabb;
 
 #[derive(Clone, Copy)]
@@ -25,9 +26,20 @@ impl CellRecord {
     pub fn root_box(self) -> Aabb
         ensures { result ≡ root_in self }
     {
-        let min = self.bb_min;
-        let max = self.bb_max;
-        Aabb { min, max }
+        Aabb {
+            min: self.bb_min,
+            max: self.bb_max,
+        }
+    }
+
+    // The box in which shorts are measured.
+    pub fn frame(self) -> Frame
+        ensures { result ≡ frame_in self }
+    {
+        Frame {
+            bb_min: self.bb_min,
+            bb_size: self.bb_size,
+        }
     }
 }
 
@@ -36,16 +48,13 @@ pub fn record_at(strip: &[u32]) -> CellRecord
     requires { 14 ≤ length strip.now }
     ensures { result ≡ record_of (head_at strip.now 0) }
 {
-    let bb_min = floats_at(strip, 5);
-    let bb_max = floats_at(strip, 8);
-    let bb_size = floats_at(strip, 11);
     CellRecord {
         content_flags: strip[1],
         area_id: strip[2],
         version_unk2: strip[3],
         vft: strip[4],
-        bb_min,
-        bb_max,
-        bb_size,
+        bb_min: floats_at(strip, 5),
+        bb_max: floats_at(strip, 8),
+        bb_size: floats_at(strip, 11),
     }
 }

@@ -1,6 +1,7 @@
 // The line that `cellsum` prints of a cell's system pages: area id and counts, or a refusal.
 #![tactic(auto)]
 
+ghost use Rattle.strip.specs.Reasons.{reason_number};
 ghost use Rattle.std.specs.Prelude.{◌≡◌, ◌+◌, ◌≤◌, length};
 ghost use Rattle.fields.specs.Put.{put};
 ghost use Rattle.strip.specs.Outcome.{left};
@@ -9,8 +10,8 @@ ghost use Rattle.decimal.specs.Stored.{Stored};
 ghost use Rattle.cellsum_line.specs.Line.{cell_outcome, counts_text, accepted_text, refused_text, cell_text};
 
 use decimal::{put_decimal, put_text};
-use read_decide::{ParseAnswer, Parsed};
-use strip::Refusal;
+use read_decide::Parsed;
+use strip::{Reason, Refusal};
 
 pub const MOST_INPUT: usize = 65536;
 
@@ -47,17 +48,17 @@ fn put_cell(line: &mut [u8], area: u32, p: Parsed) -> usize
     ensures stored { Stored 0 (accepted_text area p) line.old line.new result }
     ensures bound { result ≤ 139 }
 {
-    let a = put_named(line, 0, b"cell ", area as u64);
+    let a = put_named(line, 0, b"cell ", u64::from(area));
     let b = put_counts(line, a, p);
     b + put_text(line, b, b"\n")
 }
 
 // The line of a refusal, and its length.
 fn put_refusal(line: &mut [u8], r: Refusal) -> usize
-    ensures stored { Stored 0 (refused_text r.number r.place) line.old line.new result }
+    ensures stored { Stored 0 (refused_text (reason_number r.reason) r.place) line.old line.new result }
     ensures bound { result ≤ 139 }
 {
-    let a = put_named(line, 0, b"refused ", r.number as u64);
+    let a = put_named(line, 0, b"refused ", u32::from(r.reason) as u64);
     let b = put_named(line, a, b" ", r.place as u64);
     b + put_text(line, b, b"\n")
 }
@@ -71,16 +72,10 @@ pub fn cellsum_line(input: &[u8], strip: &mut [u32], line: &mut [u8]) -> usize
     ensures strip { strip.new ≡ left (cell_outcome input.now (length strip.old)) strip.old }
 {
     if MOST_INPUT < input.len() {
-        return put_refusal(
-            line,
-            Refusal {
-                number: 4,
-                place: 0,
-            },
-        );
+        return put_refusal(line, Refusal::from(Reason::LongInput));
     }
     match ynv_read::parse_ynv(input, &input[..0], strip) {
-        ParseAnswer::Parsed(p) => put_cell(line, strip[AREA_ID], p),
-        ParseAnswer::Refused(r) => put_refusal(line, r),
+        Ok(p) => put_cell(line, strip[AREA_ID], p),
+        Err(r) => put_refusal(line, r),
     }
 }

@@ -10,15 +10,9 @@ pub fn put_text(out: &mut [u8], at: usize, text: &[u8]) -> usize
     ensures size { result ≡ length text.now }
     ensures stored { out.new ≡ put at text.now out.old }
 {
-    let mut to = at;
-    let mut i = 0;
-    while to < out.len() {
-        if text.len() <= i {
-            return text.len();
-        }
-        out[to] = text[i];
-        to += 1;
-        i += 1;
+    if at < out.len() {
+        let n = text.len().min(out.len() - at);
+        out[at..at + n].copy_from_slice(&text[..n]);
     }
     text.len()
 }
@@ -27,13 +21,7 @@ pub fn put_text(out: &mut [u8], at: usize, text: &[u8]) -> usize
 fn decimal_len(n: u64) -> usize
     ensures { result ≡ length (decimal n) }
 {
-    let mut count = 1;
-    let mut rest = n;
-    while 10 <= rest {
-        rest = rest / 10;
-        count += 1;
-    }
-    count
+    n.max(1).ilog10() as usize + 1
 }
 
 // The digit d, i places behind `at`.
@@ -41,13 +29,9 @@ fn put_digit(out: &mut [u8], at: usize, i: usize, d: u64)
     requires { d < 10 }
     ensures { out.new ≡ put (at + i) (digit d ∷ []) out.old }
 {
-    if out.len() <= at {
-        return;
+    if at < out.len() && i < out.len() - at {
+        out[at + i] = b'0' + (d as u8);
     }
-    if out.len() - at <= i {
-        return;
-    }
-    out[at + i] = 48 + (d as u8);
 }
 
 // Stores the decimal digits of n from `at` on, the last of them first, and answers how many there are.
@@ -56,13 +40,10 @@ pub fn put_decimal(out: &mut [u8], at: usize, n: u64) -> usize
     ensures stored { out.new ≡ put at (decimal n) out.old }
 {
     let count = decimal_len(n);
-    let mut i = count - 1;
     let mut rest = n;
-    while 10 <= rest {
+    for i in (0..count).rev() {
         put_digit(out, at, i, rest % 10);
-        rest = rest / 10;
-        i -= 1;
+        rest /= 10;
     }
-    put_digit(out, at, i, rest);
     count
 }

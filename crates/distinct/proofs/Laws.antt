@@ -1,12 +1,16 @@
 -- Laws of `index_of`, `with_new`, `up_to` and `numbers_from`.
 use Prim.Native.Nat.{ℕ, zero, suc, ◌+◌, ◌≤◌, ◌<◌}
 use native.Mathlib.Omega.{arith}
+use native.Mathlib.Numerals.{one-add}
 use mathlib.Core.Path.{◌≡◌, refl, sym, ap, ◌∙◌}
 use mathlib.Core.Bool.{Bool, true, false, cond}
 use mathlib.Core.List.{List, [], ◌∷◌, ◌++◌}
-use lib.ListN.{length, get_or, take, length-append}
-use lib.Seq.{get_or-take, length-take-le}
-use lib.Dec.{leb, eqb}
+use lib.ListN.{length, get_or, length-append}
+use lib.Dec.{leb, eqb, ltb}
+use Rattle.std.specs.List.{position, position_or_len}
+use Rattle.std.specs.Option.{unwrap_or}
+use Rattle.std.specs.declared.option.Option.TheVariants.{None, Some}
+use Rattle.std.proofs.lemmas.List.Recursion.{is_position_or_len}
 use borrow.Author.Tests.{le-leb, lt-leb, leb-true, ltb-false, eq-eqb, ne_eqb}
 use Rattle.distinct.specs.Distinct.{index_of, is_in, with_new, distinct_from}
 use Rattle.distinct.specs.Numbers.{up_to, numbers_from}
@@ -30,16 +34,10 @@ index_none (y ∷ l) x never =
     let rest : index_of l x ≡ length l = index_none l x (λ j q. never (suc j) (omega arith)) in
     simp (ne_eqb y x (never zero (omega arith)), rest)
 
--- the same of the first n of a longer list
-module _ (l : List ℕ) (n x : ℕ) where
-  pub first_at : (i : ℕ) → n ≤ length l → i < n → get_or l i 0 ≡ x → ((j : ℕ) → j < i → get_or l j 0 ≡ x → ⊥) → index_of (take n l) x ≡ i
-  first_at i long h e before =
-      index_at (take n l) x i (omega (arith, length-take-le n l long)) (get_or-take n l i 0 h ∙ e) (λ j q f. before j q (sym (get_or-take n l j 0 (omega arith)) ∙ f))
-
-  pub first_none : n ≤ length l → ((j : ℕ) → j < n → get_or l j 0 ≡ x → ⊥) → index_of (take n l) x ≡ n
-  first_none long none =
-      let size : length (take n l) ≡ n = length-take-le n l long in
-      index_none (take n l) x (λ j q f. none j (omega arith) (sym (get_or-take n l j 0 (omega arith)) ∙ f)) ∙ size
+-- it is where the library's search ends
+pub index_found : (l : List ℕ) (x : ℕ) → index_of l x ≡ position_or_len (λ y. eqb y x) l
+unfolding index_of
+index_found l x = is_position_or_len (λ m. index_of m x) (λ y. eqb y x) refl (λ y m. ap (cond (eqb y x) 0) (sym (one-add (index_of m x)))) l
 
 step_le : (s : Bool) {m k : ℕ} → m ≤ k → cond s 0 (suc m) ≤ suc k
 step_le true q = omega arith
@@ -57,6 +55,15 @@ pub index_most : (l : List ℕ) (x : ℕ) → index_of l x ≤ length l
 unfolding index_of
 index_most [] x = omega arith
 index_most (y ∷ l) x = step_le (eqb y x) (index_most l x)
+
+module _ (l : List ℕ) (x : ℕ) where
+  -- it is found there, or the length is told
+  pub found_or : {r : ℕ} → r ≡ unwrap_or (position (λ y. eqb y x) l) (length l) → r ≡ index_of l x
+  found_or {r} e = by (ltb (position_or_len (λ y. eqb y x) l) (length l)) refl e
+    where
+      by : (s : Bool) → ltb (position_or_len (λ y. eqb y x) l) (length l) ≡ s → r ≡ unwrap_or (cond s (Some (position_or_len (λ y. eqb y x) l)) None) (length l) → r ≡ index_of l x
+      by true t q = q ∙ sym (index_found l x)
+      by false t q = q ∙ omega (arith, index_found l x, index_most l x, ltb-false (position_or_len (λ y. eqb y x) l) (length l) t)
 
 -- ---- with_new
 

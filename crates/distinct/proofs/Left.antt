@@ -8,8 +8,9 @@ use mathlib.Core.List.{List, [], ◌∷◌, ◌++◌, append_assoc, append-nil}
 use lib.ListN.{length, get_or, set, take, drop, length-set, take-append-drop}
 use lib.Seq.{drop-cons, take-suc-set, drop-set-lt, drop-length, drop-drop}
 use lib.Dec.{leb}
+use Rattle.std.specs.declared.option.Option.TheVariants.{None, Some}
 use Rattle.distinct.specs.Distinct.{index_of, with_new, distinct_from}
-use Rattle.distinct.specs.Numbers.{numbers_from, nowhere, from, excess_from}
+use Rattle.distinct.specs.Numbers.{numbers_from, excess_from}
 
 -- lists that are equal from a on are equal from further on
 pub drop_more : (a e : ℕ) → a ≤ e → (l r : List ℕ) → drop a l ≡ drop a r → drop e l ≡ drop e r
@@ -47,7 +48,7 @@ module _ (most : ℕ) (l₀ xs o₀ l o : List ℕ) (i x : ℕ) (g : Left most l
   }
 
   -- there is none
-  pub left_over : leb (length (with_new l x)) most ≡ false → excess_from most l₀ 0 xs ≡ from i
+  pub left_over : leb (length (with_new l x)) most ≡ false → excess_from most l₀ 0 xs ≡ Some i
   unfolding excess_from
   left_over full = sym g.excess ∙ rw (more, full)
 
@@ -56,7 +57,7 @@ module _ (most : ℕ) (l₀ xs o₀ l o : List ℕ) (i : ℕ) (g : Left most l�
   none : drop i xs ≡ []
   none = rw e (drop-length xs)
 
-  pub done_excess : excess_from most l₀ 0 xs ≡ nowhere
+  pub done_excess : excess_from most l₀ 0 xs ≡ None
   unfolding excess_from
   done_excess = sym g.excess ∙ rw none
 

@@ -1,5 +1,5 @@
 -- The laws of little-endian numbers, each over every width.
-use mathlib.Core.Path.{◌≡◌, refl, ◌∙◌, ap}
+use mathlib.Core.Path.{◌≡◌, refl, sym, ◌∙◌, ap}
 use mathlib.Core.List.{List, [], ◌∷◌, ◌++◌, append_assoc}
 use Prim.Native.Nat.{ℕ, zero, suc, ◌+◌, ◌*◌, ◌/◌, ◌%◌, ◌^◌, ◌≤◌, ◌<◌}
 use native.Mathlib.Nat.{zero-add, add-zero, suc-add, one-mul, mul-zero, mul-suc, mul_comm, mul_assoc, pow-suc, pow-succ', div-one, div-div-eq-div-mul, div-lt_iff_lt-mul, one-le-pow, add-mul-mod_self_left, add-mul-div_left}
@@ -9,6 +9,7 @@ use lib.Arith.{mod-mul, digits_div, digits_mod}
 use lib.Dec.{lit<}
 use lib.ListN.{length, length-append, get_or, take, drop, get_or-eq_default}
 use lib.Seq.{drop-cons}
+use Rattle.std.specs.Int.{sum_through, byte_worth}
 use Rattle.fields.specs.Bytes.{le_at, le_bytes, les, zeros, cat}
 
 -- ---- a number that is read
@@ -40,6 +41,19 @@ same (suc n) s i t j h =
         let ei : i + 1 + k ≡ i + suc k = omega arith in
         let ej : j + 1 + k ≡ j + suc k = omega arith in
         rw (ei, ej) (h (suc k) (omega arith))
+
+-- a number of one byte is the byte
+pub le_one : (s : List ℕ) (off : ℕ) → le_at 1 s off ≡ get_or s off 0
+unfolding le_at
+le_one s off = omega arith
+
+-- it is what std makes of its bytes
+pub low_first : (n : ℕ) (bs : List ℕ) → sum_through (λ i. byte_worth i (get_or bs i 0)) n ≡ le_at (suc n) bs 0
+low_first zero bs = sym (le_one bs 0)
+low_first (suc n) bs =
+    let next : le_at (suc n) bs 0 + get_or bs (suc n) 0 * 256 ^ suc n ≡ le_at (suc (suc n)) bs 0 =
+    rw (← add-one (suc n), join (suc n) 1 bs 0, le_one bs (0 + suc n), zero-add, mul_comm (256 ^ suc n) (get_or bs (suc n) 0)) in
+    ap (λ k. k + get_or bs (suc n) 0 * 256 ^ suc n) (low_first n bs) ∙ next
 
 -- n bytes make a number below 256 ^ n
 pub le_lt : (n : ℕ) (s : List ℕ) (off : ℕ) → ((k : ℕ) → get_or s k 0 < 256) → le_at n s off < 256 ^ n

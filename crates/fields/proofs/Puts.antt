@@ -6,7 +6,8 @@ use Prim.Native.Nat.{ℕ, zero, suc, ◌+◌, ◌-◌, ◌/◌, ◌%◌, ◌^◌
 use native.Mathlib.Nat.{zero-add, add-zero, add-suc, suc-add, not-suc-le-zero, le_of_suc-le-suc}
 use native.Mathlib.Numerals.{add-one}
 use native.Mathlib.Omega.{arith}
-use lib.ListN.{length, length-set, length-drop, take, drop, set, get_or}
+use lib.ListN.{length, length-set, length-drop, take, drop, set, get_or, take-append-drop}
+use borrow.Rule.Slice.PartMut.{put_mid, Post-is}
 use lib.Seq.{sets, set_out, get_or-set_same, get_or-set_other, ext_get_or, get_or-drop, take_all, length-take-le, drop_at}
 use Rattle.fields.specs.Bytes.{over, le_at, le_bytes, les}
 use Rattle.fields.specs.Put.{put}
@@ -109,6 +110,19 @@ put_eq (suc at) bs (x ∷ xs) h = rw suc-add (ap (λ (l : List ℕ). x ∷ l) (p
 pub put_whole : (bs xs : List ℕ) → length bs ≤ length xs → put 0 bs xs ≡ bs ++ drop (length bs) xs
 unfolding put
 put_whole bs xs h = over_eq bs xs h
+
+-- so a part of a slice is written
+pub put_part : (at e : ℕ) (bs xs : List ℕ) → at + length bs ≡ e → e ≤ length xs → put_mid at (e - at) xs bs ≡ put at bs xs
+put_part at e bs xs q h =
+    ap (λ (l : List ℕ). take at xs ++ (bs ++ l)) (Post-is at e xs (omega arith) ∙ ap (λ (k : ℕ). drop k xs) (sym q))
+    ∙ sym (append_assoc (take at xs) bs (drop (at + length bs) xs)) ∙ sym (put_eq at bs xs (omega arith))
+
+-- what has no room may be left out before
+pub put_most : (at n : ℕ) (bs xs : List ℕ) → n ≤ length bs → length xs ≤ at + n → put at (take n bs) xs ≡ put at bs xs
+put_most at n bs xs few full =
+    let l : length (take n bs) ≡ n = length-take-le n bs few in
+    sym (past_end (at + n) (drop n bs) (put at (take n bs) xs) (rw length_put full)) ∙ put_next n at (take n bs) (drop n bs) xs l
+    ∙ ap (λ (s : List ℕ). put at s xs) (take-append-drop n bs)
 
 -- what it leaves: each element before it and behind it
 pub before : (at : ℕ) (bs xs : List ℕ) (i : ℕ) → i < at → get_or (put at bs xs) i 0 ≡ get_or xs i 0

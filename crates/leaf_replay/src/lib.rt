@@ -9,7 +9,7 @@ ghost use Rattle.areas.specs.Areas.{seeded};
 ghost use Rattle.areas.specs.Tables.{stored};
 ghost use Rattle.leaf_replay.specs.Agreement.{short_of, back_of, floor_of, ceil_of, place_in, strip_number, strip_words, pick_number, pick_words, seams_number, seams_words, taking, AreasAgree, FirstThree, Agrees, record_of, LeafRecordInside};
 
-use areas::{AreaAnswer, Areas};
+use areas::Areas;
 use obj_replay::drawing_agrees;
 use reach_replay::walk_agrees;
 use replay::{end_of, word_or};
@@ -38,12 +38,7 @@ fn quarter_agrees(input: &[u32], output: &[u32]) -> bool
     ensures { result ≡ true → (floor_of input.now ≡ get_or output.now 0 0) × (ceil_of input.now ≡ get_or output.now 1 0) }
 {
     let x = word(input, 0);
-    let floor = units::leaf_quarter(x, 0);
-    let low = word(output, 0);
-    if floor == low {
-        return units::leaf_quarter(x, 1) == word(output, 1);
-    }
-    false
+    units::leaf_quarter(x, 0) == word(output, 0) && units::leaf_quarter(x, 1) == word(output, 1)
 }
 
 fn place_agrees(input: &[u32], output: &[u32]) -> bool
@@ -86,29 +81,15 @@ fn seams_agree(input: &[u32], output: &[u32]) -> bool
 fn answer_agrees(number: u32, answer: &[u64; 8], output: &[u32]) -> bool
     ensures { result ≡ true → (number ≡ get_or output.now 0 0) × FirstThree answer.now output.now }
 {
-    let first = word(output, 0);
-    if number == first {
-        return counts_agree(answer, output);
-    }
-    false
+    number == word(output, 0) && counts_agree(answer, output)
 }
 
 fn counts_agree(answer: &[u64; 8], output: &[u32]) -> bool
     ensures { result ≡ true → FirstThree answer.now output.now }
 {
-    let polys = word(output, 1) as u64;
-    let portals = word(output, 2) as u64;
-    let points = word(output, 3) as u64;
-    let a = answer[0];
-    let b = answer[1];
-    let c = answer[2];
-    if a != polys {
-        return false;
-    }
-    if b != portals {
-        return false;
-    }
-    c == points
+    answer[0] == u64::from(word(output, 1))
+        && answer[1] == u64::from(word(output, 2))
+        && answer[2] == u64::from(word(output, 3))
 }
 
 // The table after as many ids as are taken before a 33rd area, and how many these are.
@@ -122,17 +103,11 @@ fn take_areas(input: &[u32]) -> Taken
     ensures { result ≡ taking (stored (seeded (get_or input.now 0 0)) (zeros 32)) 0 (drop 1 input.now) }
 {
     let mut t = areas::seed_areas(word(input, 0));
-    let mut i = 1;
-    while i < input.len() {
+    for i in 1..input.len() {
         let e = areas::ensure_area(t, input[i]);
-        let at = e.at;
-        match at {
-            AreaAnswer::At(_) => {
-                let next = e.areas;
-                t = next;
-                i += 1;
-            }
-            AreaAnswer::Full => {
+        match e.at {
+            Some(_) => t = e.areas,
+            None => {
                 return Taken {
                     areas: t,
                     count: i - 1,
@@ -142,21 +117,19 @@ fn take_areas(input: &[u32]) -> Taken
     }
     Taken {
         areas: t,
-        count: i - 1,
+        count: input.len().saturating_sub(1),
     }
 }
 
 fn ids_agree(ids: &[u32; 32], output: &[u32]) -> bool
     ensures { result ≡ true → ((k : ℕ) → k < 32 → get_or ids.now k 0 ≡ get_or output.now (k + 2) 0) }
 {
-    let mut k = 0;
-    while k < 32 {
+    for k in 0..32 {
         let expected = word(output, k + 2);
         let found = ids[k];
         if found != expected {
             return false;
         }
-        k += 1;
     }
     true
 }
@@ -168,14 +141,8 @@ fn areas_agree(input: &[u32], output: &[u32]) -> bool
     let t = r.areas;
     let count = word(output, 0) as usize;
     let len = word(output, 1) as usize;
-    if r.count != count {
-        return false;
-    }
-    if t.len != len {
-        return false;
-    }
     let ids = t.ids;
-    ids_agree(&ids, output)
+    r.count == count && t.len == len && ids_agree(&ids, output)
 }
 
 // Whether a record agrees. One of another tag doesn't.

@@ -1,16 +1,24 @@
--- The laws of `specs/MinMax.antt`, over the order: what each arm of the code returns is picked, two results agree but for a zero's sign, and what is picked next does not turn on that sign. Assumes nothing.
-use Rattle.std.proofs.Common.{◌≡◌, zero, suc, Bool, true, false, cond, not, T, sym, refl, ap, ◌∙◌, subst, inl, inr}
-use lib.Ieee.{Float, nan, inf, fin, Format, ne, is_nan, fits}
-use lib.Ieee.Compare.{differs_from_itself}
+-- The laws of `specs/MinMax.antt`, over the order: what std and `chosen` choose is picked, two results agree but for a zero's sign, and what is picked next does not turn on that sign. Assumes nothing.
+use Rattle.std.proofs.Common.{◌≡◌, zero, suc, Bool, true, false, cond, not, T, sym, refl, ap, ◌∙◌, subst, ◌⊎◌, inl, inr}
+use lib.Ieee.{Float, nan, inf, fin, Format, is_nan, fits}
 use Rattle.math.specs.MinMax.{chosen}
 use Rattle.math.specs.Picked.{Picked, plain}
-use Rattle.math.proofs.Whole.{is_nan_lem, same_no_nan}
+use Rattle.math.proofs.Whole.{is_nan_lem}
 use Rattle.math.proofs.Order.{Order}
 
-nan_differs : (x : Float) → ne x x ≡ true → T (is_nan x)
-unfolding is_nan
-nan_differs x h = rw (differs_from_itself x (subst T (sym h) tt)) tt
+-- ---- what a choice of std's between a and b is: one of the two
+choice : (t : Bool) (a b r : Float) → r ≡ cond t a b → (r ≡ a) ⊎ (r ≡ b)
+choice true a b r e = inl e
+choice false a b r e = inr e
 
+other_choice : (t : Bool) (a b r : Float) → r ≡ cond t b a → (r ≡ a) ⊎ (r ≡ b)
+other_choice true a b r e = inr e
+other_choice false a b r e = inl e
+
+pub either_choice : (t u : Bool) (a b r : Float) → (r ≡ cond t b a) ⊎ (r ≡ cond u a b) → (r ≡ a) ⊎ (r ≡ b)
+either_choice t u a b r h = elim h [ inl e ↦ other_choice t a b r e | inr e ↦ choice u a b r e ]
+
+-- ---- NaN or a number
 not_both : (b : Bool) → T b → T (not b) → ⊥
 not_both true t f = f
 not_both false t f = t
@@ -35,23 +43,13 @@ plain_plain (fin s zero e) = refl
 plain_plain (fin s (suc m) e) = refl
 
 module _ {before under : Float → Float → Bool} (o : Order before under) (a b : Float) where
-  -- ---- the arms of `f32_min` and `f32_max`
-  pub over_nan : ne a a ≡ true → Picked under a b b
-  over_nan h = record { picked = inr refl; left = λ t. absurd (not_both (is_nan a) (nan_differs a h) t); right = o.self b }
-
-  pub over : before b a ≡ true → Picked under a b b
-  over h = record { picked = inr refl; left = λ t. o.weak b a h; right = o.self b }
-
-  pub stays : ne a a ≡ false → before b a ≡ false → Picked under a b a
-  stays h k = record { picked = inl refl; left = o.self a; right = λ t. o.total a b (same_no_nan a h) t k }
-
-  -- ---- and of `first`
+  -- ---- what `chosen` chooses is picked
   pub picks : Picked under a b (chosen before a b)
   picks = go (is_nan a) refl (before b a) refl
     where
       go : (n : Bool) → is_nan a ≡ n → (c : Bool) → before b a ≡ c → Picked under a b (cond n b (cond c b a))
       go true p c q = record { picked = inr refl; left = λ t. absurd (no_number a p t); right = o.self b }
-      go false p true q = over q
+      go false p true q = record { picked = inr refl; left = λ t. o.weak b a q; right = o.self b }
       go false p false q = record { picked = inl refl; left = o.self a; right = λ t. o.total a b (is_number a p) t q }
 
   -- ---- what is picked fits, and is known but for a zero's sign

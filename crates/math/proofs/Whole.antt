@@ -1,6 +1,6 @@
 -- What a float is cut to, from any fraction that it equals. Assumes nothing.
-use Rattle.std.proofs.Common.{◌≡◌, ℕ, ◌+◌, ◌-◌, ◌*◌, ◌/◌, ◌^◌, ◌<◌, ◌≤◌, min, true, false, not, T, pos, sym, refl, ap, true≢false, mul-pos, lt_of_not-le, le-div_iff_mul-le, not-le_of_lt, arith, pow_pos, ltb-false, ltb-true}
-use lib.Ieee.{Float, nan, inf, fin, up, down, lt, ne, is_nan, to_unsigned}
+use Rattle.std.proofs.Common.{◌≡◌, ℕ, ◌-◌, ◌*◌, ◌/◌, ◌^◌, ◌<◌, ◌≤◌, min, true, false, sym, refl, ap, true≢false, lt_of_not-le, not-le_of_lt, ltb-false, ltb-true}
+use lib.Ieee.{Float, nan, inf, fin, up, down, lt, is_nan, to_unsigned}
 use lib.Ieee.Fits.{down_pos}
 use lib.Ieee.Exact.{HasValue}
 use lib.Ieee.Nearest.{div_same}
@@ -13,40 +13,7 @@ is_nan_lem nan h = refl
 is_nan_lem (inf s) h = absurd (true≢false (sym h))
 is_nan_lem (fin s m e) h = absurd (true≢false (sym h))
 
-pub same_no_nan : (x : Float) → ne x x ≡ false → T (not (is_nan x))
-unfolding ne is_nan
-same_no_nan nan h = absurd (true≢false h)
-same_no_nan (inf s) h = tt
-same_no_nan (fin s m e) h = tt
-
--- `Ieee.to_unsigned`, Rust's `as`, at each end of the range: at -1 and below, and at 2 ^ w and above
-abbrev pub minus_one : Float
-minus_one = fin true 1 (pos 0)
-
-abbrev pub two_to : ℕ → Float
-two_to w = fin false 1 (pos w)
-
-pub cut_under : (w : ℕ) (x : Float) → lt minus_one x ≡ false → to_unsigned w x ≡ 0
-unfolding lt to_unsigned
-cut_under w nan h = refl
-cut_under w (inf true) h = refl
-cut_under w (inf false) h = absurd (true≢false h)
-cut_under w (fin true m e) h = refl
-cut_under w (fin false m e) h =
-    absurd (omega (arith, down_pos e, ltb-false 0 (1 * down e + m * up e * 1) h))
-
-pub cut_over : (w : ℕ) (x : Float) → lt minus_one x ≡ true → lt x (two_to w) ≡ false → to_unsigned w x ≡ 2 ^ w - 1
-unfolding lt to_unsigned
-cut_over w nan h k = absurd (true≢false (sym h))
-cut_over w (inf true) h k = absurd (true≢false (sym h))
-cut_over w (inf false) h k = refl
-cut_over w (fin true m e) h k =
-    absurd (omega (arith, mul-pos (pow_pos w) (down_pos e), ltb-false 0 (m * up e * 1 + 1 * 2 ^ w * down e) k))
-cut_over w (fin false m e) h k =
-    let le : 2 ^ w * down e ≤ m * up e = omega (arith, ltb-false (m * up e * 1) (1 * 2 ^ w * down e) k) in
-    omega (arith, (le-div_iff_mul-le (down_pos e)).1 le)
-
--- between them it is the whole part of any fraction that x equals
+-- `Ieee.to_unsigned`, Rust's `as`, of an x that is not negative: the whole part of any fraction that x equals, cut to the range
 pub cut_value : (w : ℕ) (x : Float) (a c : ℕ) → 0 < c → HasValue x false a c → to_unsigned w x ≡ min (a / c) (2 ^ w - 1)
 unfolding to_unsigned
 cut_value w nan a c p v = absurd v

@@ -9,11 +9,13 @@ use native.Mathlib.Omega.{arith}
 use borrow.Author.Tests.{leb-true, leb-false}
 use lib.Dec.{leb, lit≤}
 use lib.ListN.{length, length-append}
+use Rattle.strip.specs.Reasons.{reason_number}
+use Rattle.std.specs.Prelude.{Result, Err, Option, Some, None}
 use Rattle.strip.specs.Cell.{NavPoly, Cell, vec_words, edge_words, each, polygon_head_as, polygon_words_as, polygon_words, plain, encode}
 use Rattle.strip.specs.Fits.{All}
 use Rattle.strip.specs.Box.{finite_box}
 use Rattle.strip.specs.Scan.{Scanned, ok, fault, scan}
-use Rattle.strip.specs.Outcome.{Outcome, refused, done, shown, refusal_of}
+use Rattle.strip.specs.Outcome.{Outcome, refused, done, shown, refusal_of, paper}
 use Rattle.strip.specs.Check.{on_cell}
 use Rattle.strip.specs.declared.Refusal.{Refusal}
 use Rattle.strip.proofs.Faults as Faults
@@ -21,7 +23,7 @@ use Rattle.strip.proofs.Faults.{scan_fault}
 use Rattle.strip.proofs.Exact.{scan_fits}
 use Rattle.strip.proofs.Plain.{length_each, length_encode}
 use Rattle.strip_parts.specs.Boxed.{on_box}
-use Rattle.picking.specs.Picking.{Found, found, none, first_from}
+use Rattle.picking.specs.Picking.{first_from}
 use Rattle.picking.specs.Answers.{OnCell, ThreeOrTen, Lowest}
 use Rattle.picking.proofs.Theorems.{first_lowest, first_none}
 use Rattle.obj_text.specs.Text.{obj_text}
@@ -29,9 +31,7 @@ use Rattle.obj_text.specs.Counts.{vertex_count}
 use Rattle.obj_room.specs.Thin.{is_thin}
 use Rattle.obj.specs.Room.{obj_room}
 use Rattle.obj_room.proofs.Lengths.{text_most}
-use Rattle.obj.specs.declared.ObjAnswer.{ObjAnswer}
-use Rattle.obj.specs.declared.ObjAnswer.TheVariants.{Refused}
-use Rattle.obj.specs.Obj.{unless_thin, with_room, drawn, obj_outcome, paper}
+use Rattle.obj.specs.Obj.{unless_thin, with_room, drawn, obj_outcome}
 
 -- ---- which refusals there are, and where
 
@@ -60,9 +60,9 @@ module _ (strip : List ℕ) (room : ℕ) where
   on_room c e f a true l = (c, e, f, (a, leb-true _ _ l, refl, refl))
   on_room c e f a false l = inr (inr (refl, refl, (c, e, f, (a, leb-false _ _ l))))
 
-  on_thin : (c : Cell) → scan strip ≡ ok c → finite_box c.head ≡ true → (t : Found) → first_from is_thin 0 c.polys ≡ t → Decided (unless_thin t (with_room room (obj_text c)))
-  on_thin c e f (found k) g = inr (inl (refl, (c, e, f, (first_lowest is_thin k c.polys).0 g)))
-  on_thin c e f none g = on_room c e f ((first_none is_thin c.polys).0 g) (leb (length (obj_text c)) room) refl
+  on_thin : (c : Cell) → scan strip ≡ ok c → finite_box c.head ≡ true → (t : Option ℕ) → first_from is_thin 0 c.polys ≡ t → Decided (unless_thin t (with_room room (obj_text c)))
+  on_thin c e f (Some k) g = inr (inl (refl, (c, e, f, (first_lowest is_thin k c.polys).0 g)))
+  on_thin c e f None g = on_room c e f ((first_none is_thin c.polys).0 g) (leb (length (obj_text c)) room) refl
 
   on_cell_lem : (d : Scanned) → scan strip ≡ d → Decided (on_cell (on_box (λ c. drawn room c.head c.polys)) d)
   unfolding drawn
@@ -90,12 +90,12 @@ module _ (strip : List ℕ) (room : ℕ) where
       (refused_named number place e)
 
   -- of the call, by its promise
-  is_refused : (o : Outcome ℕ) (f : Refusal) → refusal_of f ≡ shown o → o ≡ refused f.number f.place
+  is_refused : (o : Outcome ℕ) (f : Refusal) → refusal_of f ≡ shown o → o ≡ refused (reason_number f.reason) f.place
   is_refused (refused number place) f e = cc
   is_refused (done n text) f e = let z : ◌≡◌ {A = ℕ} 0 1 = cc in absurd (omega arith)
 
-  pub refuses : (r : ObjAnswer) → paper r ≡ shown (obj_outcome strip room) → (f : Refusal) → r ≡ Refused f → Refusals f.number f.place
-  refuses r promise f e = refused_named f.number f.place (is_refused (obj_outcome strip room) f (sym (ap paper e) ∙ promise))
+  pub refuses : (r : Result ℕ Refusal) → paper r ≡ shown (obj_outcome strip room) → (f : Refusal) → r ≡ Err f → Refusals (reason_number f.reason) f.place
+  refuses r promise f e = refused_named (reason_number f.reason) f.place (is_refused (obj_outcome strip room) f (sym (ap paper e) ∙ promise))
 
 -- ---- room to lend: 14 bytes for each word of the strip
 

@@ -13,7 +13,7 @@ fn digit(d: u32) -> u8
     requires { d < 10 }
     ensures { result ≡ 48 + d }
 {
-    48 + (d as u8)
+    b'0' + (d as u8)
 }
 
 // Two digits of n, the first of them 0 where n is below 10.

@@ -9,7 +9,6 @@ ghost use Rattle.obj.specs.Obj.{obj_outcome};
 ghost use Rattle.obj_entry.specs.Entries.{obj_words};
 
 use answers::{accept, refuse};
-use obj::ObjAnswer;
 
 // The bytes of the text.
 pub fn obj_entry(strip: &[u32], text: &mut [u8], answer: &mut [u64; 8]) -> u32
@@ -18,7 +17,7 @@ pub fn obj_entry(strip: &[u32], text: &mut [u8], answer: &mut [u64; 8]) -> u32
     ensures text { text.new ≡ left (obj_outcome strip.now (length text.old)) text.old }
 {
     match obj::export_obj(strip, text) {
-        ObjAnswer::Exported(n) => accept(answer, &[n as u64]),
-        ObjAnswer::Refused(r) => refuse(answer, r),
+        Ok(n) => accept(answer, &[n as u64]),
+        Err(r) => refuse(answer, r),
     }
 }

@@ -8,12 +8,12 @@ use lib.Dec.{leb}
 use lib.ListN.{length}
 use Rattle.decimal.specs.Text.{decimal}
 use Rattle.decimal.proofs.Decimal.{some_digit, length_below, length_above}
-use Rattle.strip.specs.Tests.{one_if}
+use Rattle.std.specs.Int.{from_bool}
 use Rattle.obj_lines.proofs.Lengths.{short_digits}
 
 -- 1 where n is so much or more
 abbrev pub reached : (bound n : ℕ) → ℕ
-reached bound n = one_if (leb bound n)
+reached bound n = from_bool (leb bound n)
 
 pub not_reached : (bound n : ℕ) → n < bound → reached bound n ≡ 0
 not_reached bound n h = rw (lt-leb bound n h)

@@ -45,6 +45,10 @@ vertex_most bb-min bb-size v = shorts_most (shorts (floats v) bb-min bb-size) (s
 pub spaced_step : (n : ℕ) {at r : ℕ} {old new : List ℕ} → Stored at (spaced n) old new r → (r ≡ at + 1 + length (decimal n)) × (length new ≡ length old)
 spaced_step n s = (omega (arith, s.place, spaced_length n), kept s)
 
+-- the number in other words
+pub of_number : {m n at r : ℕ} {old new : List ℕ} → m ≡ n → Stored at (spaced m) old new r → Stored at (spaced n) old new r
+of_number e s = rw (← e) s
+
 -- the place of a text in other words
 pub moved : {at at' n : ℕ} {text old new : List ℕ} → at ≡ at' → Stored at' text old new n → Stored at text old new n
 moved e s = rw e s

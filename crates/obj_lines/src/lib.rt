@@ -6,9 +6,9 @@ ghost use Rattle.decimal.specs.Stored.{Stored};
 ghost use Rattle.strip.specs.Reading.{vec_at};
 ghost use Rattle.obj_lines.specs.Lines.{shorts_line, vertex_line, consecutive, face_line};
 
-use math::vec3::{Vec3, floats_at};
+use math::vec3::floats_at;
 use obj_digits::put_spaced;
-use quantise::short::Shorts;
+use quantise::short::{Frame, Shorts};
 
 // The line of three shorts.
 fn put_shorts(text: &mut [u8], at: usize, q: Shorts) -> usize
@@ -16,28 +16,20 @@ fn put_shorts(text: &mut [u8], at: usize, q: Shorts) -> usize
     ensures { Stored at (shorts_line q) text.old text.new result }
 {
     text[at] = b'v';
-    let x = put_spaced(text, at + 1, q.x as u64);
-    let y = put_spaced(text, x, q.y as u64);
-    let z = put_spaced(text, y, q.z as u64);
+    let x = put_spaced(text, at + 1, u64::from(q.x));
+    let y = put_spaced(text, x, u64::from(q.y));
+    let z = put_spaced(text, y, u64::from(q.z));
     text[z] = b'\n';
     z + 1
 }
 
 // The line of the vertex whose words stand at `place`.
-pub fn put_vertex(
-    text: &mut [u8],
-    at: usize,
-    strip: &[u32],
-    place: usize,
-    bb_min: Vec3,
-    bb_size: Vec3,
-) -> usize
-    requires { (place + 3 ≤ length strip.now) × (at + length (vertex_line bb_min bb_size (vec_at strip.now place)) ≤ length text.old) }
-    ensures { Stored at (vertex_line bb_min bb_size (vec_at strip.now place)) text.old text.new result }
+pub fn put_vertex(text: &mut [u8], at: usize, strip: &[u32], place: usize, frame: Frame) -> usize
+    requires { (place + 3 ≤ length strip.now) × (at + length (vertex_line frame.bb_min frame.bb_size (vec_at strip.now place)) ≤ length text.old) }
+    ensures { Stored at (vertex_line frame.bb_min frame.bb_size (vec_at strip.now place)) text.old text.new result }
 {
     let v = floats_at(strip, place);
-    let q = quantise::short::shorts_of(v, bb_min, bb_size);
-    put_shorts(text, at, q)
+    put_shorts(text, at, frame.shorts_of(v))
 }
 
 // The line of a polygon of n vertices, the first of them number `first` of the text.
@@ -47,10 +39,8 @@ pub fn put_face(text: &mut [u8], at: usize, first: usize, n: usize) -> usize
 {
     text[at] = b'f';
     let mut to = at + 1;
-    let mut number = first;
-    for i in 0..n {
+    for number in first..first + n {
         to = put_spaced(text, to, number as u64);
-        number += 1;
     }
     text[to] = b'\n';
     to + 1

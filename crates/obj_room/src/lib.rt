@@ -12,30 +12,22 @@ ghost use Rattle.obj_room.specs.Tally.{Tells};
 use obj_length::measure;
 use strip::poly_at;
 
-// What a pass over the polygons' first words tells: the first one with fewer than 3 vertices, or how many vertices there are.
-#[derive(Clone, Copy)]
-pub enum Tally {
-    Thin(usize),
-    Vertices(usize),
-}
-
-// The pass over the first n polygons.
-pub fn tally_polygons(strip: &[u32], n: usize) -> Tally
+// A pass over the first words of the first n polygons: how many vertices they have, or the number of the first one with fewer than 3.
+pub fn tally_polygons(strip: &[u32], n: usize) -> Result<usize, usize>
     requires { after_polygons strip.now 14 n ≤ length strip.now }
     ensures { Tells (polygons_at strip.now 14 n) result }
 {
-    let mut count: usize = 0;
-    let mut at: usize = 14;
+    let mut count = 0;
+    let mut at = 14;
     for i in 0..n {
         let p = poly_at(strip, at);
-        let vertices = p.vertices;
-        if vertices < 3 {
-            return Tally::Thin(i);
+        if p.vertices < 3 {
+            return Err(i);
         }
-        count += vertices;
+        count += p.vertices;
         at = p.next;
     }
-    Tally::Vertices(count)
+    Ok(count)
 }
 
 // Whether room is lent for any text of so many vertices and polygons. A vertex's line has 20 bytes at most, its number and the space 7 below a
@@ -43,16 +35,7 @@ pub fn tally_polygons(strip: &[u32], n: usize) -> Tally
 fn is_ample(vertices: usize, polys: usize, room: usize) -> bool
     ensures { result ≡ true → (vertices < 1000000) × (27 * vertices + 2 * polys ≤ room) }
 {
-    if 1000000 <= vertices {
-        return false;
-    }
-    if 1000000 <= polys {
-        return false;
-    }
-    if room < 27 * vertices + 2 * polys {
-        return false;
-    }
-    true
+    vertices < 1_000_000 && polys < 1_000_000 && 27 * vertices + 2 * polys <= room
 }
 
 // Whether the text has room. `vertices` are those of the n polygons. It is measured only where the counts leave it open.
@@ -60,11 +43,5 @@ pub fn fits(strip: &[u32], n: usize, vertices: usize, room: usize) -> bool
     requires { (14 ≤ length strip.now) × (after_polygons strip.now 14 n ≤ length strip.now) × (vertices ≡ vertex_count (polygons_at strip.now 14 n)) × (room < last) }
     ensures { result ≡ leb (length (text_of (head_at strip.now 0) (polygons_at strip.now 14 n))) room }
 {
-    if is_ample(vertices, n, room) {
-        return true;
-    }
-    if room < measure(strip, n, vertices) {
-        return false;
-    }
-    true
+    is_ample(vertices, n, room) || measure(strip, n, vertices) <= room
 }

@@ -10,8 +10,8 @@ ghost use Rattle.obj_lines.specs.Lines.{vertex_line};
 ghost use Rattle.obj_text.specs.Text.{vertex_lines, face_lines, text_of};
 
 use cell_record::record_at;
-use math::vec3::Vec3;
 use obj_lines::{put_face, put_vertex};
+use quantise::short::Frame;
 use strip::poly_at;
 
 // The lines of n vertices from `from` on.
@@ -21,33 +21,28 @@ fn put_vertices(
     strip: &[u32],
     from: usize,
     n: usize,
-    bb_min: Vec3,
-    bb_size: Vec3,
+    frame: Frame,
 ) -> usize
-    requires { (from + 3 * n ≤ length strip.now) × (at + length (each (vertex_line bb_min bb_size) (vecs_at strip.now from n)) ≤ length text.old) }
-    ensures { Stored at (each (vertex_line bb_min bb_size) (vecs_at strip.now from n)) text.old text.new result }
+    requires { (from + 3 * n ≤ length strip.now) × (at + length (each (vertex_line frame.bb_min frame.bb_size) (vecs_at strip.now from n)) ≤ length text.old) }
+    ensures { Stored at (each (vertex_line frame.bb_min frame.bb_size) (vecs_at strip.now from n)) text.old text.new result }
 {
     let mut to = at;
-    let mut place = from;
     for i in 0..n {
-        to = put_vertex(text, to, strip, place, bb_min, bb_size);
-        place += 3;
+        to = put_vertex(text, to, strip, from + 3 * i, frame);
     }
     to
 }
 
 // The vertex lines of the first n polygons.
-fn put_polygons(text: &mut [u8], strip: &[u32], n: usize, bb_min: Vec3, bb_size: Vec3) -> usize
-    requires { (after_polygons strip.now 14 n ≤ length strip.now) × (length (each (vertex_lines bb_min bb_size) (polygons_at strip.now 14 n)) ≤ length text.old) }
-    ensures { Stored 0 (each (vertex_lines bb_min bb_size) (polygons_at strip.now 14 n)) text.old text.new result }
+fn put_polygons(text: &mut [u8], strip: &[u32], n: usize, frame: Frame) -> usize
+    requires { (after_polygons strip.now 14 n ≤ length strip.now) × (length (each (vertex_lines frame.bb_min frame.bb_size) (polygons_at strip.now 14 n)) ≤ length text.old) }
+    ensures { Stored 0 (each (vertex_lines frame.bb_min frame.bb_size) (polygons_at strip.now 14 n)) text.old text.new result }
 {
-    let mut to: usize = 0;
-    let mut at: usize = 14;
-    for i in 0..n {
+    let mut to = 0;
+    let mut at = 14;
+    for _ in 0..n {
         let p = poly_at(strip, at);
-        let from = p.vertex_at;
-        let vertices = p.vertices;
-        to = put_vertices(text, to, strip, from, vertices, bb_min, bb_size);
+        to = put_vertices(text, to, strip, p.vertex_at, p.vertices, frame);
         at = p.next;
     }
     to
@@ -59,13 +54,12 @@ fn put_faces(text: &mut [u8], start: usize, strip: &[u32], n: usize) -> usize
     ensures { Stored start (face_lines 1 (polygons_at strip.now 14 n)) text.old text.new result }
 {
     let mut to = start;
-    let mut at: usize = 14;
-    let mut number: usize = 1;
-    for i in 0..n {
+    let mut at = 14;
+    let mut number = 1;
+    for _ in 0..n {
         let p = poly_at(strip, at);
-        let vertices = p.vertices;
-        to = put_face(text, to, number, vertices);
-        number += vertices;
+        to = put_face(text, to, number, p.vertices);
+        number += p.vertices;
         at = p.next;
     }
     to
@@ -77,8 +71,6 @@ pub fn put_obj(text: &mut [u8], strip: &[u32], n: usize) -> usize
     ensures { Stored 0 (text_of (head_at strip.now 0) (polygons_at strip.now 14 n)) text.old text.new result }
 {
     let cell = record_at(strip);
-    let bb_min = cell.bb_min;
-    let bb_size = cell.bb_size;
-    let to = put_polygons(text, strip, n, bb_min, bb_size);
+    let to = put_polygons(text, strip, n, cell.frame());
     put_faces(text, to, strip, n)
 }

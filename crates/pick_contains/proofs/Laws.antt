@@ -1,7 +1,8 @@
 -- Laws of the proofs: products and tests of numbers, what is left of a polygon's sides, and its last vertex. Assumes nothing.
 use Prim.Native.Nat.{ℕ, zero, suc, ◌+◌, ◌*◌, ◌-◌, ◌%◌, ◌^◌, ◌≤◌, ◌<◌}
-use mathlib.Core.Path.{◌≡◌, ap, sym, ◌∙◌}
-use mathlib.Core.Bool.{false}
+use mathlib.Core.Path.{◌≡◌, refl, ap, sym, ◌∙◌}
+use mathlib.Core.Bool.{Bool, true, false}
+use Rattle.std.specs.Int.{from_bool}
 use mathlib.Core.List.{List, map}
 use native.Mathlib.Omega.{arith}
 use native.Mathlib.Nat.{mul-le-mul}
@@ -25,14 +26,23 @@ same_test a b c d e = ltb_same a b c d (λ h. omega arith) (λ h. omega arith)
 pub same_place : {A : Type 0} (f : ℕ → A) {k : ℕ} (m : ℕ) {a : A} → a ≡ f k → k ≡ m → a ≡ f m
 same_place f m e p = e ∙ ap f p
 
+-- a test as a number, by std's word and by the definitions'
+one_byte : (b : Bool) → from_bool b ≡ one_if b
+one_byte true = refl
+one_byte false = refl
+
+pub one_most : (b : Bool) → from_bool b ≤ 1
+one_most true = omega arith
+one_most false = omega arith
+
 -- a polygon's vertices as spots
 module _ (spot : Vec3 → Spot) (ws : List ℕ) (s : Spot) where
   -- a turn of the loop over sides, and its end
   module _ (last : Spot) (place i n : ℕ) where
-    pub crossings_turn : i < n → (next : Spot) → next ≡ spot (vec_at ws place) → (k : ℕ) → k ≡ one_if (crossed s last next)
-        → crossings s last (map spot (vecs_at ws place (n - i))) ≡ k + crossings s next (map spot (vecs_at ws (place + 3) (n - (i + 1))))
+    pub crossings_turn : i < n → (next : Spot) → next ≡ spot (vec_at ws place) → (b : Bool) → b ≡ crossed s last next → (further : ℕ) → further ≡ place + 3
+        → crossings s last (map spot (vecs_at ws place (n - i))) ≡ from_bool b + crossings s next (map spot (vecs_at ws further (n - (i + 1))))
     unfolding crossings
-    crossings_turn h next e k m = rw (items_turn (vec_at ws) (λ x. x + 3) place i n h, m, e)
+    crossings_turn h next e b m further f = rw (items_turn (vec_at ws) (λ x. x + 3) place i n h, m, f, one_byte (crossed s last next), e)
 
     pub crossings_done : n ≤ i → crossings s last (map spot (vecs_at ws place (n - i))) ≡ 0
     unfolding crossings

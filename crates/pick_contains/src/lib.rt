@@ -4,7 +4,6 @@
 ghost use Rattle.std.specs.Prelude.{◌≡◌, map, ◌+◌, ◌*◌, ◌^◌, ◌≤◌, ◌<◌, length};
 ghost use Rattle.quantise.specs.Short.{short};
 ghost use Rattle.strip.specs.Reading.{word, vecs_at, polygon_of};
-ghost use Rattle.strip.specs.Tests.{one_if};
 ghost use Rattle.pick_contains.specs.Inside as Inside;
 ghost use Rattle.pick_contains.specs.Inside.{left_of, inside};
 ghost use Rattle.pick_contains.specs.Vertices.{short_on, spot_on, vertex_spot};
@@ -39,7 +38,7 @@ fn times(a: u16, b: u16) -> u64
     ensures product { result ≡ a * b }
     ensures bound { result < 2 ^ 32 }
 {
-    (a as u64) * (b as u64)
+    u64::from(a) * u64::from(b)
 }
 
 // Whether s is strictly left of the side at its height. Of the two ends only `high` is above s.
@@ -54,8 +53,7 @@ fn left_of(s: Spot, low: Spot, high: Spot) -> bool
 pub fn short_on(a: f32, axis: Axis) -> u16
     ensures { result ≡ short a axis.lo axis.extent }
 {
-    let made = quantise_axis(a, axis.lo, axis.extent);
-    made.q
+    quantise_axis(a, axis.lo, axis.extent).q
 }
 
 // The same of the coordinate whose bits stand at `at`.
@@ -101,24 +99,11 @@ fn crossed(strip: &[u32], s: Spot, a: Vertex, b: Vertex, x: Axis) -> bool
     requires { (a.at < length strip.now) × (b.at < length strip.now) }
     ensures { result ≡ Inside.crossed s (vertex_spot strip.now x a) (vertex_spot strip.now x b) }
 {
-    if a.y <= s.y {
-        if b.y <= s.y {
-            return false;
-        }
-        return left_of_side(strip, s, a, b, x);
+    match (a.y <= s.y, b.y <= s.y) {
+        (true, false) => left_of_side(strip, s, a, b, x),
+        (false, true) => left_of_side(strip, s, b, a, x),
+        _ => false,
     }
-    if b.y <= s.y {
-        return left_of_side(strip, s, b, a, x);
-    }
-    false
-}
-
-// A test as a number to add up. Adding was faster than branching on it where a polygon's sides lie now left, now right of the spot.
-fn one_if(b: bool) -> usize
-    ensures value { result ≡ one_if b }
-    ensures bound { result ≤ 1 }
-{
-    if b { 1 } else { 0 }
 }
 
 // How many sides are crossed of n, the first of them from `from` to the vertex at `at`.
@@ -128,12 +113,11 @@ fn crossings(strip: &[u32], at: usize, n: usize, x: Axis, y: Axis, s: Spot, from
 {
     let mut count: usize = 0;
     let mut last = from;
-    let mut place = at;
     for i in 0..n {
-        let next = read_vertex(strip, place, y);
-        count += one_if(crossed(strip, s, last, next, x));
+        let next = read_vertex(strip, at + 3 * i, y);
+        // Adding was faster than branching where a polygon's sides lie now left, now right of the spot.
+        count += usize::from(crossed(strip, s, last, next, x));
         last = next;
-        place += 3;
     }
     count
 }

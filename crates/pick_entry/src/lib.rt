@@ -9,7 +9,6 @@ ghost use Rattle.picking.specs.Picking.{pick_outcome, spot_outcome};
 ghost use Rattle.pick_entry.specs.Entries.{found_words, spot_words};
 
 use answers::{accept, refuse};
-use picking::{PickAnswer, SpotAnswer};
 
 // 1 and the polygon's number, or 0 where there is none.
 pub fn pick_entry(strip: &[u32], x: u16, y: u16, answer: &mut [u64; 8]) -> u32
@@ -17,9 +16,9 @@ pub fn pick_entry(strip: &[u32], x: u16, y: u16, answer: &mut [u64; 8]) -> u32
     ensures words { answer.new ≡ over (answer_words found_words (shown (pick_outcome strip.now (record { x = x; y = y })))) answer.old }
 {
     match picking::pick_poly(strip, x, y) {
-        PickAnswer::Poly(n) => accept(answer, &[1, n as u64]),
-        PickAnswer::Nothing => accept(answer, &[0]),
-        PickAnswer::Refused(r) => refuse(answer, r),
+        Ok(Some(n)) => accept(answer, &[1, n as u64]),
+        Ok(None) => accept(answer, &[0]),
+        Err(r) => refuse(answer, r),
     }
 }
 
@@ -29,7 +28,7 @@ pub fn spot_entry(strip: &[u32], x: f32, y: f32, answer: &mut [u64; 8]) -> u32
     ensures words { answer.new ≡ over (answer_words spot_words (shown (spot_outcome strip.now x y))) answer.old }
 {
     match picking::spot_for_position(strip, x, y) {
-        SpotAnswer::At(s) => accept(answer, &[s.x as u64, s.y as u64]),
-        SpotAnswer::Refused(r) => refuse(answer, r),
+        Ok(s) => accept(answer, &[s.x as u64, s.y as u64]),
+        Err(r) => refuse(answer, r),
     }
 }

@@ -4,6 +4,7 @@ use mathlib.Core.Path.{◌≡◌, refl}
 use mathlib.Core.Bool.{Bool, true, false}
 use mathlib.Core.List.{List, [], ◌∷◌, ◌++◌}
 use lib.Ieee.{binary32, of_bits, sub, div, mul, lt}
+use Rattle.std.specs.Prelude.{Option, Some, None}
 use Rattle.quantise.specs.Short.{short, fraction, clamped, nearest_number}
 use Rattle.strip.specs.Reading.{items_at, head_at, poly_at, polygon_of}
 use Rattle.strip.specs.Box.{finite_box}
@@ -11,7 +12,7 @@ use Rattle.strip.specs.Scan.{first_good, all_below, edges_fit, poly_fits, cell_r
 use Rattle.strip.specs.Outcome.{Paper, refusal, values, shown}
 use Rattle.pick_contains.specs.declared.Spot.{Spot}
 use Rattle.pick_contains.specs.Inside.{left_of, crossed, crossings, last_of, inside}
-use Rattle.picking.specs.Picking.{Found, found, none, first_from, pick_outcome, spot_outcome}
+use Rattle.picking.specs.Picking.{first_from, pick_outcome, spot_outcome}
 
 abbrev at : ℕ → ℕ → Spot
 at x y = record { x = x; y = y }
@@ -62,16 +63,16 @@ unfolding holds
 twice_round = refl
 
 -- of two that contain a spot the first is found
-overlapping : first_from (holds (at 5 5)) 0 (triangle ∷ square ∷ []) ≡ found 0
+overlapping : first_from (holds (at 5 5)) 0 (triangle ∷ square ∷ []) ≡ Some 0
 unfolding holds first_from
 overlapping = refl
 
-second : first_from (holds (at 11 5)) 0 (square ∷ triangle ∷ []) ≡ found 1
+second : first_from (holds (at 11 5)) 0 (square ∷ triangle ∷ []) ≡ Some 1
 unfolding holds first_from
 second = refl
 
 -- Strips of a box from 0 to 65535, whose upper x is a word (that float is 65535, 0x477fff00, or infinite), and polygons of three vertices.
-answer : List ℕ → Spot → Paper Found
+answer : List ℕ → Spot → Paper (Option ℕ)
 unfolding scan rest_at rest_from record_at record_of first_good cell_record polygon_record portal_record end_record head_at poly_at poly_fits polygon_of all_below edges_fit items_at finite_box first_from inside crossings last_of crossed left_of short fraction clamped nearest_number sub div mul lt of_bits
 answer strip s = shown (pick_outcome strip s)
 
@@ -82,11 +83,11 @@ box upper =
 abbrev polygon : List ℕ
 polygon = 0x20000003 ∷ 0 ∷ 0 ∷ 0 ∷ 0 ∷ 0 ∷ 0 ∷ 0x477fff00 ∷ 0 ∷ 0 ∷ 0 ∷ 0x477fff00 ∷ 0 ∷ []
 
-picked : answer (box 0x477fff00 ++ polygon ++ polygon ++ (0x50000000 ∷ [])) (at 0 0) ≡ values (found 0)
+picked : answer (box 0x477fff00 ++ polygon ++ polygon ++ (0x50000000 ∷ [])) (at 0 0) ≡ values (Some 0)
 unfolding answer
 picked = refl
 
-missed : answer (box 0x477fff00 ++ polygon ++ (0x50000000 ∷ [])) (at 65535 0) ≡ values none
+missed : answer (box 0x477fff00 ++ polygon ++ (0x50000000 ∷ [])) (at 65535 0) ≡ values None
 unfolding answer
 missed = refl
 

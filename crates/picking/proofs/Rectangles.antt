@@ -2,8 +2,7 @@
 -- out. By `Sides.turned` and `Sides.backwards` it may be drawn from any of its vertices on, either way round. Assumes nothing.
 use Prim.Native.Nat.{ℕ, ◌+◌, ◌-◌, ◌*◌, ◌%◌, ◌≤◌, ◌<◌}
 use mathlib.Core.Path.{◌≡◌, refl, sym, ap, ◌∙◌}
-use mathlib.Core.Bool.{Bool, true, false, ◌&&◌, ◌||◌, not, and-false, and_comm, or-false}
-use mathlib.Core.List.{List, [], ◌∷◌, map}
+use mathlib.Core.Bool.{Bool, true, false, ◌&&◌, not, and-false, and_comm, or-false}
 use native.Mathlib.Omega.{arith}
 use native.Mathlib.Nat.{mul-le-mul_right, mul-lt-mul_of_pos_right, mul-add}
 use lib.Dec.{eqb, leb, ltb}
@@ -13,7 +12,7 @@ use Rattle.strip.specs.Cell.{NavPoly, Head}
 use Rattle.pick_contains.specs.declared.Spot.{Spot}
 use Rattle.strip.specs.Tests.{one_if}
 use Rattle.pick_contains.specs.Inside.{left_of, crossed, crossings, last_of, inside}
-use Rattle.picking.specs.Picking.{spot_of, contains}
+use Rattle.picking.specs.Picking.{contains}
 use Rattle.picking.specs.Rectangles.{spot, rectangle, Halves, IsRectangle}
 use Rattle.picking.proofs.Whole.{not_crossed}
 use Rattle.picking.proofs.Sides.{either_way}

@@ -3,15 +3,16 @@
 #![tactic(auto)]
 
 ghost use Rattle.std.specs.Prelude.{◌≡◌, ◌∷◌, [], pos, negsuc, take, length};
-ghost use Rattle.strip.specs.Outcome.{shown, left};
-ghost use Rattle.ynv_write.specs.Serialize.{paper, serialize_outcome};
+ghost use Rattle.strip.specs.Outcome.{shown, left, paper};
+ghost use Rattle.ynv_write.specs.Serialize.{serialize_outcome};
 ghost use Rattle.proved.specs.Table.{empty_strip, length_in};
 
 use areas::edge::half_word;
 use quantise::short::quantise_axis;
-use quarters::quarter::{bits16_of, quarter_ceil, quarter_floor};
+use quarters::quarter::{quarter_ceil, quarter_floor};
 use std::io;
-use ynv_write::SerializeAnswer;
+use strip::Refusal;
+use ynv_write::Written;
 
 // lo 0, extent 2, a 1
 fn p1() -> u16
@@ -117,12 +118,12 @@ fn p11_next() -> u64
 }
 
 // The length that the writer answers, 0 where it refuses.
-fn length_of(answer: SerializeAnswer) -> usize
+fn length_of(answer: Result<Written, Refusal>) -> usize
     ensures { result ≡ length_in (paper answer) }
 {
     match answer {
-        SerializeAnswer::Written(w) => w.length,
-        SerializeAnswer::Refused(_) => 0,
+        Ok(w) => w.length,
+        Err(_) => 0,
     }
 }
 
@@ -165,65 +166,39 @@ fn p12_grid() -> usize
     save_empty(1, 4040, &mut pages)
 }
 
-fn print(rt: &impl Print, text: &[u8]) -> io::Result<()> {
-    rt.write_all(text)
-}
-
-// A name and a number, then the line's end.
-fn line(rt: &impl Print, name: &[u8], n: u64) -> io::Result<()> {
-    print(rt, name)?;
-    rt.print(n)?;
-    print(rt, b"\n")
-}
-
-// The same with a number of 16 signed bits.
-fn signed_line(rt: &impl Print, name: &[u8], n: i16) -> io::Result<()> {
-    let bits = bits16_of(n);
-    print(rt, name)?;
-    if bits < 32768 {
-        rt.print(bits as u64)?;
-    } else {
-        print(rt, b"-")?;
-        rt.print((65536 - bits) as u64)?;
+fn seeds(rt: &impl Print) -> io::Result<()> {
+    let ids = p7();
+    print!(rt; "P7")?;
+    for id in &ids[..6] {
+        print!(rt; " {id}")?;
     }
-    print(rt, b"\n")
-}
-
-fn seeds_line(rt: &impl Print, name: &[u8], ids: [u32; 32]) -> io::Result<()> {
-    print(rt, name)?;
-    let mut i = 0;
-    while i < 6 {
-        print(rt, b" ")?;
-        rt.print(ids[i] as u64)?;
-        i += 1;
-    }
-    print(rt, b"\n")
+    println!(rt; "")
 }
 
 fn shorts(rt: &impl Print) -> io::Result<()> {
-    line(rt, b"P1 ", p1() as u64)?;
-    line(rt, b"P2 ", p2() as u64)?;
-    line(rt, b"P3 ", p3() as u64)?;
-    line(rt, b"P4 ", p4() as u64)
+    println!(rt; "P1 {}", p1())?;
+    println!(rt; "P2 {}", p2())?;
+    println!(rt; "P3 {}", p3())?;
+    println!(rt; "P4 {}", p4())
 }
 
 fn quarters(rt: &impl Print) -> io::Result<()> {
-    signed_line(rt, b"P5 min ", p5_min())?;
-    signed_line(rt, b"P5 max ", p5_max())?;
-    signed_line(rt, b"P6 8192 ", p6_high())?;
-    signed_line(rt, b"P6 -8192 ", p6_low())
+    println!(rt; "P5 min {}", p5_min())?;
+    println!(rt; "P5 max {}", p5_max())?;
+    println!(rt; "P6 8192 {}", p6_high())?;
+    println!(rt; "P6 -8192 {}", p6_low())
 }
 
 fn main(rt: HostRuntime) -> io::Result<()> {
     shorts(&rt)?;
     quarters(&rt)?;
-    seeds_line(&rt, b"P7", p7())?;
-    line(&rt, b"P8 ", p8() as u64)?;
-    line(&rt, b"P9 ", p9() as u64)?;
-    line(&rt, b"P10 ", p10() as u64)?;
-    line(&rt, b"P11 96 bytes ", p11_fits())?;
-    line(&rt, b"P11 112 bytes ", p11_next())?;
-    line(&rt, b"P12 vehicle ", p12_vehicle() as u64)?;
-    line(&rt, b"P12 total ", p12_total() as u64)?;
-    line(&rt, b"P12 grid ", p12_grid() as u64)
+    seeds(&rt)?;
+    println!(rt; "P8 {}", p8())?;
+    println!(rt; "P9 {}", p9())?;
+    println!(rt; "P10 {}", p10())?;
+    println!(rt; "P11 96 bytes {}", p11_fits())?;
+    println!(rt; "P11 112 bytes {}", p11_next())?;
+    println!(rt; "P12 vehicle {}", p12_vehicle())?;
+    println!(rt; "P12 total {}", p12_total())?;
+    println!(rt; "P12 grid {}", p12_grid())
 }

@@ -1,6 +1,6 @@
 -- Sums of what is pushed: over two lists one after the other, over the polygons of a cell, and as a loop goes through portals and points. Assumes nothing.
 use Prim.Native.Nat.{ℕ, zero, suc, ◌+◌, ◌-◌, ◌*◌, ◌≤◌, ◌<◌}
-use mathlib.Core.Path.{◌≡◌, refl, ap, sym, ◌∙◌}
+use mathlib.Core.Path.{◌≡◌, refl}
 use mathlib.Core.List.{List, [], ◌∷◌, ◌++◌}
 use native.Mathlib.Omega.{arith}
 use lib.ListN.{length, length-append}
@@ -40,15 +40,10 @@ module _ (bb-min bb-size : Floats) where
   few_pushed (v ∷ vs) = omega (arith, few_pushed vs, few_outside (floats v) bb-min bb-size)
 
   module _ (s : List ℕ) (at n i : ℕ) (more : i < n) where
-    -- a vertex further, a portal further, and a point further
+    -- a vertex further
     pub vertices_turn : pushed_in bb-min bb-size (vecs_at s at (n - i)) ≡ one (vec_at s at) + pushed_in bb-min bb-size (vecs_at s (at + 3) (n - (i + 1)))
     unfolding pushed_in items_at
     vertices_turn = rw (less n i more)
-
-    pub ends_turn : pushed_in bb-min bb-size (ends_of (portals_at s at (n - i)))
-        ≡ one (vec_at s (at + 2)) + (one (vec_at s (at + 5)) + pushed_in bb-min bb-size (ends_of (portals_at s (at + 11) (n - (i + 1)))))
-    unfolding pushed_in ends_of items_at nav_portal_at
-    ends_turn = rw (less n i more)
 
     -- and a polygon further
     pub polygons_turn : (p : Poly) → p ≡ poly_at s at
@@ -58,41 +53,62 @@ module _ (bb-min bb-size : Floats) where
         let rest = polygons_at s p.next (n - (i + 1)) in
         rw (steps.polygons_turn s at i n more p e) (pushed_append (polygon_of s p).vertices (vertices_of rest))
 
-    pub places_turn : pushed_in bb-min bb-size (places_of (points_at s at (n - i)))
-        ≡ one (vec_at s (at + 1)) + pushed_in bb-min bb-size (places_of (points_at s (at + 4) (n - (i + 1))))
-    unfolding pushed_in places_of items_at point_at
-    places_turn = rw (less n i more)
+  -- so many portals, and so many behind them; and one
+  ends_split : (s : List ℕ) (at k m : ℕ) → pushed_in bb-min bb-size (ends_of (portals_at s at (k + m)))
+      ≡ pushed_in bb-min bb-size (ends_of (portals_at s at k)) + pushed_in bb-min bb-size (ends_of (portals_at s (at + 11 * k) m))
+  unfolding pushed_in ends_of items_at
+  ends_split s at zero m =
+      let none : 0 + m ≡ m = omega arith in
+      let here : at + 11 * 0 ≡ at = omega arith in
+      rw (none, here) (omega arith)
+  ends_split s at (suc k) m =
+      let more : suc k + m ≡ suc (k + m) = omega arith in
+      let there : at + 11 * suc k ≡ at + 11 + 11 * k = omega arith in
+      rw (more, there, ends_split s (at + 11) k m) (omega arith)
 
-  -- and so many points further
-  split : (s : List ℕ) (at k m : ℕ) → pushed_in bb-min bb-size (places_of (points_at s at (k + m)))
+  one_portal : (s : List ℕ) (at : ℕ) → pushed_in bb-min bb-size (ends_of (portals_at s at 1)) ≡ one (vec_at s (at + 2)) + (one (vec_at s (at + 5)) + 0)
+  unfolding pushed_in ends_of items_at nav_portal_at
+  one_portal s at = refl
+
+  pub ends_more : (s : List ℕ) (at i : ℕ) → pushed_in bb-min bb-size (ends_of (portals_at s at (i + 1)))
+      ≡ pushed_in bb-min bb-size (ends_of (portals_at s at i)) + (one (vec_at s (at + 11 * i + 2)) + one (vec_at s (at + 11 * i + 5)))
+  ends_more s at i = omega (arith, ends_split s at i 1, one_portal s (at + 11 * i))
+
+  -- the same of points
+  pub places_split : (s : List ℕ) (at k m : ℕ) → pushed_in bb-min bb-size (places_of (points_at s at (k + m)))
       ≡ pushed_in bb-min bb-size (places_of (points_at s at k)) + pushed_in bb-min bb-size (places_of (points_at s (at + 4 * k) m))
   unfolding pushed_in places_of items_at
-  split s at zero m =
+  places_split s at zero m =
       let none : 0 + m ≡ m = omega arith in
       let here : at + 4 * 0 ≡ at = omega arith in
       rw (none, here) (omega arith)
-  split s at (suc k) m =
+  places_split s at (suc k) m =
       let more : suc k + m ≡ suc (k + m) = omega arith in
       let there : at + 4 * suc k ≡ at + 4 + 4 * k = omega arith in
-      rw (more, there, split s (at + 4) k m) (omega arith)
+      rw (more, there, places_split s (at + 4) k m) (omega arith)
 
-  pub part_turn : (s : List ℕ) (at n i k : ℕ) → i + k ≤ n → pushed_in bb-min bb-size (places_of (points_at s at (n - i)))
-      ≡ pushed_in bb-min bb-size (places_of (points_at s at k)) + pushed_in bb-min bb-size (places_of (points_at s (at + 4 * k) (n - (i + k))))
-  part_turn s at n i k h = let z : n - i ≡ k + (n - (i + k)) = omega arith in rw (z) (split s at k (n - (i + k)))
+  one_point : (s : List ℕ) (at : ℕ) → pushed_in bb-min bb-size (places_of (points_at s at 1)) ≡ one (vec_at s (at + 1)) + 0
+  unfolding pushed_in places_of items_at point_at
+  one_point s at = refl
+
+  pub places_more : (s : List ℕ) (at i : ℕ) → pushed_in bb-min bb-size (places_of (points_at s at (i + 1)))
+      ≡ pushed_in bb-min bb-size (places_of (points_at s at i)) + one (vec_at s (at + 4 * i + 1))
+  places_more s at i = omega (arith, places_split s at i 1, one_point s (at + 4 * i))
+
+  -- none of either
+  pub no_ends : (s : List ℕ) (at : ℕ) → pushed_in bb-min bb-size (ends_of (portals_at s at 0)) ≡ 0
+  unfolding pushed_in ends_of items_at
+  no_ends s at = refl
+
+  pub no_places : (s : List ℕ) (at : ℕ) → pushed_in bb-min bb-size (places_of (points_at s at 0)) ≡ 0
+  unfolding pushed_in places_of items_at
+  no_places s at = refl
 
   module _ (s : List ℕ) (at n i : ℕ) (end : n ≤ i) where
     -- and none is left
     pub vertices_end : pushed_in bb-min bb-size (vecs_at s at (n - i)) ≡ 0
     unfolding pushed_in items_at
     vertices_end = let z : n - i ≡ 0 = omega arith in rw (z)
-
-    pub ends_end : pushed_in bb-min bb-size (ends_of (portals_at s at (n - i))) ≡ 0
-    unfolding pushed_in ends_of items_at
-    ends_end = let z : n - i ≡ 0 = omega arith in rw (z)
-
-    pub places_end : pushed_in bb-min bb-size (places_of (points_at s at (n - i))) ≡ 0
-    unfolding pushed_in places_of items_at
-    places_end = let z : n - i ≡ 0 = omega arith in rw (z)
 
     pub polygons_end : pushed_in bb-min bb-size (vertices_of (polygons_at s at (n - i))) ≡ 0
     unfolding pushed_in vertices_of items_at

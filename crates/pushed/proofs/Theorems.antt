@@ -1,13 +1,12 @@
 -- What document 02, No. 6 says of the count, of any cell: it is 0 exactly where every coordinate is inside (`none_pushed`), and at most three to a position (`most_pushed`). That a coordinate which is
 -- outside has the short 0 or 65535 is a theorem of `quantise` (`pushed_short`). Assumes nothing.
-use Prim.Native.Nat.{ℕ, ◌+◌, ◌*◌, ◌≤◌}
+use Prim.Native.Nat.{◌+◌, ◌*◌, ◌≤◌}
 use mathlib.Core.Path.{◌≡◌, refl}
 use mathlib.Core.List.{List, [], ◌∷◌, ◌++◌}
 use mathlib.Core.Logic.{◌↔◌}
 use native.Mathlib.Omega.{arith}
 use lib.ListN.{length, length-append}
 use Rattle.math.specs.declared.vec3.Vec3.{Vec3 as Floats}
-use Rattle.quantise.specs.Short.{outside_count}
 use Rattle.quantise.specs.Inside.{InsideBox}
 use Rattle.quantise.proofs.Outside.{none_outside}
 use Rattle.strip.specs.Cell.{Vec3, NavPortal, NavPoint, Cell}

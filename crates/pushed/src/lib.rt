@@ -9,79 +9,58 @@ ghost use Rattle.strip.specs.Rows.{portals_at, points_at};
 ghost use Rattle.cell_record.specs.Floats.{floats};
 ghost use Rattle.pushed.specs.Pushed.{pushed_in, ends_of, places_of};
 
-use math::vec3::{Vec3, floats_at};
+use math::vec3::floats_at;
+use quantise::short::Frame;
 
 // Of the position whose three words stand at `at`.
-fn outside_at(strip: &[u32], at: usize, bb_min: Vec3, bb_size: Vec3) -> u32
+fn outside_at(strip: &[u32], at: usize, frame: Frame) -> u32
     requires { at + 3 ≤ length strip.now }
-    ensures count { result ≡ outside_count (floats (vec_at strip.now at)) bb_min bb_size }
+    ensures count { result ≡ outside_count (floats (vec_at strip.now at)) frame.bb_min frame.bb_size }
     ensures bound { result ≤ 3 }
 {
-    quantise::short::outside_of(floats_at(strip, at), bb_min, bb_size)
+    frame.outside_of(floats_at(strip, at))
 }
 
 // Of both ends of n portals, from the record at `first` on.
-fn pushed_ends(strip: &[u32], first: usize, n: usize, bb_min: Vec3, bb_size: Vec3) -> usize
+fn pushed_ends(strip: &[u32], first: usize, n: usize, frame: Frame) -> usize
     requires { first + 11 * n ≤ length strip.now }
-    ensures count { result ≡ pushed_in bb_min bb_size (ends_of (portals_at strip.now first n)) }
+    ensures count { result ≡ pushed_in frame.bb_min frame.bb_size (ends_of (portals_at strip.now first n)) }
     ensures bound { result ≤ 6 * n }
 {
     let mut pushed: usize = 0;
-    let mut at = first;
-    let mut i: usize = 0;
-    while i < n {
-        let from = outside_at(strip, at + 2, bb_min, bb_size) as usize;
-        let to = outside_at(strip, at + 5, bb_min, bb_size) as usize;
-        pushed = pushed + from + to;
-        at += 11;
-        i += 1;
+    for i in 0..n {
+        let at = first + 11 * i;
+        let from = outside_at(strip, at + 2, frame) as usize;
+        let to = outside_at(strip, at + 5, frame) as usize;
+        pushed += from + to;
     }
     pushed
 }
 
 // Of n points, from the record at `first` on: few enough for 32 bits, in which several are counted at a time.
-fn pushed_part(strip: &[u32], first: usize, n: usize, bb_min: Vec3, bb_size: Vec3) -> u32
+fn pushed_part(strip: &[u32], first: usize, n: usize, frame: Frame) -> u32
     requires { (first + 4 * n ≤ length strip.now) × (n ≤ 65536) }
-    ensures count { result ≡ pushed_in bb_min bb_size (places_of (points_at strip.now first n)) }
+    ensures count { result ≡ pushed_in frame.bb_min frame.bb_size (places_of (points_at strip.now first n)) }
     ensures bound { result ≤ 3 * n }
 {
     let mut pushed: u32 = 0;
-    let mut at = first;
-    let mut i: usize = 0;
-    while i < n {
-        pushed = pushed + outside_at(strip, at + 1, bb_min, bb_size);
-        at += 4;
-        i += 1;
+    for i in 0..n {
+        pushed += outside_at(strip, first + 4 * i + 1, frame);
     }
     pushed
 }
 
-// How many of so many points are counted at a time.
-fn part_of(left: usize) -> usize
-    requires { 0 < left }
-    ensures progress { 0 < result }
-    ensures size { result ≤ 65536 }
-    ensures bound { result ≤ left }
-{
-    if left < 65536 {
-        return left;
-    }
-    65536
-}
-
-// Of any n points.
-fn pushed_places(strip: &[u32], first: usize, n: usize, bb_min: Vec3, bb_size: Vec3) -> usize
+// Of any n points, part by part. (A `for` by steps would reckon the same length of each part.)
+fn pushed_places(strip: &[u32], first: usize, n: usize, frame: Frame) -> usize
     requires { first + 4 * n ≤ length strip.now }
-    ensures count { result ≡ pushed_in bb_min bb_size (places_of (points_at strip.now first n)) }
+    ensures count { result ≡ pushed_in frame.bb_min frame.bb_size (places_of (points_at strip.now first n)) }
     ensures bound { result ≤ 3 * n }
 {
     let mut pushed: usize = 0;
-    let mut at = first;
     let mut i: usize = 0;
     while i < n {
-        let part = part_of(n - i);
-        pushed = pushed + pushed_part(strip, at, part, bb_min, bb_size) as usize;
-        at += 4 * part;
+        let part = (n - i).min(65536);
+        pushed += pushed_part(strip, first + 4 * i, part, frame) as usize;
         i += part;
     }
     pushed
@@ -93,13 +72,12 @@ pub fn pushed_behind(
     first: usize,
     portals: usize,
     points: usize,
-    bb_min: Vec3,
-    bb_size: Vec3,
+    frame: Frame,
 ) -> usize
     requires { first + 11 * portals + 4 * points ≤ length strip.now }
-    ensures count { result ≡ pushed_in bb_min bb_size (ends_of (portals_at strip.now first portals) ++ places_of (points_at strip.now (first + 11 * portals) points)) }
+    ensures count { result ≡ pushed_in frame.bb_min frame.bb_size (ends_of (portals_at strip.now first portals) ++ places_of (points_at strip.now (first + 11 * portals) points)) }
     ensures bound { result ≤ 6 * portals + 3 * points }
 {
-    let ends = pushed_ends(strip, first, portals, bb_min, bb_size);
-    ends + pushed_places(strip, first + 11 * portals, points, bb_min, bb_size)
+    let ends = pushed_ends(strip, first, portals, frame);
+    ends + pushed_places(strip, first + 11 * portals, points, frame)
 }

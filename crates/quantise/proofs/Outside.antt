@@ -6,8 +6,12 @@ use Prim.Native.Nat.{ℕ, ◌+◌, ◌*◌, ◌≤◌}
 use native.Mathlib.Omega.{arith}
 use lib.Dec.{ltb, eqb}
 use lib.IntN.{ℤ}
-use borrow.Author.Tests.{ltb-true, ltb-false, lt-ltb, le-ltb, eqb-true, eqb-false, eq-eqb, ne_eqb, not-true, not-false}
-use lib.Ieee.{Float, nan, inf, fin, binary32, up, down, mul, lt, eq, le, ne, is_nan}
+use Rattle.std.specs.Prelude.{Some, None}
+use Rattle.std.specs.Int.{from_bool}
+use Rattle.std.specs.Ordering.{partial_le, float_partial_cmp}
+use Rattle.std.specs.declared.cmp.Ordering.TheVariants.{Less, Equal, Greater}
+use borrow.Author.Tests.{ltb-true, ltb-false, lt-ltb, le-ltb, eq-eqb, ne_eqb, not-false}
+use lib.Ieee.{Float, nan, inf, fin, binary32, up, down, mul, lt, eq, le, is_nan}
 use lib.Ieee.Fits.{down_pos}
 use Rattle.quantise.specs.Short.{nought, unit, most, least, magnitude, fraction, clamped, nearest_number, short, beyond, outside, outside_count}
 use Rattle.quantise.specs.Steps.{border_of}
@@ -101,27 +105,24 @@ above_unit (fin false m e) h = go (ltb (1 * down e) (m * up e * 1)) refl
             let most-so = ltb-false (1 * down e) (m * up e * 1) p in
             rw (q, eq-eqb (m * up e * 1) (1 * down e) (omega arith))
 
--- a NaN alone is not equal to itself
-only_a_nan : (t : Float) → ne t t ≡ is_nan t
-unfolding ne eq is_nan
-only_a_nan nan = refl
-only_a_nan (inf true) = refl
-only_a_nan (inf false) = refl
-only_a_nan (fin true m e) = rw (eq-eqb (m * up e * down e) (m * up e * down e) refl)
-only_a_nan (fin false m e) = rw (eq-eqb (m * up e * down e) (m * up e * down e) refl)
+-- the test by std's range 0.0..=1.0, whose order of floats is that of `partial_cmp`
+le_compared : (x y : Float) → partial_le float_partial_cmp x y ≡ le x y
+unfolding le
+le_compared x y = go (lt x y) (eq x y) (lt y x)
+  where
+    go : (below level above : Bool)
+        → partial_le {X = Float} (λ a b. cond below (Some Less) (cond level (Some Equal) (cond above (Some Greater) None))) x y ≡ below || level
+    go true level above = refl
+    go false true above = refl
+    go false false true = refl
+    go false false false = refl
 
--- the tests of `beyond` one by one: below 0, above 1, and what neither says
-pub below_beyond : (t : Float) → lt t nought ≡ true → true ≡ beyond t
-unfolding beyond
-below_beyond t h = rw (h)
-
-pub above_beyond : (t : Float) → lt t nought ≡ false → lt unit t ≡ true → lt unit t ≡ beyond t
-unfolding beyond
-above_beyond t h above = rw (h, above)
-
-pub unequal_beyond : (t : Float) → lt t nought ≡ false → lt unit t ≡ false → ne t t ≡ beyond t
-unfolding beyond
-unequal_beyond t h above = rw (h, above) (only_a_nan t)
+pub range_beyond : (t : Float) → not (partial_le float_partial_cmp nought t && partial_le float_partial_cmp t unit) ≡ beyond t
+range_beyond t = rw (le_compared nought t, le_compared t unit) (go (le nought t) refl)
+  where
+    go : (b : Bool) → le nought t ≡ b → not (b && le t unit) ≡ beyond t
+    go true h = sym (above_unit t h) ∙ beyond_above t h
+    go false h = beyond_below t h
 
 -- what isn't beyond is as it was, clamped
 pub within_stays : (t : Float) → beyond t ≡ false → clamped t ≡ t
@@ -194,7 +195,7 @@ module _ (a lo extent : Float) where
 
 -- ---- three coordinates
 
-abbrev one : Bool → ℕ
+abbrev pub one : Bool → ℕ
 one b = cond b 1 0
 
 one_few : (b : Bool) → one b ≤ 1
@@ -204,6 +205,11 @@ one_few false = omega arith
 one_none : (b : Bool) → one b ≡ 0 → b ≡ false
 one_none true h = absurd (omega arith)
 one_none false h = refl
+
+-- std's number of a `bool`
+pub byte_one : (b : Bool) → from_bool b ≡ one b
+byte_one true = refl
+byte_one false = refl
 
 module _ (v bb-min bb-size : Vec3) where
   pub few_outside : outside_count v bb-min bb-size ≤ 3

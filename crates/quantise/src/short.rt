@@ -1,5 +1,5 @@
 // Short numbers: a coordinate as 16 bits of the way along its axis of the box, and back.
-ghost use Rattle.std.specs.Prelude.{◌≡◌, cond, ◌*◌, ◌^◌, ◌≤◌, ◌<◌};
+ghost use Rattle.std.specs.Prelude.{◌≡◌, ◌*◌, ◌^◌, ◌≤◌, ◌<◌};
 ghost use Rattle.quantise.specs.Short as Defined;
 ghost use Rattle.quantise.specs.Short.{nearest_whole, magnitude, least, short, coordinate, shorts, beyond, outside, outside_count};
 ghost use Rattle.quantise.specs.Coordinates.{coordinates};
@@ -41,20 +41,14 @@ pub fn fraction(a: f32, lo: f32, extent: f32) -> f32
 fn is_beyond(t: f32) -> bool
     ensures { result ≡ beyond t }
 {
-    if t < 0.0 {
-        return true;
-    }
-    t > 1.0 || t != t
+    !(0.0..=1.0).contains(&t)
 }
 
 // Where Rust's `t.clamp(0.0, 1.0)` and `as u16` put a fraction that is beyond: at the end that it is beyond, and a NaN at 0.
 fn border_of(t: f32) -> u16
     ensures { result ≡ border_of t }
 {
-    if t > 1.0 {
-        return 65535;
-    }
-    0
+    if t > 1.0 { 65535 } else { 0 }
 }
 
 // A number of 2^-25ths to the nearest whole number, halves up, which is away from zero.
@@ -67,7 +61,8 @@ fn nearest_whole(fixed: u64) -> u64
 
 // Rust's `p.round() as u16`: halves away from zero, cut to the range, and 0 for a NaN. Above a
 // quarter p is a whole number of 2^-25ths; 2^27 more, which an `f64` holds exactly, shows them as
-// its digits, and there a half is added. (In the `f32` itself p + 0.5 may round up.)
+// its digits, and there a half is added. (In the `f32` itself p + 0.5 may round up. std's `round`
+// with its saturating cast says the same and takes more than twice the instructions.)
 fn round_to_u16(p: f32) -> u16
     ensures { result ≡ rounded_u16 p }
 {
@@ -85,7 +80,7 @@ fn round_to_u16(p: f32) -> u16
 fn is_small(extent: f32) -> bool
     ensures { result ≡ lt (magnitude extent) least }
 {
-    extent > -0.00000011920929 && extent < 0.00000011920929
+    extent.abs() < f32::EPSILON
 }
 
 // The Rust's `q`: where a stands from lo on, in 65535ths of extent; and whether that is outside. What is inside needs no clamping.
@@ -120,16 +115,6 @@ fn is_outside(a: f32, lo: f32, extent: f32) -> bool
     is_beyond(t) && !is_small(extent)
 }
 
-fn one_if(test: bool) -> u32
-    ensures value { result ≡ cond test 1 0 }
-    ensures bound { result ≤ 1 }
-{
-    if test {
-        return 1;
-    }
-    0
-}
-
 // The coordinate that q stands for.
 pub fn unquantise_axis(q: u16, lo: f32, extent: f32) -> f32
     ensures { result ≡ coordinate q lo extent }
@@ -137,57 +122,65 @@ pub fn unquantise_axis(q: u16, lo: f32, extent: f32) -> f32
     lo + (q as f32) / 65535.0 * extent
 }
 
-// By axis, lo from bb_min and extent from bb_size.
-pub fn shorts_of(v: Vec3, bb_min: Vec3, bb_size: Vec3) -> Shorts
-    ensures { result ≡ shorts v bb_min bb_size }
-{
-    let x = quantise_axis(v.x, bb_min.x, bb_size.x);
-    let y = quantise_axis(v.y, bb_min.y, bb_size.y);
-    let z = quantise_axis(v.z, bb_min.z, bb_size.z);
-    Shorts {
-        x: x.q,
-        y: y.q,
-        z: z.q,
+// The box in which shorts are measured: by axis, lo from bb_min and extent from bb_size.
+#[derive(Clone, Copy)]
+pub struct Frame {
+    pub bb_min: Vec3,
+    pub bb_size: Vec3,
+}
+
+impl Frame {
+    pub fn shorts_of(self, v: Vec3) -> Shorts
+        ensures { result ≡ shorts v self.bb_min self.bb_size }
+    {
+        let Frame { bb_min, bb_size } = self;
+        Shorts {
+            x: quantise_axis(v.x, bb_min.x, bb_size.x).q,
+            y: quantise_axis(v.y, bb_min.y, bb_size.y).q,
+            z: quantise_axis(v.z, bb_min.z, bb_size.z).q,
+        }
     }
-}
 
-// How many of the three coordinates are outside.
-pub fn outside_of(v: Vec3, bb_min: Vec3, bb_size: Vec3) -> u32
-    ensures count { result ≡ outside_count v bb_min bb_size }
-    ensures bound { result ≤ 3 }
-{
-    let x = is_outside(v.x, bb_min.x, bb_size.x);
-    let y = is_outside(v.y, bb_min.y, bb_size.y);
-    let z = is_outside(v.z, bb_min.z, bb_size.z);
-    one_if(x) + one_if(y) + one_if(z)
-}
-
-// Both.
-pub fn quantise(v: Vec3, bb_min: Vec3, bb_size: Vec3) -> Quantised
-    ensures shorts { result.shorts ≡ shorts v bb_min bb_size }
-    ensures outside { result.outside ≡ outside_count v bb_min bb_size }
-    ensures bound { result.outside ≤ 3 }
-{
-    let x = quantise_axis(v.x, bb_min.x, bb_size.x);
-    let y = quantise_axis(v.y, bb_min.y, bb_size.y);
-    let z = quantise_axis(v.z, bb_min.z, bb_size.z);
-    let shorts = Shorts {
-        x: x.q,
-        y: y.q,
-        z: z.q,
-    };
-    Quantised {
-        shorts,
-        outside: one_if(x.outside) + one_if(y.outside) + one_if(z.outside),
+    // How many of the three coordinates are outside.
+    pub fn outside_of(self, v: Vec3) -> u32
+        ensures count { result ≡ outside_count v self.bb_min self.bb_size }
+        ensures bound { result ≤ 3 }
+    {
+        let Frame { bb_min, bb_size } = self;
+        let x = is_outside(v.x, bb_min.x, bb_size.x);
+        let y = is_outside(v.y, bb_min.y, bb_size.y);
+        let z = is_outside(v.z, bb_min.z, bb_size.z);
+        u32::from(x) + u32::from(y) + u32::from(z)
     }
-}
 
-pub fn unquantise(q: Shorts, bb_min: Vec3, bb_size: Vec3) -> Vec3
-    ensures { result ≡ coordinates q bb_min bb_size }
-{
-    Vec3 {
-        x: unquantise_axis(q.x, bb_min.x, bb_size.x),
-        y: unquantise_axis(q.y, bb_min.y, bb_size.y),
-        z: unquantise_axis(q.z, bb_min.z, bb_size.z),
+    // Both.
+    pub fn quantise(self, v: Vec3) -> Quantised
+        ensures shorts { result.shorts ≡ shorts v self.bb_min self.bb_size }
+        ensures outside { result.outside ≡ outside_count v self.bb_min self.bb_size }
+        ensures bound { result.outside ≤ 3 }
+    {
+        let Frame { bb_min, bb_size } = self;
+        let x = quantise_axis(v.x, bb_min.x, bb_size.x);
+        let y = quantise_axis(v.y, bb_min.y, bb_size.y);
+        let z = quantise_axis(v.z, bb_min.z, bb_size.z);
+        Quantised {
+            shorts: Shorts {
+                x: x.q,
+                y: y.q,
+                z: z.q,
+            },
+            outside: u32::from(x.outside) + u32::from(y.outside) + u32::from(z.outside),
+        }
+    }
+
+    pub fn unquantise(self, q: Shorts) -> Vec3
+        ensures { result ≡ coordinates q self.bb_min self.bb_size }
+    {
+        let Frame { bb_min, bb_size } = self;
+        Vec3 {
+            x: unquantise_axis(q.x, bb_min.x, bb_size.x),
+            y: unquantise_axis(q.y, bb_min.y, bb_size.y),
+            z: unquantise_axis(q.z, bb_min.z, bb_size.z),
+        }
     }
 }

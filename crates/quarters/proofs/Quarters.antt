@@ -1,17 +1,13 @@
 -- The facts about `specs/Quarter.antt` that the functions of `src/quarter.rt` rest on. Assumes nothing.
-use Rattle.std.proofs.Common.{◌≡◌, ℕ, zero, suc, ◌+◌, ◌-◌, ◌*◌, ◌/◌, ◌^◌, ◌<◌, ◌≤◌, min, Bool, true, false, not, T, ℤ, pos, negsuc, ◌-ℤ◌, neg_ℤ, sym, refl, ap, ◌∙◌, subst, true≢false, le_trans, mul_comm, le-div_iff_mul-le, div-mul-le_self, arith, lit<, lit≤, w16, w32, SFits, to_z, of_z, ltb-false, ltb-true, le-ltb}
+use Rattle.std.proofs.Common.{◌≡◌, ℕ, zero, suc, ◌+◌, ◌-◌, ◌*◌, ◌/◌, ◌^◌, ◌<◌, ◌≤◌, min, Bool, true, false, not, T, ℤ, pos, negsuc, neg_ℤ, sym, refl, ap, ◌∙◌, subst, true≢false, le_trans, mul_comm, le-div_iff_mul-le, div-mul-le_self, arith, lit<, lit≤, w16, to_z, of_z, ltb-false, ltb-true}
 use native.Mathlib.Nat.{suc-min-suc, div-eq_of_lt, div-eq_of_lt-le, lt-div-mul-add}
-use mir.Syntax.{Width}
-use mir.Val.{hbits}
-use mir.ValLaws.{to_z_pos, to_z-of_z}
-use lib.IntN.{+ℤ_idl}
+use mir.ValLaws.{to_z-of_z}
 use lib.Signed.{mag}
 use lib.Ieee.{Float, nan, inf, fin, binary32, binary64, up, down, lt, neg, mul, fits, to_unsigned, of_int, round}
 use lib.Ieee.Fits.{down_pos}
 use lib.Ieee.Exact.{HasValue}
 use lib.Ieee.Back.{round_whole}
 use Rattle.quarters.specs.Quarter.{rounded, whole_number, saturated, side}
-use Rattle.quarters.specs.Int16.{int16}
 use Rattle.quarters.specs.Steps.{quarters}
 use Rattle.math.specs.Picked.{plain}
 use Rattle.math.proofs.Whole.{cut_value, cut_negative, lt_true, lt_false, not_below}
@@ -94,10 +90,6 @@ made ceil (fin false m e) t =
 
 -- ---- the sign put back
 
--- 0 - n at a signed width is -n
-pub zero_minus : (w : Width) (n : ℕ) → n < 2 ^ hbits w → pos 0 -ℤ to_z w n ≡ neg_ℤ (pos n)
-zero_minus w n h = ap (λ (z : ℤ). pos 0 -ℤ z) (to_z_pos w n h) ∙ +ℤ_idl (neg_ℤ (pos n))
-
 pub saturated_fits : (z : ℤ) → mag (saturated z) < 2 ^ 15
 saturated_fits (pos n) = omega arith
 saturated_fits (negsuc n) = omega arith
@@ -138,19 +130,6 @@ side_positive ceil (fin true m e) h =
     let z = ltb-false 0 (m * up e * 1 + 0 * down e) h in
     ap saturated (sym (whole_zero ceil true (4 * (m * up e)) (down e) (down_pos e) (omega arith)))
 side_positive ceil (fin false m e) h = cut_pos (rounded ceil (4 * (m * up e)) (down e))
-
--- ---- 16 signed bits from their distance below 0
-
-pub wide : (z : ℤ) → SFits w16 z → SFits w32 z
-wide z f = record { sfits = omega (arith, f.sfits) }
-
-pub below_fits : (n : ℕ) → n ≤ 32768 → SFits w16 (neg_ℤ (pos n))
-below_fits zero h = record { sfits = omega arith }
-below_fits (suc n) h = record { sfits = omega arith }
-
-pub below_bits : (n bits : ℕ) → 32768 ≤ bits → bits < 65536 → n + bits ≡ 65536 → neg_ℤ (pos n) ≡ int16 bits
-below_bits zero bits h l e = absurd (omega arith)
-below_bits (suc n) bits h l e = rw (le-ltb bits 32768 h) (ap negsuc (omega arith))
 
 -- ---- a side is a number of 16 signed bits, and the machine reads it back from its bits
 pub side_fits : (ceil : Bool) (x : Float) → mag (side ceil x) < 2 ^ 15

@@ -46,68 +46,61 @@ module _ (step : Float → Float → Float → Type 0) (start : Float) (whole : 
   left_end : (a : Float) (p i n : ℕ) → n ≤ i → Left a p (n - i) → Run step start whole a
   left_end a p i n h rest = rest a (subst (λ (l : List ℕ). Run step a l a) (sym (thirds_end s p i n h)) done)
 
-left_begin : (step : Float → Float → Float → Type 0) (start a : Float) (s : List ℕ) (p n : ℕ) → a ≡ start → Left step start (every_third s p n) s a p (n - 0)
-left_begin step start a s p n e r run = subst (λ (x : Float). Run step x (every_third s p n) r) e (rw sub-zero at run)
+left_begin : (step : Float → Float → Float → Type 0) (start a : Float) (s : List ℕ) (p p' n : ℕ) → p' ≡ p → a ≡ start → Left step start (every_third s p n) s a p' (n - 0)
+left_begin step start a s p p' n q e r run =
+    subst (λ (x : Float). Run step x (every_third s p n) r) e (subst (λ (o : ℕ). Run step a (every_third s o n) r) q (rw sub-zero at run))
 
 -- before vertex i of n
-pub record Swept (s : List ℕ) (at n : ℕ) (min max : Vec3) (place i : ℕ) : Type 0 where
-  pub within : i ≤ n
-  pub here : place ≡ at + 3 * i
-  pub min_x : Left IsMin greatest (every_third s at n) s min.x place (n - i)
-  pub min_y : Left IsMin greatest (every_third s (at + 1) n) s min.y (place + 1) (n - i)
-  pub min_z : Left IsMin greatest (every_third s (at + 2) n) s min.z (place + 2) (n - i)
-  pub max_x : Left IsMax lowest (every_third s at n) s max.x place (n - i)
-  pub max_y : Left IsMax lowest (every_third s (at + 1) n) s max.y (place + 1) (n - i)
-  pub max_z : Left IsMax lowest (every_third s (at + 2) n) s max.z (place + 2) (n - i)
+pub record Swept (s : List ℕ) (at n : ℕ) (min max : Vec3) (i : ℕ) : Type 0 where
+  pub min_x : Left IsMin greatest (every_third s at n) s min.x (at + 3 * i) (n - i)
+  pub min_y : Left IsMin greatest (every_third s (at + 1) n) s min.y (at + 3 * i + 1) (n - i)
+  pub min_z : Left IsMin greatest (every_third s (at + 2) n) s min.z (at + 3 * i + 2) (n - i)
+  pub max_x : Left IsMax lowest (every_third s at n) s max.x (at + 3 * i) (n - i)
+  pub max_y : Left IsMax lowest (every_third s (at + 1) n) s max.y (at + 3 * i + 1) (n - i)
+  pub max_z : Left IsMax lowest (every_third s (at + 2) n) s max.z (at + 3 * i + 2) (n - i)
 
 -- all three coordinates are x
 abbrev pub Each : Float → Vec3 → Type 0
 Each x v = (v.x ≡ x) × ((v.y ≡ x) × (v.z ≡ x))
 
 module _ (s : List ℕ) (at n : ℕ) where
-  pub swept_begin : (min max : Vec3) → Each greatest min → Each lowest max → Swept s at n min max at 0
+  pub swept_begin : (min max : Vec3) → Each greatest min → Each lowest max → Swept s at n min max 0
   swept_begin min max e d = record {
-    within = omega arith;
-    here = omega arith;
-    min_x = left_begin IsMin greatest min.x s at n e.0;
-    min_y = left_begin IsMin greatest min.y s (at + 1) n e.1.0;
-    min_z = left_begin IsMin greatest min.z s (at + 2) n e.1.1;
-    max_x = left_begin IsMax lowest max.x s at n d.0;
-    max_y = left_begin IsMax lowest max.y s (at + 1) n d.1.0;
-    max_z = left_begin IsMax lowest max.z s (at + 2) n d.1.1;
+    min_x = left_begin IsMin greatest min.x s at _ n (omega arith) e.0;
+    min_y = left_begin IsMin greatest min.y s (at + 1) _ n (omega arith) e.1.0;
+    min_z = left_begin IsMin greatest min.z s (at + 2) _ n (omega arith) e.1.1;
+    max_x = left_begin IsMax lowest max.x s at _ n (omega arith) d.0;
+    max_y = left_begin IsMax lowest max.y s (at + 1) _ n (omega arith) d.1.0;
+    max_z = left_begin IsMax lowest max.z s (at + 2) _ n (omega arith) d.1.1;
   }
 
-  module _ (min max : Vec3) (place i : ℕ) (g : Swept s at n min max place i) where
+  module _ (min max : Vec3) (i : ℕ) (g : Swept s at n min max i) where
     pub swept_turn : (v min' max' : Vec3) → i < n
-        → v ≡ floats_at s place
+        → v ≡ floats_at s (at + 3 * i)
         → IsMin min.x v.x min'.x × (IsMin min.y v.y min'.y × IsMin min.z v.z min'.z)
         → IsMax max.x v.x max'.x × (IsMax max.y v.y max'.y × IsMax max.z v.z max'.z)
-        → Swept s at n min' max' (place + 3) (i + 1)
+        → Swept s at n min' max' (i + 1)
     swept_turn v min' max' h e l m =
         let ex = ap (λ (u : Vec3). u.x) e in
         let ey = ap (λ (u : Vec3). u.y) e in
         let ez = ap (λ (u : Vec3). u.z) e in
-        let py : place + 3 + 1 ≡ place + 1 + 3 = omega arith in
-        let pz : place + 3 + 2 ≡ place + 2 + 3 = omega arith in
         record {
-          within = omega arith;
-          here = omega (arith, g.here);
-          min_x = left_turn IsMin greatest _ s _ v.x _ place (place + 3) i n h refl g.min_x ex l.0;
-          min_y = left_turn IsMin greatest _ s _ v.y _ (place + 1) (place + 3 + 1) i n h py g.min_y ey l.1.0;
-          min_z = left_turn IsMin greatest _ s _ v.z _ (place + 2) (place + 3 + 2) i n h pz g.min_z ez l.1.1;
-          max_x = left_turn IsMax lowest _ s _ v.x _ place (place + 3) i n h refl g.max_x ex m.0;
-          max_y = left_turn IsMax lowest _ s _ v.y _ (place + 1) (place + 3 + 1) i n h py g.max_y ey m.1.0;
-          max_z = left_turn IsMax lowest _ s _ v.z _ (place + 2) (place + 3 + 2) i n h pz g.max_z ez m.1.1;
+          min_x = left_turn IsMin greatest _ s _ v.x _ _ _ i n h (omega arith) g.min_x ex l.0;
+          min_y = left_turn IsMin greatest _ s _ v.y _ _ _ i n h (omega arith) g.min_y ey l.1.0;
+          min_z = left_turn IsMin greatest _ s _ v.z _ _ _ i n h (omega arith) g.min_z ez l.1.1;
+          max_x = left_turn IsMax lowest _ s _ v.x _ _ _ i n h (omega arith) g.max_x ex m.0;
+          max_y = left_turn IsMax lowest _ s _ v.y _ _ _ i n h (omega arith) g.max_y ey m.1.0;
+          max_z = left_turn IsMax lowest _ s _ v.z _ _ _ i n h (omega arith) g.max_z ez m.1.1;
         }
 
     pub swept_end : (r : Aabb) → r.min ≡ min → r.max ≡ max → n ≤ i → Bounding s at n r
     swept_end r e d h = rw (e, d) (record {
-      min_x = left_end IsMin greatest _ s min.x place i n h g.min_x;
-      min_y = left_end IsMin greatest _ s min.y (place + 1) i n h g.min_y;
-      min_z = left_end IsMin greatest _ s min.z (place + 2) i n h g.min_z;
-      max_x = left_end IsMax lowest _ s max.x place i n h g.max_x;
-      max_y = left_end IsMax lowest _ s max.y (place + 1) i n h g.max_y;
-      max_z = left_end IsMax lowest _ s max.z (place + 2) i n h g.max_z;
+      min_x = left_end IsMin greatest _ s min.x _ i n h g.min_x;
+      min_y = left_end IsMin greatest _ s min.y _ i n h g.min_y;
+      min_z = left_end IsMin greatest _ s min.z _ i n h g.min_z;
+      max_x = left_end IsMax lowest _ s max.x _ i n h g.max_x;
+      max_y = left_end IsMax lowest _ s max.y _ i n h g.max_y;
+      max_z = left_end IsMax lowest _ s max.z _ i n h g.max_z;
     })
 
 -- ---- a quarter side does not see which zeros were picked

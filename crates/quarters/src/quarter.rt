@@ -7,34 +7,32 @@ ghost use Rattle.quarters.specs.Steps.{quarters};
 use math::vec3::Vec3;
 
 // 4 * x, rounded up or down and cut to 32768; 0 where x is negative or a NaN. An `f64` holds
-// 4 * x exactly, and each whole number below 32768.
+// 4 * x exactly, and each whole number below 32768. (std's `floor` and `ceil` with its saturating
+// cast say the same and take nearly twice the instructions, and an empty cell's time is quarters.)
 fn quarters_of(x: f32, ceil: bool) -> u64
     ensures { result ≡ quarters ceil x }
 {
     let y = std::num::f32_to_f64_with_nan(x) * 4.0;
     let n = math::num::saturating_f64_to_u64(y);
     if n >= 32768 {
-        return 32768;
+        32768
+    } else if ceil && (n as f64) < y {
+        n + 1
+    } else {
+        n
     }
-    if ceil {
-        if (n as f64) < y {
-            return n + 1;
-        }
-        return n;
-    }
-    n
 }
 
 fn positive(n: u64) -> i16
     ensures { result ≡ saturated (pos n) }
 {
-    if n < 32767 { n as i16 } else { 32767 }
+    n.min(32767) as i16
 }
 
 fn negative(n: u64) -> i16
     ensures { result ≡ saturated (neg_ℤ (pos n)) }
 {
-    if n < 32768 { 0 - (n as i16) } else { -32768 }
+    -(n.min(32768) as i32) as i16
 }
 
 // The floor or the ceiling of 4 * x: that of a negative x is minus the other one of -x.
@@ -91,21 +89,12 @@ pub fn bits16_of(x: i16) -> u32
     ensures bits { result ≡ bits16 x }
     ensures bound { result < 65536 }
 {
-    if x < 0 {
-        let below = (0 - x as i32) as u32;
-        return 65536 - below;
-    }
-    x as u32
+    u32::from(x.cast_unsigned())
 }
 
 // The side whose bits are the low 16 of a word.
 pub fn i16_of(bits: u32) -> i16
     ensures { result ≡ int16 (bits % 65536) }
 {
-    let low = bits % 65536;
-    if low < 32768 {
-        return low as i16;
-    }
-    let below = 65536 - low;
-    (0 - below as i32) as i16
+    ((bits % 65536) as u16).cast_signed()
 }

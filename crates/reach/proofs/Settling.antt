@@ -14,7 +14,7 @@ use Rattle.reach_marks.proofs.Kept.{Kept, unseen, kept_more, portals_kept, count
 use Rattle.reach_walk.specs.Walk.{Worked, same, portal, Swept}
 use Rattle.reach_walk.specs.declared.Ground.{Ground}
 use Rattle.reach_walk.proofs.Work.{worked_kept, worked_more}
-use Rattle.reach.specs.Settled.{Settled, Walked}
+use Rattle.reach.specs.Settled.{Settled}
 
 module _ (s : List ℕ) (g : Ground) where
   -- the portals in order, from the k-th on
@@ -66,11 +66,3 @@ module _ (s : List ℕ) (g : Ground) where
       where
         before : (k : ℕ) → 1 ≤ get_or m₂ k 0 → 1 ≤ get_or m k 0
         before = count_same m m₂ turn_kept.long turn_kept.seen (omega arith)
-
--- who counts the marks again counts as many
-pub walked_counted : {s m : List ℕ} {at portals start n count again : ℕ} → Walked s at portals start n m count → again ≡ marked m → Walked s at portals start n m again
-walked_counted w e =
-    record {
-      stride = w.stride;
-      settled = record { worked = w.settled.worked; done = w.settled.done; crossed = w.settled.crossed; counted = e };
-    }

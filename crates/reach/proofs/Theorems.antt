@@ -4,19 +4,21 @@ use Prim.Native.Nat.{ℕ, zero, suc, ◌+◌, ◌%◌, ◌≤◌, ◌<◌}
 use mathlib.Core.Path.{◌≡◌, refl, sym, ap, ◌∙◌}
 use mathlib.Core.Bool.{Bool, true, false, cond}
 use mathlib.Core.List.{List, [], ◌∷◌, ◌++◌}
-use mathlib.Core.Logic.{◌⊎◌, inl, inr, ⊎_elim}
+use mathlib.Core.Logic.{inl, inr, ⊎_elim}
 use native.Mathlib.Omega.{arith}
 use native.Mathlib.Nat.{mod-lt}
 use borrow.Author.Tests.{ltb-true, ltb-false, leb-true, leb-false, lt-ltb, le-ltb, lt-leb}
 use lib.Dec.{ltb, leb}
 use lib.ListN.{length, get_or, take, drop, get_or-append}
 use lib.Seq.{take_at, drop_at}
+use Rattle.strip.specs.Reasons.{reason_number}
+use Rattle.std.specs.Prelude.{Result, Ok, Err}
 use Rattle.strip.specs.Cell.{Cell, NavEdgeEnd}
 use Rattle.strip.specs.Reading.{word, items_at, nav_portal_at}
 use Rattle.strip.specs.Rows.{portals_at}
 use Rattle.strip.specs.Laid.{cell_counts, first_portal}
 use Rattle.strip.specs.Scan.{Scanned, ok, fault, scan}
-use Rattle.strip.specs.Outcome.{Outcome, refused, done, shown, left, refusal_of}
+use Rattle.strip.specs.Outcome.{Outcome, refused, done, shown, left, refusal_of, paper}
 use Rattle.strip.specs.Check.{on_cell}
 use Rattle.strip.specs.declared.Refusal.{Refusal}
 use Rattle.strip.proofs.Laid.{well_cell, cell_is}
@@ -26,9 +28,7 @@ use Rattle.nobody.specs.Nobody.{cut}
 use Rattle.nobody.proofs.Theorems.{somebody_below}
 use Rattle.reach_marks.specs.Step.{HalfLeads, PortalLeads, Step, Reach}
 use Rattle.reach_marks.specs.Marks.{marked}
-use Rattle.reach.specs.declared.ReachAnswer.{ReachAnswer}
-use Rattle.reach.specs.declared.ReachAnswer.TheVariants.{Marked, Refused}
-use Rattle.reach.specs.Reached.{marks_of, reached, reach_outcome, paper}
+use Rattle.reach.specs.Reached.{marks_of, reached, reach_outcome}
 use Rattle.reach.specs.Answers.{total, OnCell, Refusals, Marks}
 use Rattle.reach.proofs.Marks.{marks_length, marks_reach, marks_total}
 
@@ -71,17 +71,17 @@ module _ (strip : List ℕ) (start room : ℕ) where
       ⊎_elim Faults.refused_above_zero (⊎_elim (λ r. omega (arith, r.0)) (λ r. omega (arith, r.0))) (refused_named number place e)
 
   -- of the call, by its promises
-  is_refused : (o : Outcome ℕ) (f : Refusal) → refusal_of f ≡ shown o → o ≡ refused f.number f.place
+  is_refused : (o : Outcome ℕ) (f : Refusal) → refusal_of f ≡ shown o → o ≡ refused (reason_number f.reason) f.place
   is_refused (refused number place) f e = cc
   is_refused (done n marks) f e = let z : ◌≡◌ {A = ℕ} 0 1 = cc in absurd (omega arith)
 
-  module _ (r : ReachAnswer) (before after : List ℕ) (answered : paper r ≡ shown (reach_outcome strip start room)) (changed : after ≡ left (reach_outcome strip start room) before) where
-    pub refuses : (f : Refusal) → r ≡ Refused f → Refusals strip start room f.number f.place × (after ≡ before)
+  module _ (r : Result ℕ Refusal) (before after : List ℕ) (answered : paper r ≡ shown (reach_outcome strip start room)) (changed : after ≡ left (reach_outcome strip start room) before) where
+    pub refuses : (f : Refusal) → r ≡ Err f → Refusals strip start room (reason_number f.reason) f.place × (after ≡ before)
     refuses f e =
         let o = is_refused (reach_outcome strip start room) f (sym (ap paper e) ∙ answered) in
-        (refused_named f.number f.place o, changed ∙ ap (λ (x : Outcome ℕ). left x before) o)
+        (refused_named (reason_number f.reason) f.place o, changed ∙ ap (λ (x : Outcome ℕ). left x before) o)
 
-    on_marks : (n : ℕ) (o : Outcome ℕ) → paper (Marked n) ≡ shown o → Decided o → after ≡ left o before → OnCell strip start room (Marks strip start room before after n)
+    on_marks : (n : ℕ) (o : Outcome ℕ) → paper (Ok n) ≡ shown o → Decided o → after ≡ left o before → OnCell strip start room (Marks strip start room before after n)
     on_marks n (refused number place) e d l = let z : ◌≡◌ {A = ℕ} 0 1 = cc in absurd (omega arith)
     on_marks n (done k marks) e (c, s, (h, w, g, i)) l =
         let same : k ≡ n = cc in
@@ -98,7 +98,7 @@ module _ (strip : List ℕ) (start room : ℕ) where
           },
         )
 
-    pub marks : (n : ℕ) → r ≡ Marked n → OnCell strip start room (Marks strip start room before after n)
+    pub marks : (n : ℕ) → r ≡ Ok n → OnCell strip start room (Marks strip start room before after n)
     marks n e = on_marks n (reach_outcome strip start room) (sym (ap paper e) ∙ answered) decided changed
 
 -- ---- chains of steps
@@ -136,13 +136,13 @@ module _ (c : Cell) (start : ℕ) (h : start < length c.polys) where
     start_alone = marks_total c start h ∙ one_mark (marks_of c start) start (omega (arith, marks_length c start h)) start_marked none_marked
 
 -- of the call
-module _ (strip : List ℕ) (start room : ℕ) (r : ReachAnswer) (answered : paper r ≡ shown (reach_outcome strip start room))
+module _ (strip : List ℕ) (start room : ℕ) (r : Result ℕ Refusal) (answered : paper r ≡ shown (reach_outcome strip start room))
     (stays : (c : Cell) → scan strip ≡ ok c → (j : ℕ) → Step c start j → j ≡ start) where
-  alone_on : (n : ℕ) (o : Outcome ℕ) → paper (Marked n) ≡ shown o → Decided strip start room o → n ≡ 1
+  alone_on : (n : ℕ) (o : Outcome ℕ) → paper (Ok n) ≡ shown o → Decided strip start room o → n ≡ 1
   alone_on n (refused number place) e d = let z : ◌≡◌ {A = ℕ} 0 1 = cc in absurd (omega arith)
   alone_on n (done k marks) e (c, s, (h, w, g, i)) = let same : k ≡ n = cc in sym same ∙ g ∙ start_alone c start h (stays c s)
 
-  pub alone_told : (n : ℕ) → r ≡ Marked n → n ≡ 1
+  pub alone_told : (n : ℕ) → r ≡ Ok n → n ≡ 1
   alone_told n e = alone_on n (reach_outcome strip start room) (sym (ap paper e) ∙ answered) (decided strip start room)
 
 -- ---- steps that there are not

@@ -3,12 +3,10 @@
 use Rattle.std.specs.Prelude.{ℕ, zero, suc, ◌+◌, cond, List, [], ◌∷◌, eqb, ltb, leb, length, set, replicate}
 use Rattle.strip.specs.Cell.{Cell, NavPoly, NavPortal}
 use Rattle.strip.specs.Scan.{scan}
-use Rattle.strip.specs.Outcome.{Outcome, refused, done, Paper, values, refusal_of}
+use Rattle.strip.specs.Outcome.{Outcome, refused, done}
 use Rattle.strip.specs.Check.{on_cell}
 use Rattle.reach_marks.specs.Step.{served}
 use Rattle.reach_marks.specs.Marks.{visit, portal_pass, marked}
-use Rattle.reach.specs.declared.ReachAnswer.{ReachAnswer}
-use Rattle.reach.specs.declared.ReachAnswer.TheVariants.{Marked, Refused}
 
 -- the polygons from number i on take their steps, in order
 unfoldable pub poly_pass : ℕ → List NavPoly → ℕ → List ℕ → List ℕ
@@ -35,10 +33,6 @@ reached start room c =
     (cond (leb (length c.polys) room) (done (marked (marks_of c start)) (marks_of c start)) (refused 43 0))
     (refused 42 0)
 
--- "Checks: 3, then": what the call has to decide of a strip, a start and so many bytes, and what each case of its answer says
+-- "Checks: 3, then": what the call has to decide of a strip, a start and so many bytes
 abbrev pub reach_outcome : List ℕ → ℕ → ℕ → Outcome ℕ
 reach_outcome s start room = on_cell (reached start room) (scan s)
-
-abbrev pub paper : ReachAnswer → Paper ℕ
-paper (Marked n) = values n
-paper (Refused r) = refusal_of r

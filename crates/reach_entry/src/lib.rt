@@ -9,7 +9,6 @@ ghost use Rattle.reach.specs.Reached.{reach_outcome};
 ghost use Rattle.reach_entry.specs.Entries.{reach_words};
 
 use answers::{accept, refuse};
-use reach::ReachAnswer;
 
 // How many polygons are marked.
 pub fn reach_entry(strip: &[u32], start: u64, marks: &mut [u8], answer: &mut [u64; 8]) -> u32
@@ -18,7 +17,7 @@ pub fn reach_entry(strip: &[u32], start: u64, marks: &mut [u8], answer: &mut [u6
     ensures marks { marks.new ≡ left (reach_outcome strip.now start (length marks.old)) marks.old }
 {
     match reach::reachable(strip, start as usize, marks) {
-        ReachAnswer::Marked(n) => accept(answer, &[n as u64]),
-        ReachAnswer::Refused(r) => refuse(answer, r),
+        Ok(n) => accept(answer, &[n as u64]),
+        Err(r) => refuse(answer, r),
     }
 }

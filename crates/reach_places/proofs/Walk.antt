@@ -4,10 +4,13 @@ use mathlib.Core.Path.{◌≡◌, refl, ap, ◌∙◌}
 use mathlib.Core.List.{List}
 use native.Mathlib.Omega.{arith}
 use native.Mathlib.Numerals.{add-one}
-use native.Mathlib.Nat.{zero-add, suc-add, zero-mul, suc-mul, mul_comm, lt_of_mul-lt-mul_right, div-add-mod', mod-lt, div-lt_iff_lt-mul}
+use native.Mathlib.Nat.{zero-add, suc-add, suc-mul, mul_comm, lt_of_mul-lt-mul_right, div-add-mod', mod-lt, div-lt_iff_lt-mul}
 use lib.ListN.{length, get_or, set}
 use lib.Seq.{get_or-set_same, get_or-set_other}
 use borrow.Author.Count.{below_more}
+use Rattle.std.specs.Int.{div_ceil}
+use Rattle.std.proofs.lemmas.Grind.{div_ceil_times}
+use Rattle.std.proofs.Math.Nat.{mul-le-mul_right}
 use Rattle.strip.specs.Reading.{poly_at}
 use Rattle.strip.specs.Rows.{after, after_polygons}
 use Rattle.strip.proofs.Steps.{parts, none_left, after_ge}
@@ -35,44 +38,62 @@ pub after_done : (s : List ℕ) (at i n : ℕ) → n ≤ i → after_polygons s 
 unfolding after
 after_done s at i n h = rw (none_left i n h)
 
--- the table of n polygons after k turns, in which so many are walked
-pub record Filling (s : List ℕ) (n stride : ℕ) (places : List ℕ) (done at k : ℕ) : Type 0 where
-  pub walked : done ≡ min (k * stride) n
-  pub place : at ≡ after_polygons s 14 done
+-- the table of n polygons after k turns
+pub record Filling (s : List ℕ) (n stride : ℕ) (places : List ℕ) (at k : ℕ) : Type 0 where
+  pub place : at ≡ after_polygons s 14 (min (k * stride) n)
   pub each : (j : ℕ) → j < k → j * stride < n → get_or places j 0 ≡ after_polygons s 14 (j * stride)
 
 pub stride_enough : (n room : ℕ) → 1 ≤ room → n ≤ (n / room + 1) * room
 stride_enough n room h =
     omega (arith, div-add-mod' n room, mod-lt n {m = room} h, suc-mul (n / room) room, ap (λ x. x * room) (add-one (n / room)))
 
+-- turns are as many as there are entries with a polygon
+module _ (n stride k turns : ℕ) (o : 1 ≤ stride) (e : turns ≡ div_ceil n stride) where
+  pub turn_starts : k < turns → k * stride < n
+  turn_starts h =
+      let more : suc k * stride ≤ div_ceil n stride * stride = mul-le-mul_right stride (omega arith) in
+      omega (arith, (div_ceil_times n stride o).1)
+
+  pub turns_end : turns ≤ k → n ≤ k * stride
+  turns_end h =
+      let more : div_ceil n stride * stride ≤ k * stride = mul-le-mul_right stride (omega arith) in
+      omega (arith, (div_ceil_times n stride o).0)
+
 module _ (s : List ℕ) (n stride : ℕ) where
-  pub filling_start : (places : List ℕ) → Filling s n stride places 0 14 0
+  pub filling_start : (places : List ℕ) → Filling s n stride places 14 0
   unfolding after
-  filling_start places = record { walked = rw (zero-mul stride) (omega arith); place = refl; each = λ j h. absurd (omega arith) }
+  filling_start places =
+      let none : min (0 * stride) n ≡ 0 = omega arith in
+      record { place = rw none; each = λ j h. absurd (omega arith) }
 
-  module _ (places : List ℕ) (done at k : ℕ) (f : Filling s n stride places done at k) (h : done < n) where
+  module _ (places : List ℕ) (at k : ℕ) (f : Filling s n stride places at k) (h : k * stride < n) where
     pub filling_index : (room : ℕ) → n ≤ stride * room → k < room
-    filling_index room e = lt_of_mul-lt-mul_right stride {m = k} {n = room} (omega (arith, f.walked, mul_comm stride room))
+    filling_index room e = lt_of_mul-lt-mul_right stride {m = k} {n = room} (omega (arith, mul_comm stride room))
 
-    pub filling_turn : (step at' : ℕ) → k < length places → step ≡ min stride (n - done) → at' ≡ after_polygons s at step
-        → Filling s n stride (set places k at) (done + step) at' (k + 1)
-    filling_turn step at' l e a =
+    pub filling_place : at ≡ after_polygons s 14 (k * stride)
+    filling_place =
+        let here : min (k * stride) n ≡ k * stride = omega arith in
+        f.place ∙ rw here
+
+    pub filling_turn : (at' : ℕ) → k < length places → at' ≡ after_polygons s at (min stride (n - k * stride)) → Filling s n stride (set places k at) at' (k + 1)
+    filling_turn at' l a =
+        let step = min stride (n - k * stride) in
+        let next : k * stride + step ≡ min ((k + 1) * stride) n = omega arith in
         record {
-          walked = omega (arith, f.walked, suc-mul k stride, ap (λ x. x * stride) (add-one k));
-          place = a ∙ ap (λ x. after_polygons s x step) f.place ∙ after_more (λ x. (poly_at s x).next) done step 14;
+          place = a ∙ ap (λ x. after_polygons s x step) filling_place ∙ after_more (λ x. (poly_at s x).next) (k * stride) step 14 ∙ ap (after_polygons s 14) next;
           each = below_more (λ j. j * stride < n → get_or (set places k at) j 0 ≡ after_polygons s 14 (j * stride)) k
               (λ j b. λ w. get_or-set_other places k j at 0 (λ e. omega arith) ∙ f.each j b w)
-              (λ w. get_or-set_same places k at 0 l ∙ f.place ∙ ap (after_polygons s 14) (omega (arith, f.walked)));
+              (λ w. get_or-set_same places k at 0 l ∙ filling_place);
         }
 
-  pub filling_end : (places : List ℕ) (done at k room : ℕ) → Filling s n stride places done at k → n ≤ done → 1 ≤ stride → room ≡ length places → n ≤ stride * room
+  pub filling_end : (places : List ℕ) (at k room : ℕ) → Filling s n stride places at k → n ≤ k * stride → 1 ≤ stride → room ≡ length places → n ≤ stride * room
       → after_polygons s 14 n ≤ length s → Places s n stride places
-  filling_end places done at k room f h o l e i =
+  filling_end places at k room f h o l e i =
       record {
         some = o;
         enough = rw (← l) e;
         inside = i;
-        each = λ j w. f.each j (lt_of_mul-lt-mul_right stride {m = j} {n = k} (omega (arith, f.walked))) w;
+        each = λ j w. f.each j (lt_of_mul-lt-mul_right stride {m = j} {n = k} (omega arith)) w;
       }
 
 -- the place of a polygon from the table on

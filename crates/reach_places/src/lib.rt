@@ -6,17 +6,14 @@ ghost use Rattle.std.specs.Prelude.{◌≡◌, ◌≤◌, ◌<◌, length};
 ghost use Rattle.strip.specs.Rows.{after_polygons};
 ghost use Rattle.reach_places.specs.Places.{Places};
 
-use fields::least;
-
 // Where n polygons from `at` on end.
 fn skip(strip: &[u32], at: usize, n: usize) -> usize
     requires { after_polygons strip.now at n ≤ length strip.now }
     ensures { result ≡ after_polygons strip.now at n }
 {
     let mut place = at;
-    for i in 0..n {
-        let p = strip::poly_at(strip, place);
-        place = p.next;
+    for _ in 0..n {
+        place = strip::poly_at(strip, place).next;
     }
     place
 }
@@ -28,15 +25,10 @@ pub fn note_places(strip: &[u32], n: usize, places: &mut [usize]) -> usize
 {
     let room = places.len();
     let stride = n / room + 1;
-    let mut done: usize = 0;
-    let mut at: usize = 14;
-    let mut k: usize = 0;
-    while done < n {
+    let mut at = 14;
+    for k in 0..n.div_ceil(stride) {
         places[k] = at;
-        let step = least(stride, n - done);
-        at = skip(strip, at, step);
-        done += step;
-        k += 1;
+        at = skip(strip, at, stride.min(n - k * stride));
     }
     stride
 }

@@ -1,8 +1,9 @@
 -- Rows of steps join, and keep what `Kept` says; and what visiting a polygon comes to, by its record. Assumes nothing.
 use Prim.Native.Nat.{ℕ, zero, suc, ◌+◌, ◌*◌, ◌≤◌, ◌<◌, min}
 use mathlib.Core.Path.{◌≡◌, refl, ap, ◌∙◌}
-use mathlib.Core.Logic.{◌⊎◌, ⊎_elim}
+use mathlib.Core.Logic.{⊎_elim}
 use mathlib.Core.List.{List, ◌∷◌}
+use Rattle.std.specs.Prelude.{Option, None, Some}
 use native.Mathlib.Omega.{arith}
 use lib.ListN.{length, get_or, set, take, get_or-eq_default}
 use borrow.Author.Tests.{eq-eqb, ne_eqb}
@@ -112,3 +113,8 @@ module _ (s : List ℕ) (g : Ground) where
 -- of as many polygons
 pub known_still : {s : List ℕ} {g : Ground} {places : List ℕ} (n n' : ℕ) → n' ≡ n → Known s n g places → Known s n' g places
 known_still n n' e k = rw e k
+
+-- how long a chain can still be that goes on with a portal, or ends
+abbrev pub chain_left : Option ℕ → ℕ
+chain_left None = 0
+chain_left (Some k) = suc k

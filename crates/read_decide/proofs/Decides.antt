@@ -5,23 +5,20 @@ use mathlib.Core.Path.{◌≡◌, refl, sym, ap, subst, ◌∙◌}
 use mathlib.Core.Bool.{Bool, true, false, cond}
 use mathlib.Core.List.{List, [], ◌∷◌}
 use lib.ListN.{length}
+use Rattle.strip.specs.Reasons.{reason_number}
+use Rattle.std.specs.Prelude.{Result, Ok, Err}
 use Rattle.fields.specs.Bytes.{le_at}
 use Rattle.resource.specs.Section.{resolved}
+use Rattle.strip.specs.declared.Reason.{Reason}
 use Rattle.strip.specs.declared.Refusal.{Refusal}
 use Rattle.read_lists.specs.Lists.{total, table_of, listed}
 use Rattle.read_lists.specs.Listed.{Readable}
 use Rattle.read_polygon_words.proofs.Words.{links_are, length_links}
 use Rattle.read_list_set.specs.declared.Limits.{Limits}
-use Rattle.read_list_set.specs.declared.ListsAnswer.{ListsAnswer}
-use Rattle.read_list_set.specs.declared.ListsAnswer.TheVariants.{Lists}
-use Rattle.read_list_set.specs.declared.ListsAnswer.TheVariants.{Refused as Turned}
-use Rattle.read_polygon_tally.specs.declared.PolysAnswer.{PolysAnswer}
-use Rattle.read_polygon_tally.specs.declared.PolysAnswer.TheVariants.{Words}
-use Rattle.read_polygon_tally.specs.declared.PolysAnswer.TheVariants.{Refused as Stopped}
 use Rattle.read_polygons.specs.Polygons.{limits_of}
 use Rattle.read_polygon_tally.specs.Tally.{tally_from}
-use Rattle.read_polygon_tally.specs.Steps.{paper, Small}
-use Rattle.strip.specs.Outcome.{Paper, values, refusal, refusal_of}
+use Rattle.read_polygon_tally.specs.Steps.{Small}
+use Rattle.strip.specs.Outcome.{Paper, values, refusal, refusal_of, paper}
 use Rattle.strip.proofs.Papers.{no_values}
 use Rattle.read_list_set.specs.Items.{items_in}
 use Rattle.read_list_set.specs.Listed.{lists_of, ListsRead, ListsCounted}
@@ -32,24 +29,15 @@ use Rattle.read_lists.proofs.Lists.{whole_of, not_whole}
 use Rattle.strip.specs.Cell.{encode}
 use Rattle.read_decide.specs.declared.ListAddresses.{ListAddresses}
 use Rattle.read_decide.specs.declared.Parsed.{Parsed}
-use Rattle.read_decide.specs.declared.ListsCheck.{ListsCheck}
-use Rattle.read_decide.specs.declared.ListsCheck.TheVariants as ListsCheck
 use Rattle.read_decide.specs.Reading.{Reading, made, refused, on_paper, header, source, polygons, portal_count, portals, root_at, cell_of, on_walk, on_head, on_lists, after_walk, read_cell}
 use Rattle.strip.specs.Outcome.{shown}
 use Rattle.read_lists.specs.Lists.{readable_at}
 use Rattle.read_sectors.specs.declared.Tree.{Tree}
-use Rattle.read_sectors.specs.declared.TreeAnswer.{TreeAnswer}
-use Rattle.read_sectors.specs.declared.TreeAnswer.TheVariants as TreeAnswer
 use Rattle.read_sectors.specs.Walk.{Walked, walk}
 use Rattle.read_sectors.specs.Walk as Walk
-use Rattle.read_sectors.specs.Answer as Tree
-use Rattle.read_sectors.specs.Answer.{outcome_of, tree_outcome}
+use Rattle.read_sectors.specs.Answer.{outcome_of, tree_outcome, Small as FewPoints}
 use Rattle.read_sectors.proofs.Answers.{by_walk, accepted}
-use Rattle.read_decide.specs.declared.ParseAnswer.{ParseAnswer}
-use Rattle.read_decide.specs.declared.HeadCheck.{HeadCheck}
-use Rattle.read_decide.specs.declared.HeadCheck.TheVariants as HeadCheck
 use Rattle.read_decide.specs.Answer.{counts_of}
-use Rattle.read_decide.specs.Answer as Parse
 use Rattle.read_decide.specs.Deciding.{answer_of, passed_then, addresses, link_bytes, polys_words, ListsReady, Tallied, ListsChecked}
 use Rattle.read_decide.proofs.Lengths.{polys_count, portals_count, points_count, encode_length}
 
@@ -68,7 +56,7 @@ module _ (links : ℕ) where
   four a b c d =
       Listed.on_list a (λ v. Listed.on_list b (λ i. Listed.on_list c (λ e. Listed.on_list d (λ p. values (record { vertices = v; indices = i; edges = e; links = links }, p)))))
 
-  turned : (a b c d : Paper ℕ) (rest : Reading) {r : Refusal} → four a b c d ≡ refusal_of r → in_turn a b c d rest ≡ refused r.number r.place
+  turned : (a b c d : Paper ℕ) (rest : Reading) {number place : ℕ} → four a b c d ≡ refusal number place → in_turn a b c d rest ≡ refused number place
   unfolding four
   turned (refusal m q) b c d rest e = refused_of e
   turned (values v) (refusal m q) c d rest e = refused_of e
@@ -95,23 +83,23 @@ module _ (S G : List ℕ) where
       sym (ap length (links_are S G (le_at 8 (header S G) 0x130) (le_at 4 (header S G) 0x150)) ∙ length_links (resolved S G (le_at 8 (header S G) 0x130) (2 * le_at 4 (header S G) 0x150)))
 
 module _ (S G : List ℕ) {a : ListAddresses} (ea : a ≡ addresses (header S G)) {ls : List ℕ} (el : ls ≡ link_bytes S G)
-    (r : ListsAnswer) (er : (Listed.paper r ≡ lists_of S G a.vertices a.indices a.edges a.polygons (length ls / 2)) × ListsRead S G a.vertices a.indices a.edges a.polygons (length ls / 2) r) where
-  by_header : (Listed.paper r ≡ lists_of S G (le_at 8 (header S G) 0x70) (le_at 8 (header S G) 0x80) (le_at 8 (header S G) 0x88) (le_at 8 (header S G) 0x118) (length (link_bytes S G) / 2))
+    (r : Result (Limits × ℕ) Refusal) (er : (paper r ≡ lists_of S G a.vertices a.indices a.edges a.polygons (length ls / 2)) × ListsRead S G a.vertices a.indices a.edges a.polygons (length ls / 2) r) where
+  by_header : (paper r ≡ lists_of S G (le_at 8 (header S G) 0x70) (le_at 8 (header S G) 0x80) (le_at 8 (header S G) 0x88) (le_at 8 (header S G) 0x118) (length (link_bytes S G) / 2))
       × ListsRead S G (le_at 8 (header S G) 0x70) (le_at 8 (header S G) 0x80) (le_at 8 (header S G) 0x88) (le_at 8 (header S G) 0x118) (length (link_bytes S G) / 2) r
   unfolding addresses
   by_header = rw (ea, el) at er
 
-  pub stopped_by_list : {q : Refusal} → r ≡ Turned q → (rest : Reading) → on_lists S G rest ≡ refused q.number q.place
+  pub stopped_by_list : {q : Refusal} → r ≡ Err q → (rest : Reading) → on_lists S G rest ≡ refused (reason_number q.reason) q.place
   unfolding on_lists lists_of four
   stopped_by_list e rest =
       turned (length (link_bytes S G) / 2) (answer S G 6 0x70 1) (answer S G 2 0x80 2) (answer S G 8 0x88 3) (answer S G 48 0x118 4)
-      (on_paper (tally_from (limits_of (source S G)) (source S G).indices 0 (polygons S G)) rest) (sym by_header.0 ∙ ap Listed.paper e)
+      (on_paper (tally_from (limits_of (source S G)) (source S G).indices 0 (polygons S G)) rest) (sym by_header.0 ∙ ap paper e)
 
-  module _ {l : Limits} {n : ℕ} (found : r ≡ Lists l n) where
+  module _ {l : Limits} {n : ℕ} (found : r ≡ Ok (l, n)) where
     all_taken : (rest : Reading) → in_turn (answer S G 6 0x70 1) (answer S G 2 0x80 2) (answer S G 8 0x88 3) (answer S G 48 0x118 4) rest ≡ rest
     unfolding lists_of four
     all_taken rest =
-        taken (length (link_bytes S G) / 2) (answer S G 6 0x70 1) (answer S G 2 0x80 2) (answer S G 8 0x88 3) (answer S G 48 0x118 4) rest (sym by_header.0 ∙ ap Listed.paper found)
+        taken (length (link_bytes S G) / 2) (answer S G 6 0x70 1) (answer S G 2 0x80 2) (answer S G 8 0x88 3) (answer S G 48 0x118 4) rest (sym by_header.0 ∙ ap paper found)
 
     counts : ListsCounted S G (le_at 8 (header S G) 0x70) (le_at 8 (header S G) 0x80) (le_at 8 (header S G) 0x88) (le_at 8 (header S G) 0x118) (length (link_bytes S G) / 2) l n
     counts = rw found at by_header.1
@@ -144,16 +132,16 @@ module _ (S G : List ℕ) {a : ListAddresses} (ea : a ≡ addresses (header S G)
       pub may_check : Readable S G 2 it × Readable S G 48 pt × (l.indices ≡ total it) × (n ≡ total pt)
       may_check = rw (index_table, polygon_table) (counts.indices.readable, counts.polys.readable, counts.indices.count, counts.polys.count)
 
-      module _ (t : PolysAnswer) (et : (paper t ≡ tally_from l (items_in S G 2 it) 0 (items_in S G 48 pt)) × Small (18434 * n) t) where
+      module _ (t : Result ℕ Refusal) (et : (paper t ≡ tally_from l (items_in S G 2 it) 0 (items_in S G 48 pt)) × Small (18434 * n) t) where
         tally_is : tally_from (limits_of (source S G)) (source S G).indices 0 (polygons S G) ≡ paper t
         unfolding source
         tally_is = sym (et.0 ∙ rw (limits_are, index_table, polygon_table))
 
-        pub stopped_by_polygon : {q : Refusal} → t ≡ Stopped q → (rest : Reading) → on_lists S G rest ≡ refused q.number q.place
+        pub stopped_by_polygon : {q : Refusal} → t ≡ Err q → (rest : Reading) → on_lists S G rest ≡ refused (reason_number q.reason) q.place
         unfolding on_lists
         stopped_by_polygon e rest = all_taken (on_paper (tally_from (limits_of (source S G)) (source S G).indices 0 (polygons S G)) rest) ∙ rw (tally_is, e)
 
-        pub all_tallied : {w : ℕ} → t ≡ Words w → Tallied S G w n
+        pub all_tallied : {w : ℕ} → t ≡ Ok w → Tallied S G w n
         unfolding on_lists polys_words
         all_tallied {w} e =
             record {
@@ -167,14 +155,14 @@ module _ (S G : List ℕ) {a : ListAddresses} (ea : a ≡ addresses (header S G)
 
 -- ---- after the walk
 
-module _ (S G : List ℕ) {r : ListsCheck} (er : ListsChecked S G r) where
-  pub rest_stopped : {q : Refusal} → r ≡ ListsCheck.Refused q → (points : List (List ℕ)) (k : ℕ) → refusal_of q ≡ answer_of (after_walk S G points k)
+module _ (S G : List ℕ) {r : Result (ℕ × ℕ) Refusal} (er : ListsChecked S G r) where
+  pub rest_stopped : {q : Refusal} → r ≡ Err q → (points : List (List ℕ)) (k : ℕ) → refusal_of q ≡ answer_of (after_walk S G points k)
   unfolding after_walk
   rest_stopped {q} e points k =
-      let stops : (rest : Reading) → on_lists S G rest ≡ refused q.number q.place = subst (ListsChecked S G) e er in
+      let stops : (rest : Reading) → on_lists S G rest ≡ refused (reason_number q.reason) q.place = subst (ListsChecked S G) e er in
       ap answer_of (sym (stops _))
 
-  module _ {w n : ℕ} (e : r ≡ ListsCheck.Polys w n) where
+  module _ {w n : ℕ} (e : r ≡ Ok (w, n)) where
     pub tallied : Tallied S G w n
     tallied = subst (ListsChecked S G) e er
 
@@ -214,40 +202,40 @@ passed_far S G passes z = by (readable_at S G 0x5000_0000 368) (rw z at (passes 
     by true e = let n : ◌≡◌ {A = ℕ} 31 0 = cc in omega arith
     by false e = let n : ◌≡◌ {A = ℕ} 30 0 = cc in omega arith
 
-module _ (S G : List ℕ) {x : HeadCheck} (ex : (rest : Reading) → on_head S G rest ≡ passed_then x rest) where
-  pub head_stopped : {q : Refusal} → x ≡ HeadCheck.Refused q → refusal_of q ≡ answer_of (read_cell S G)
+module _ (S G : List ℕ) {x : Result (Unit {0}) Reason} (ex : (rest : Reading) → on_head S G rest ≡ passed_then x rest) where
+  pub head_stopped : {q : Reason} → x ≡ Err q → ◌≡◌ {A = Paper Parsed} (refusal (reason_number q) 0) (answer_of (read_cell S G))
   unfolding read_cell
   head_stopped {q} e =
-      let is : read_cell S G ≡ refused q.number q.place = ex _ ∙ rw e in
+      let is : read_cell S G ≡ refused (reason_number q) 0 = ex _ ∙ rw e in
       sym (ap answer_of is)
 
-  module _ (e : x ≡ HeadCheck.Passed) {root : ℕ} (er : root ≡ root_at S G) (a : TreeAnswer) (ea : (Tree.paper a ≡ shown (tree_outcome S G root)) × Tree.Small a) where
+  module _ {u : Unit {0}} (e : x ≡ Ok u) {root : ℕ} (er : root ≡ root_at S G) (a : Result Tree Refusal) (ea : (paper a ≡ shown (tree_outcome S G root)) × FewPoints a) where
     passes : (rest : Reading) → on_head S G rest ≡ rest
     passes rest = ex rest ∙ rw e
 
-    at_root : Tree.paper a ≡ shown (tree_outcome S G (root_at S G))
+    at_root : paper a ≡ shown (tree_outcome S G (root_at S G))
     at_root = ea.0 ∙ ap (λ (n : ℕ). shown (tree_outcome S G n)) er
 
-    pub tree_stopped : {q : Refusal} → a ≡ TreeAnswer.Refused q → refusal_of q ≡ answer_of (read_cell S G)
+    pub tree_stopped : {q : Refusal} → a ≡ Err q → refusal_of q ≡ answer_of (read_cell S G)
     unfolding read_cell
     tree_stopped {q} f =
         let w = walk S G 4096 (root_at S G ∷ []) in
-        let says : refusal_of {A = Tree} q ≡ shown (outcome_of w) = sym (ap Tree.paper f) ∙ at_root ∙ ap shown (by_walk S G (root_at S G) (passed_far S G passes)) in
-        let is : read_cell S G ≡ refused q.number q.place = passes (on_walk w (after_walk S G)) ∙ by w says in
+        let says : refusal_of {A = Tree} q ≡ shown (outcome_of w) = sym (ap paper f) ∙ at_root ∙ ap shown (by_walk S G (root_at S G) (passed_far S G passes)) in
+        let is : read_cell S G ≡ refused (reason_number q.reason) q.place = passes (on_walk w (after_walk S G)) ∙ by w says in
         sym (ap answer_of is)
       where
-        by : (w : Walked) → refusal_of {A = Tree} q ≡ shown (outcome_of w) → on_walk w (after_walk S G) ≡ refused q.number q.place
+        by : (w : Walked) → refusal_of {A = Tree} q ≡ shown (outcome_of w) → on_walk w (after_walk S G) ≡ refused (reason_number q.reason) q.place
         by (Walk.refused number) g = cc
         by (Walk.done left points) g = let z : ◌≡◌ {A = ℕ} 0 1 = cc in absurd (omega arith)
 
-    module _ {t : Tree} (f : a ≡ TreeAnswer.Tree t) where
+    module _ {t : Tree} (f : a ≡ Ok t) where
       pub few_points : t.points ≤ 65535 * 4096
-      few_points = let small : Tree.Small (TreeAnswer.Tree t) = rw f at ea.1 in small
+      few_points = let small : FewPoints (Ok t) = rw f at ea.1 in small
 
-      pub decided : (r : ParseAnswer) → ((points : List (List ℕ)) → length points ≡ t.points → Parse.paper r ≡ answer_of (after_walk S G points t.sectors)) → Parse.paper r ≡ answer_of (read_cell S G)
+      pub decided : (r : Result Parsed Refusal) → ((points : List (List ℕ)) → length points ≡ t.points → paper r ≡ answer_of (after_walk S G points t.sectors)) → paper r ≡ answer_of (read_cell S G)
       unfolding read_cell
       decided r g =
-          let found = accepted S G (root_at S G) (sym (ap Tree.paper f) ∙ at_root) in
+          let found = accepted S G (root_at S G) (sym (ap paper f) ∙ at_root) in
           let is : read_cell S G ≡ after_walk S G found.points t.sectors =
           passes _ ∙ ap (λ (w : Walked). on_walk w (after_walk S G)) found.is ∙ ap (after_walk S G found.points) (sym found.sectors_are) in
           g found.points (sym found.points_are) ∙ sym (ap answer_of is)

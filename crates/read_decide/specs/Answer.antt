@@ -1,14 +1,7 @@
 -- What the answer on a reading says. Definitions only.
 use Rattle.std.specs.Prelude.{ℕ, length}
 use Rattle.strip.specs.Cell.{Cell, encode}
-use Rattle.strip.specs.Outcome.{Paper, values, refusal_of}
 use Rattle.read_decide.specs.declared.Parsed.{Parsed}
-use Rattle.read_decide.specs.declared.ParseAnswer.{ParseAnswer}
-use Rattle.read_decide.specs.declared.ParseAnswer.TheVariants as ParseAnswer
-
-abbrev pub paper : ParseAnswer → Paper Parsed
-paper (ParseAnswer.Parsed p) = values p
-paper (ParseAnswer.Refused r) = refusal_of r
 
 -- how much a cell has
 abbrev pub counts_of : Cell → ℕ → Parsed

@@ -1,8 +1,11 @@
 -- What deciding hands on: answers, places in the pages, parts of the strip, and what is known of a cell that passed. Definitions only.
-use Rattle.std.specs.Prelude.{ℕ, ◌*◌, ◌^◌, ◌≤◌, ◌<◌, ◌≡◌, List, map, length}
+use Rattle.std.specs.Prelude.{ℕ, ◌*◌, ◌^◌, ◌≤◌, ◌<◌, ◌≡◌, List, map, length, Result, Ok, Err}
 use Rattle.fields.specs.Bytes.{le_at, cut}
 use Rattle.fields.specs.Sizes.{edge_size, index_size, poly_size, portal_size, vertex_size}
 use Rattle.resource.specs.Section.{resolved}
+use Rattle.strip.specs.declared.Reason.{Reason}
+use Rattle.strip.specs.declared.Refusal.{Refusal}
+use Rattle.strip.specs.Reasons.{reason_number}
 use Rattle.strip.specs.Outcome.{Paper, refusal, values}
 use Rattle.strip.specs.Cell.{each, polygon_words, portal_words}
 use Rattle.read_grammar.specs.Derives.{back_of, portal_of}
@@ -10,13 +13,7 @@ use Rattle.read_lists.specs.Lists.{table_of}
 use Rattle.read_lists.specs.Listed.{Readable}
 use Rattle.read_polygons.specs.Polygons.{polygon_made}
 use Rattle.read_decide.specs.declared.Parsed.{Parsed}
-use Rattle.read_decide.specs.declared.ParseAnswer.{ParseAnswer}
-use Rattle.read_decide.specs.declared.ParseAnswer.TheVariants as ParseAnswer
 use Rattle.read_decide.specs.declared.ListAddresses.{ListAddresses}
-use Rattle.read_decide.specs.declared.HeadCheck.{HeadCheck}
-use Rattle.read_decide.specs.declared.HeadCheck.TheVariants as HeadCheck
-use Rattle.read_decide.specs.declared.ListsCheck.{ListsCheck}
-use Rattle.read_decide.specs.declared.ListsCheck.TheVariants as ListsCheck
 use Rattle.read_decide.specs.Reading.{Reading, made, refused, header, root, head, source, polygons, portal_count, portals, on_lists}
 use Rattle.read_decide.specs.Answer.{counts_of}
 
@@ -26,9 +23,9 @@ answer_of (made c sectors) = values (counts_of c sectors)
 answer_of (refused number place) = refusal number place
 
 -- a run of checks, before the rest
-abbrev pub passed_then : HeadCheck → Reading → Reading
-passed_then HeadCheck.Passed rest = rest
-passed_then (HeadCheck.Refused r) rest = refused r.number r.place
+abbrev pub passed_then : Result (Unit {0}) Reason → Reading → Reading
+passed_then (Ok u) rest = rest
+passed_then (Err reason) rest = refused (reason_number reason) 0
 
 -- where the lists are
 unfoldable pub addresses : List ℕ → ListAddresses
@@ -58,9 +55,9 @@ module _ (system graphics : List ℕ) where
     pub edges : Readable system graphics edge_size (table_of system graphics (le_at 8 (header system graphics) 0x88))
     pub polygons : Readable system graphics poly_size (table_of system graphics (le_at 8 (header system graphics) 0x118))
 
-  abbrev pub ReadyFor : ParseAnswer → Type 0
-  ReadyFor (ParseAnswer.Parsed p) = ListsReady
-  ReadyFor (ParseAnswer.Refused r) = Unit {0}
+  abbrev pub ReadyFor : (Result Parsed Refusal) → Type 0
+  ReadyFor (Ok p) = ListsReady
+  ReadyFor (Err r) = Unit {0}
 
   -- lists and polygons passed their checks, with so many words and polygons
   pub record Tallied (words count : ℕ) : Type 0 where
@@ -71,6 +68,6 @@ module _ (system graphics : List ℕ) where
     pub few : count < 2 ^ 32
     pub small : words ≤ 18434 * count
 
-  abbrev pub ListsChecked : ListsCheck → Type 0
-  ListsChecked (ListsCheck.Polys words count) = Tallied words count
-  ListsChecked (ListsCheck.Refused r) = (rest : Reading) → on_lists system graphics rest ≡ refused r.number r.place
+  abbrev pub ListsChecked : Result (ℕ × ℕ) Refusal → Type 0
+  ListsChecked (Ok a) = Tallied a.0 a.1
+  ListsChecked (Err r) = (rest : Reading) → on_lists system graphics rest ≡ refused (reason_number r.reason) r.place

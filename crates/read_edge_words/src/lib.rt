@@ -13,7 +13,7 @@ use areas::ADJACENT_NONE;
 use areas::edge::decode_end;
 use fields::sizes::EDGE_SIZE;
 use fields::u32_le;
-use read_records::words::put3;
+use read_records::words::put_words;
 
 // The area of an index, by the header's table.
 fn area_of(header: &[u8], i: u32) -> u32
@@ -32,7 +32,11 @@ fn put_half(header: &[u8], raw: u32, out: &mut [u32], at: usize)
 {
     let e = decode_end(raw);
     let area = area_of(header, e.index);
-    put3(out, at, area, e.poly, e.unk3 % 2048 + 65536 * (e.unk2 % 4));
+    put_words(
+        out,
+        at,
+        [area, e.poly, e.unk3 % 2048 + 65536 * (e.unk2 % 4)],
+    );
 }
 
 // An edge, 8 bytes.
@@ -49,11 +53,9 @@ pub fn put_edge_run<'a>(header: &'a [u8], run: &'a [u8], n: usize, out: &mut [u3
     requires { (edge_size * n ≤ length run.now) × (at + 6 * n ≤ length out.old) }
     ensures { out.new ≡ put at (each edge_words (map (edge_of (area_of header.now)) (cut edge_size n run.now))) out.old }
 {
-    let mut k = 0;
-    while k < n {
+    for k in 0..n {
         let from = EDGE_SIZE * k;
         let to = from + EDGE_SIZE;
         put_edge(header, &run[from..to], out, at + 6 * k);
-        k += 1;
     }
 }

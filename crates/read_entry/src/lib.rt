@@ -9,7 +9,6 @@ ghost use Rattle.answers.specs.Words.{number_of, answer_words};
 ghost use Rattle.read_entry.specs.Entries.{parsed_words};
 
 use answers::{accept, refuse};
-use read_decide::ParseAnswer;
 
 // The words of the strip, polygons, portals, points and the sectors visited.
 pub fn parse_entry<'a>(
@@ -23,7 +22,7 @@ pub fn parse_entry<'a>(
     ensures strip { strip.new ≡ left (parse_outcome system.now graphics.now (length strip.old)) strip.old }
 {
     match ynv_read::parse_ynv(system, graphics, strip) {
-        ParseAnswer::Parsed(p) => accept(
+        Ok(p) => accept(
             answer,
             &[
                 p.words as u64,
@@ -33,6 +32,6 @@ pub fn parse_entry<'a>(
                 p.sectors as u64,
             ],
         ),
-        ParseAnswer::Refused(r) => refuse(answer, r),
+        Err(r) => refuse(answer, r),
     }
 }

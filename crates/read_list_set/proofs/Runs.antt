@@ -1,11 +1,12 @@
 -- Runs of items that are taken part by part: what is left of a run is what the cursor's part holds of it, and what is left then.
-use Prim.Native.Nat.{ℕ, suc, ◌+◌, ◌-◌, ◌*◌, ◌/◌, ◌≤◌, ◌<◌, min}
+use Prim.Native.Nat.{ℕ, ◌+◌, ◌-◌, ◌*◌, ◌/◌, ◌≤◌, ◌<◌, min}
 use native.Mathlib.Nat.{add-zero, sub-zero, mul-zero, mul-add, mul-le-mul_left, mul-div_cancel_left}
 use native.Mathlib.Omega.{arith}
-use mathlib.Core.Path.{◌≡◌, refl, sym, ap, ◌∙◌}
+use mathlib.Core.Path.{◌≡◌, sym, ◌∙◌}
 use mathlib.Core.List.{List, [], ◌∷◌, ◌++◌, map}
-use lib.ListN.{length, take, drop, get_or, take-append-drop, drop_of_length-le}
+use lib.ListN.{length, take, drop, get_or, take-append-drop, drop_of_length-le, length-map}
 use lib.Seq.{take-add, drop-drop, ext_get_or}
+use Rattle.std.proofs.lemmas.List.{map-append}
 use Rattle.fields.specs.Bytes.{cut}
 use Rattle.fields.specs.Put.{put}
 use Rattle.fields.proofs.Puts.{put_next, put_nil}
@@ -128,22 +129,14 @@ taken system graphics w table wide r start count k {c} h {q} e {n} en room l =
 
 -- ---- words
 
-pub map_append : {A : Type 0} (f : List ℕ → A) (xs ys : List (List ℕ)) → map f (xs ++ ys) ≡ map f xs ++ map f ys
-map_append f [] ys = refl
-map_append f (x ∷ xs) ys = ap (λ l. f x ∷ l) (map_append f xs ys)
-
-pub length_map : {A : Type 0} (f : List ℕ → A) (xs : List (List ℕ)) → length (map f xs) ≡ length xs
-length_map f [] = refl
-length_map f (x ∷ xs) = ap suc (length_map f xs)
-
 -- a part's items are written, and what is left goes behind them
 module _ {A : Type 0} (words : A → List ℕ) (size : ℕ) (h : (a : A) → length (words a) ≡ size) (f : List ℕ → A) (at k n : ℕ) where
   pub put_part : (ys zs : List (List ℕ)) {xs : List (List ℕ)} → xs ≡ ys ++ zs → length ys ≡ n → (out : List ℕ)
       → put (at + size * (k + n)) (each words (map f zs)) (put (at + size * k) (each words (map f ys)) out) ≡ put (at + size * k) (each words (map f xs)) out
   put_part ys zs e l out =
       let a : at + size * (k + n) ≡ at + size * k + size * n = rw (mul-add size k n) (omega arith) in
-      let b : length (each words (map f ys)) ≡ size * n = length_each words size h (map f ys) ∙ rw (length_map f ys, l) in
-      rw (e, map_append f ys zs, each_append words (map f ys) (map f zs), a) (put_next (size * n) (at + size * k) (each words (map f ys)) (each words (map f zs)) out b)
+      let b : length (each words (map f ys)) ≡ size * n = length_each words size h (map f ys) ∙ rw (length-map ys f, l) in
+      rw (e, map-append f ys zs, each_append words (map f ys) (map f zs), a) (put_next (size * n) (at + size * k) (each words (map f ys)) (each words (map f zs)) out b)
 
 module _ {A : Type 0} (words : A → List ℕ) (size : ℕ) (f : List ℕ → A) (at : ℕ) where
   pub put_first : {xs ys : List (List ℕ)} → xs ≡ ys → (out : List ℕ) → put (at + size * 0) (each words (map f xs)) out ≡ put at (each words (map f ys)) out

@@ -8,13 +8,13 @@ use mathlib.Core.List.{List, []}
 use mathlib.Core.Logic.{◌⊎◌, inl, inr, ⊎_elim}
 use lib.Dec.{eqb}
 use borrow.Author.Tests.{eq-eqb, ne_eqb, eqb-true, eqb-false}
+use Rattle.strip.specs.declared.Refusal.{Refusal}
+use Rattle.std.specs.Prelude.{Result, Ok}
 use Rattle.fields.specs.Bytes.{le_at}
-use Rattle.read_lists.specs.declared.ListAnswer.{ListAnswer}
-use Rattle.read_lists.specs.declared.ListAnswer.TheVariants.{Items}
-use Rattle.strip.specs.Outcome.{Paper, values, refusal}
+use Rattle.strip.specs.Outcome.{Paper, values, refusal, paper}
 use Rattle.strip.proofs.Papers.{no_values}
 use Rattle.read_lists.specs.Lists.{before, total, readable_at, good_to, all_good, header, table_of, listed}
-use Rattle.read_lists.specs.Listed.{paper, Few, Readable}
+use Rattle.read_lists.specs.Listed.{Few, Readable}
 use Rattle.resource.proofs.Parts.{null_empty}
 
 pub record Accepted (system graphics : List ℕ) (size va : ℕ) : Type 0 where
@@ -97,7 +97,7 @@ module _ (system graphics : List ℕ) (size : ℕ) where
   found_good (there a) = (a.parts_good, sym a.adds_up)
 
   -- a list that `read_list` accepted can be read by its part table, and has as many items as its parts together
-  pub readable : (va place : ℕ) {a : ListAnswer} {n : ℕ} → size < 65536 → (paper a ≡ listed system graphics size va place) × Few a → a ≡ Items n
+  pub readable : (va place : ℕ) {a : (Result ℕ Refusal)} {n : ℕ} → size < 65536 → (paper a ≡ listed system graphics size va place) × Few a → a ≡ Ok n
       → Readable system graphics size (table_of system graphics va) × (n ≡ total (table_of system graphics va))
   readable va place {n = n} small h e =
       let (g, s) = found_good (listed_found system graphics size place (sym h.0 ∙ ap paper e)) in

@@ -8,14 +8,7 @@ ghost use Rattle.read_lists.specs.Cursors.{AtPart, Holds, run_at};
 
 use fields::sizes::{LIST_PART_SIZE, LIST_SIZE};
 use fields::{u32_le, u64_le};
-use resource::{good_part, resolve};
-use strip::Refusal;
-
-#[derive(Clone, Copy)]
-pub enum ListAnswer {
-    Items(usize),
-    Refused(Refusal),
-}
+use res_reader::ResReader;
 
 // A part of a list's table: its number, the number of its first item, its item count and its address.
 #[derive(Clone, Copy)]
@@ -27,13 +20,13 @@ pub struct Cursor {
 }
 
 // The part table of the list at va.
-pub fn list_table<'a>(system: &'a [u8], graphics: &'a [u8], va: u64) -> &'a [u8]
-    ensures { result.now ≡ table_of system.now graphics.now va }
+pub fn list_table<'a>(reader: ResReader<'a>, va: u64) -> &'a [u8]
+    ensures { result.now ≡ table_of reader.entry.system.now reader.entry.graphics.now va }
 {
-    let h = resolve(system, graphics, va, LIST_SIZE);
+    let h = reader.resolve(va, LIST_SIZE);
     let address = u64_le(h, 0x10);
     let count = u32_le(h, 0x20) as usize;
-    resolve(system, graphics, address, LIST_PART_SIZE * count)
+    reader.resolve(address, LIST_PART_SIZE * count)
 }
 
 // The cursor at part k.
@@ -60,7 +53,7 @@ pub fn list_start(table: &[u8]) -> Cursor
     cursor_at(table, 0, 0)
 }
 
-// The cursor moved back, part by part, until item i stands at its part or behind it.
+// The cursor moved back, part by part, until item i stands at its part or behind it. A `while`: no number says beforehand how many parts.
 fn back_to(table: &[u8], from: Cursor, i: usize) -> Cursor
     requires { AtPart table.now from }
     ensures cursor { AtPart table.now result }
@@ -75,7 +68,7 @@ fn back_to(table: &[u8], from: Cursor, i: usize) -> Cursor
     c
 }
 
-// The cursor moved to the part that holds item i, back or forth from where it stands.
+// The cursor moved to the part that holds item i, back or forth from where it stands: by a `while` too, since empty parts lie between.
 pub fn walk_to(table: &[u8], from: Cursor, i: usize) -> Cursor
     requires { AtPart table.now from × (i < total table.now) × (total table.now < 2 ^ 32) }
     ensures { Holds table.now i result }
@@ -92,29 +85,26 @@ pub fn seek(table: &[u8], from: Cursor, i: usize) -> Cursor
     requires { AtPart table.now from × (i < total table.now) × (total table.now < 2 ^ 32) }
     ensures { Holds table.now i result }
 {
-    if from.first <= i {
-        if i - from.first < from.count {
-            return from;
-        }
+    if from.first <= i && i - from.first < from.count {
+        return from;
     }
     walk_to(table, from, i)
 }
 
 // Items i, i + 1 and so on, as far as the cursor's part goes: a part of the lent section itself.
 pub fn list_run<'a>(
-    system: &'a [u8],
-    graphics: &'a [u8],
+    reader: ResReader<'a>,
     table: &'a [u8],
     size: usize,
     c: Cursor,
     i: usize,
 ) -> &'a [u8]
-    requires { Readable system.now graphics.now size table.now × Holds table.now i c × (0 < size) }
-    ensures content { result.now ≡ take (size * (c.first + c.count - i)) (drop (size * i) (list_bytes system.now graphics.now size table.now)) }
-    ensures place { result.ref_ptr ≡ run_at system.entry graphics.entry c.address (size * (i - c.first)) }
+    requires { Readable reader.system.now reader.graphics.now size table.now × Holds table.now i c × (0 < size) }
+    ensures content { result.now ≡ take (size * (c.first + c.count - i)) (drop (size * i) (list_bytes reader.entry.system.now reader.entry.graphics.now size table.now)) }
+    ensures place { result.ref_ptr ≡ run_at reader.entry.system reader.entry.graphics c.address (size * (i - c.first)) }
 {
     let count = c.count;
-    let p = good_part(system, graphics, c.address, size * count);
+    let p = reader.good_part(c.address, size * count);
     let at = size * (i - c.first);
     &p[at..]
 }

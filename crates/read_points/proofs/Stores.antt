@@ -4,11 +4,11 @@ use native.Mathlib.Nat.{add-zero}
 use native.Mathlib.Omega.{arith}
 use mathlib.Core.Path.{◌≡◌, refl, sym, ap, ◌∙◌}
 use mathlib.Core.List.{List, [], ◌∷◌, ◌++◌, map, append_assoc}
-use lib.ListN.{length, length-map, set}
+use lib.ListN.{length, length-map}
 use Rattle.fields.specs.Bytes.{le_at}
 use Rattle.fields.specs.Put.{put}
 use Rattle.fields.specs.Rows.{pack}
-use Rattle.fields.proofs.Puts.{put_nil, put_four, put_next}
+use Rattle.fields.proofs.Puts.{put_nil, put_next}
 use Rattle.strip.specs.Cell.{Vec3, vec_words, each, point_words}
 use Rattle.strip.proofs.Plain.{length_each, point_length}
 use Rattle.read_grammar.specs.Derives.{point_of}
@@ -20,10 +20,10 @@ unfolding pack
 first_word a k h l = omega arith
 
 -- a point, its position as its shorts
-pub point_put : (at : ℕ) (b s : List ℕ) {w a k x y z : ℕ} → w ≡ 0x4000_0000 + a + 0x100 * k → a ≡ le_at 1 b 6 → k ≡ le_at 1 b 7 → x ≡ le_at 2 b 0 → y ≡ le_at 2 b 2 → z ≡ le_at 2 b 4 → a < 256 → k < 256
-    → set (set (set (set s at w) (at + 1) x) (at + 2) y) (at + 3) z ≡ put at (point_words (point_of as_shorts b)) s
+pub point_is : (b : List ℕ) {a k x y z : ℕ} → a ≡ le_at 1 b 6 → k ≡ le_at 1 b 7 → x ≡ le_at 2 b 0 → y ≡ le_at 2 b 2 → z ≡ le_at 2 b 4 → a < 256 → k < 256
+    → ((0x4000_0000 + a + 0x100 * k) ∷ x ∷ y ∷ z ∷ []) ≡ point_words (point_of as_shorts b)
 unfolding point_words point_of vec_words as_shorts
-point_put at b s {a = a} {k = k} ew ea ek ex ey ez h l = put_four at _ _ _ _ s ∙ rw (ew, ← ea, ← ek, ← ex, ← ey, ← ez, first_word a k h l)
+point_is b {a = a} {k = k} ea ek ex ey ez h l = rw (← ea, ← ek, ← ex, ← ey, ← ez, first_word a k h l)
 
 module _ (back : ℕ → ℕ → ℕ → Vec3) where
   -- one point, and those after it

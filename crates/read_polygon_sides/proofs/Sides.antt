@@ -3,7 +3,7 @@ use Prim.Native.Nat.{ℕ, ◌+◌, ◌*◌, ◌≤◌}
 use native.Mathlib.Omega.{arith}
 use mathlib.Core.Path.{◌≡◌, ap, ◌∙◌}
 use mathlib.Core.List.{List, map}
-use lib.ListN.{length, take, drop, length-append, length-drop}
+use lib.ListN.{length, take, drop, length-append, length-drop, length-map}
 use lib.Seq.{length-take-le}
 use Rattle.fields.specs.Put.{put}
 use Rattle.fields.proofs.Puts.{put_next}
@@ -12,7 +12,6 @@ use Rattle.read_grammar.specs.Polygons.{edge_of}
 use Rattle.strip.proofs.Plain.{length_each}
 use Rattle.read_polygon_words.proofs.Words.{vec_three}
 use Rattle.read_edge_words.proofs.Edges.{edge_six}
-use Rattle.read_list_set.proofs.Runs.{length_map}
 use Rattle.read_polygon_sides.specs.Sides.{sides}
 use Rattle.read_polygon_sides.specs.Corner.{corner}
 
@@ -21,10 +20,10 @@ run_length xs start n h = length-take-le n (drop start xs) (rw length-drop (omeg
 
 module _ (area : ℕ → ℕ) (back : ℕ → ℕ → ℕ → Vec3) (vertices indices edges : List (List ℕ)) (start n : ℕ) (hi : start + n ≤ length indices) (he : start + n ≤ length edges) where
   pub vertex_count : length (map (corner back vertices) (take n (drop start indices))) ≡ n
-  vertex_count = length_map (corner back vertices) (take n (drop start indices)) ∙ run_length indices start n hi
+  vertex_count = length-map (take n (drop start indices)) (corner back vertices) ∙ run_length indices start n hi
 
   pub edge_count : length (map (edge_of area) (take n (drop start edges))) ≡ n
-  edge_count = length_map (edge_of area) (take n (drop start edges)) ∙ run_length edges start n he
+  edge_count = length-map (take n (drop start edges)) (edge_of area) ∙ run_length edges start n he
 
   vertex_words : length (each vec_words (map (corner back vertices) (take n (drop start indices)))) ≡ 3 * n
   vertex_words = length_each vec_words 3 vec_three (map (corner back vertices) (take n (drop start indices))) ∙ ap (λ (k : ℕ). 3 * k) vertex_count

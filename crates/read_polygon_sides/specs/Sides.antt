@@ -11,6 +11,7 @@ use Rattle.read_lists.specs.Cursors.{AtPart}
 use Rattle.read_polygon_words.specs.Words.{all_below}
 use Rattle.read_list_set.specs.Items.{items_in}
 use Rattle.read_polygon_sides.specs.declared.Cursors.{Cursors}
+use Rattle.read_polygon_sides.specs.declared.Pages.{Pages}
 use Rattle.read_polygon_sides.specs.Corner.{corner}
 
 -- the words of n vertices and of n edges, from `start` on
@@ -32,6 +33,13 @@ pub record Inside (system graphics vertices indices edges : List ℕ) (start n :
   pub in_indices : start + n ≤ total indices
   pub in_edges : start + n ≤ total edges
   pub below : all_below (total vertices) (take n (drop start (items_in system graphics index_size indices))) ≡ true
+
+-- the same of the pages in a struct
+abbrev pub OpenIn : Pages → Cursors → Type 0
+OpenIn p = ListsOpen p.reader.system.now p.reader.graphics.now p.vertices.now p.indices.now p.edges.now
+
+abbrev pub InsideOf : Pages → (start n : ℕ) → Type 0
+InsideOf p = Inside p.reader.system.now p.reader.graphics.now p.vertices.now p.indices.now p.edges.now
 
 -- bytes that hold `count` items of w bytes, of which the first has number `first`
 pub record Held (w : ℕ) (items : List (List ℕ)) (first count : ℕ) (bytes : List ℕ) : Type 0 where

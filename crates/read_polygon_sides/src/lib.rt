@@ -14,15 +14,27 @@ ghost use Rattle.read_lists.specs.Cursors.{AtPart};
 ghost use Rattle.read_records.specs.Back.{back_by};
 ghost use Rattle.read_polygon_words.specs.Words.{all_below};
 ghost use Rattle.read_list_set.specs.Items.{items_in};
-ghost use Rattle.read_polygon_sides.specs.Sides.{sides, ListsOpen, Inside, Near};
+ghost use Rattle.read_polygon_sides.specs.Sides.{sides, OpenIn, InsideOf, Near};
 ghost use Rattle.read_polygon_sides.specs.Corner.{corner};
 
-use fields::least;
 use fields::sizes::{EDGE_SIZE, INDEX_SIZE, VERTEX_SIZE};
-use math::vec3::Vec3;
+use quantise::short::Frame;
 use read_edge_words::put_edge_run;
 use read_lists::{Cursor, list_run, seek};
 use read_polygon_words::{index_at, put_vertex};
+use res_reader::ResReader;
+
+// What polygons are made from: the reader of the two sections, the part tables of the three lists, the bytes of the link table, the header, and the cell's box.
+#[derive(Clone, Copy)]
+pub struct Pages<'a> {
+    pub reader: ResReader<'a>,
+    pub vertices: &'a [u8],
+    pub indices: &'a [u8],
+    pub edges: &'a [u8],
+    pub links: &'a [u8],
+    pub header: &'a [u8],
+    pub frame: Frame,
+}
 
 // Where the cursors over the three lists stand.
 #[derive(Clone, Copy)]
@@ -40,41 +52,38 @@ pub struct Corners {
 }
 
 // A run of edges, part by part; where the cursor stands then.
-fn put_edges<'a>(
-    system: &'a [u8],
-    graphics: &'a [u8],
-    header: &'a [u8],
-    table: &'a [u8],
+fn put_edges(
+    pages: &Pages,
     from: Cursor,
     start: usize,
     count: usize,
     out: &mut [u32],
     at: usize,
 ) -> Cursor
-    requires { Readable system.now graphics.now edge_size table.now × AtPart table.now from × (start + count ≤ total table.now) × (at + 6 * count ≤ length out.old) }
-    ensures cursor { AtPart table.now result }
-    ensures content { out.new ≡ put at (each edge_words (map (edge_of (area_of header.now)) (take count (drop start (items_in system.now graphics.now edge_size table.now))))) out.old }
+    requires { Readable pages.now.reader.system.now pages.now.reader.graphics.now edge_size pages.now.edges.now × AtPart pages.now.edges.now from × (start + count ≤ total pages.now.edges.now) × (at + 6 * count ≤ length out.old) }
+    ensures cursor { AtPart pages.now.edges.now result }
+    ensures content { out.new ≡ put at (each edge_words (map (edge_of (area_of pages.now.header.now)) (take count (drop start (items_in pages.now.reader.system.now pages.now.reader.graphics.now edge_size pages.now.edges.now))))) out.old }
 {
     let mut c = from;
     let mut k = 0;
+    // A turn takes as many items as the cursor's part holds, so the step is the part's; a `for` has none such, and an iterator would have to hand its cursor back.
     while k < count {
-        c = seek(table, c, start + k);
-        let run = list_run(system, graphics, table, EDGE_SIZE, c, start + k);
-        let n = least(run.len() / EDGE_SIZE, count - k);
-        put_edge_run(header, run, n, out, at + 6 * k);
+        c = seek(pages.edges, c, start + k);
+        let run = list_run(pages.reader, pages.edges, EDGE_SIZE, c, start + k);
+        let n = (run.len() / EDGE_SIZE).min(count - k);
+        put_edge_run(pages.header, run, n, out, at + 6 * k);
         k += n;
     }
     c
 }
 
 // The vertices that indices `from` to n of `run` name, as long as they stand in `part`, which holds `count` of them, the first with number `first`; where it ends.
-fn put_near<'a>(
-    part: &'a [u8],
+fn put_near(
+    part: &[u8],
     first: usize,
     count: usize,
-    bb_min: Vec3,
-    bb_size: Vec3,
-    run: &'a [u8],
+    frame: Frame,
+    run: &[u8],
     from: usize,
     n: usize,
     out: &mut [u32],
@@ -82,94 +91,71 @@ fn put_near<'a>(
 ) -> usize
     requires { (vertex_size * count ≤ length part.now) × (index_size * n ≤ length run.now) × (at + 3 * n ≤ length out.old) × (from < n) × (first ≤ le_at 2 run.now (index_size * from)) × (le_at 2 run.now (index_size * from) < first + count) }
     ensures progress { from < result }
-    ensures content { Near (back_by bb_min bb_size) part.now first count run.now from n at out.old result out.new }
+    ensures content { Near (back_by frame.bb_min frame.bb_size) part.now first count run.now from n at out.old result out.new }
 {
-    let mut k = from;
-    while k < n {
+    for k in from..n {
         let j = index_at(run, k);
-        if j < first {
-            return k;
-        }
-        if count <= j - first {
+        if j < first || count <= j - first {
             return k;
         }
         let low = VERTEX_SIZE * (j - first);
         let high = low + VERTEX_SIZE;
-        put_vertex(&part[low..high], bb_min, bb_size, out, at + 3 * k);
-        k += 1;
+        put_vertex(&part[low..high], frame, out, at + 3 * k);
     }
-    k
+    n
 }
 
 // The vertices that the first n indices of `run` name. The part of one is looked up, and serves for those behind it.
-fn put_vertex_run<'a>(
-    system: &'a [u8],
-    graphics: &'a [u8],
-    vertices: &'a [u8],
+fn put_vertex_run(
+    pages: &Pages,
     from: Cursor,
-    bb_min: Vec3,
-    bb_size: Vec3,
-    run: &'a [u8],
+    run: &[u8],
     n: usize,
     out: &mut [u32],
     at: usize,
 ) -> Cursor
-    requires readable { Readable system.now graphics.now vertex_size vertices.now × AtPart vertices.now from × (index_size * n ≤ length run.now) × (at + 3 * n ≤ length out.old) }
-    requires run_value { all_below (total vertices.now) (cut index_size n run.now) ≡ true }
-    ensures cursor { AtPart vertices.now result }
-    ensures content { out.new ≡ put at (each vec_words (map (corner (back_by bb_min bb_size) (items_in system.now graphics.now vertex_size vertices.now)) (cut index_size n run.now))) out.old }
+    requires readable { Readable pages.now.reader.system.now pages.now.reader.graphics.now vertex_size pages.now.vertices.now × AtPart pages.now.vertices.now from × (index_size * n ≤ length run.now) × (at + 3 * n ≤ length out.old) }
+    requires run_value { all_below (total pages.now.vertices.now) (cut index_size n run.now) ≡ true }
+    ensures cursor { AtPart pages.now.vertices.now result }
+    ensures content { out.new ≡ put at (each vec_words (map (corner (back_by pages.now.frame.bb_min pages.now.frame.bb_size) (items_in pages.now.reader.system.now pages.now.reader.graphics.now vertex_size pages.now.vertices.now)) (cut index_size n run.now))) out.old }
 {
     let mut d = from;
     let mut k = 0;
+    // A turn goes as far as the indices stay in one part.
     while k < n {
-        d = seek(vertices, d, index_at(run, k));
+        d = seek(pages.vertices, d, index_at(run, k));
         let first = d.first;
         let count = d.count;
-        let part = list_run(system, graphics, vertices, VERTEX_SIZE, d, first);
-        k = put_near(part, first, count, bb_min, bb_size, run, k, n, out, at);
+        let part = list_run(pages.reader, pages.vertices, VERTEX_SIZE, d, first);
+        k = put_near(part, first, count, pages.frame, run, k, n, out, at);
     }
     d
 }
 
 // A run of vertices by their indices, part by part.
-fn put_vertices<'a>(
-    system: &'a [u8],
-    graphics: &'a [u8],
-    vertices: &'a [u8],
-    indices: &'a [u8],
+fn put_vertices(
+    pages: &Pages,
     from: Corners,
-    bb_min: Vec3,
-    bb_size: Vec3,
     start: usize,
     count: usize,
     out: &mut [u32],
     at: usize,
 ) -> Corners
-    requires readable { Readable system.now graphics.now vertex_size vertices.now × Readable system.now graphics.now index_size indices.now × AtPart vertices.now from.vertices × AtPart indices.now from.indices }
-    requires count_bound { (start + count ≤ total indices.now) × (at + 3 * count ≤ length out.old) × (all_below (total vertices.now) (take count (drop start (items_in system.now graphics.now index_size indices.now))) ≡ true) }
-    ensures vertices { AtPart vertices.now result.vertices }
-    ensures indices { AtPart indices.now result.indices }
-    ensures content { out.new ≡ put at (each vec_words (map (corner (back_by bb_min bb_size) (items_in system.now graphics.now vertex_size vertices.now)) (take count (drop start (items_in system.now graphics.now index_size indices.now))))) out.old }
+    requires readable { Readable pages.now.reader.system.now pages.now.reader.graphics.now vertex_size pages.now.vertices.now × Readable pages.now.reader.system.now pages.now.reader.graphics.now index_size pages.now.indices.now × AtPart pages.now.vertices.now from.vertices × AtPart pages.now.indices.now from.indices }
+    requires count_bound { (start + count ≤ total pages.now.indices.now) × (at + 3 * count ≤ length out.old) × (all_below (total pages.now.vertices.now) (take count (drop start (items_in pages.now.reader.system.now pages.now.reader.graphics.now index_size pages.now.indices.now))) ≡ true) }
+    ensures vertices { AtPart pages.now.vertices.now result.vertices }
+    ensures indices { AtPart pages.now.indices.now result.indices }
+    ensures content { out.new ≡ put at (each vec_words (map (corner (back_by pages.now.frame.bb_min pages.now.frame.bb_size) (items_in pages.now.reader.system.now pages.now.reader.graphics.now vertex_size pages.now.vertices.now)) (take count (drop start (items_in pages.now.reader.system.now pages.now.reader.graphics.now index_size pages.now.indices.now))))) out.old }
 {
     let mut c = from.indices;
     let mut d = from.vertices;
     let mut k = 0;
+    // As in `put_edges`.
     while k < count {
-        c = seek(indices, c, start + k);
-        let run = list_run(system, graphics, indices, INDEX_SIZE, c, start + k);
-        let n = least(run.len() / INDEX_SIZE, count - k);
-        d = put_vertex_run(
-            system,
-            graphics,
-            vertices,
-            d,
-            bb_min,
-            bb_size,
-            run,
-            n,
-            out,
-            at + 3 * k,
-        );
+        c = seek(pages.indices, c, start + k);
+        let run = list_run(pages.reader, pages.indices, INDEX_SIZE, c, start + k);
+        let n = (run.len() / INDEX_SIZE).min(count - k);
+        d = put_vertex_run(pages, d, run, n, out, at + 3 * k);
         k += n;
     }
     Corners {
@@ -179,61 +165,28 @@ fn put_vertices<'a>(
 }
 
 // A polygon's vertices and edges.
-pub fn put_sides<'a>(
-    system: &'a [u8],
-    graphics: &'a [u8],
-    vertices: &'a [u8],
-    indices: &'a [u8],
-    edges: &'a [u8],
-    header: &'a [u8],
-    bb_min: Vec3,
-    bb_size: Vec3,
+pub fn put_sides(
+    pages: &Pages,
     start: usize,
     count: usize,
     from: Cursors,
     out: &mut [u32],
     at: usize,
 ) -> Cursors
-    requires lists_open { ListsOpen system.now graphics.now vertices.now indices.now edges.now from × (at + 9 * count ≤ length out.old) }
-    requires inside { Inside system.now graphics.now vertices.now indices.now edges.now start count }
-    ensures cursors { ListsOpen system.now graphics.now vertices.now indices.now edges.now result }
-    ensures content { out.new ≡ put at (sides (area_of header.now) (back_by bb_min bb_size) (items_in system.now graphics.now vertex_size vertices.now) (items_in system.now graphics.now index_size indices.now) (items_in system.now graphics.now edge_size edges.now) start count) out.old }
+    requires lists_open { OpenIn pages.now from × (at + 9 * count ≤ length out.old) }
+    requires inside { InsideOf pages.now start count }
+    ensures cursors { OpenIn pages.now result }
+    ensures content { out.new ≡ put at (sides (area_of pages.now.header.now) (back_by pages.now.frame.bb_min pages.now.frame.bb_size) (items_in pages.now.reader.system.now pages.now.reader.graphics.now vertex_size pages.now.vertices.now) (items_in pages.now.reader.system.now pages.now.reader.graphics.now index_size pages.now.indices.now) (items_in pages.now.reader.system.now pages.now.reader.graphics.now edge_size pages.now.edges.now) start count) out.old }
 {
-    let ci = from.indices;
-    let cv = from.vertices;
-    let ce = from.edges;
-    let two = put_vertices(
-        system,
-        graphics,
-        vertices,
-        indices,
-        Corners {
-            vertices: cv,
-            indices: ci,
-        },
-        bb_min,
-        bb_size,
-        start,
-        count,
-        out,
-        at,
-    );
-    let e = put_edges(
-        system,
-        graphics,
-        header,
-        edges,
-        ce,
-        start,
-        count,
-        out,
-        at + 3 * count,
-    );
-    let i = two.indices;
-    let v = two.vertices;
+    let corners = Corners {
+        vertices: from.vertices,
+        indices: from.indices,
+    };
+    let two = put_vertices(pages, corners, start, count, out, at);
+    let e = put_edges(pages, from.edges, start, count, out, at + 3 * count);
     Cursors {
-        vertices: v,
-        indices: i,
+        vertices: two.vertices,
+        indices: two.indices,
         edges: e,
     }
 }

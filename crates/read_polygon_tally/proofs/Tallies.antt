@@ -10,19 +10,13 @@ use lib.Dec.{leb}
 use lib.ListN.{length, take, drop}
 use borrow.Author.Tests.{le-leb, lt-leb, leb-true}
 use Rattle.fields.specs.Bytes.{le_at, cut}
-use Rattle.strip.specs.declared.Refusal.{Refusal}
-use Rattle.strip.specs.Outcome.{Paper, values, refusal, refusal_of}
+use Rattle.strip.specs.Outcome.{Paper, values, refusal}
 use Rattle.strip.proofs.Papers.{no_values}
 use Rattle.read_grammar.specs.Polygons.{count_of, start_of, run_of}
-use Rattle.read_lists.specs.declared.Cursor.{Cursor}
-use Rattle.read_lists.specs.Cursors.{AtPart}
 use Rattle.read_polygon_words.specs.Words.{link_count, all_below}
 use Rattle.read_list_set.specs.declared.Limits.{Limits}
 use Rattle.read_list_set.proofs.Runs.{record_next, record_none}
-use Rattle.read_polygon_tally.specs.declared.Step.{Step}
-use Rattle.read_polygon_tally.specs.declared.Step.TheVariants.{Good, Bad}
 use Rattle.read_polygon_tally.specs.Tally.{size_of, tally_of, words_added, tally_from}
-use Rattle.read_polygon_tally.specs.Steps.{Stepped}
 
 -- ---- one polygon
 
@@ -45,14 +39,6 @@ module _ (l : Limits) (indices : List (List ℕ)) (p : ℕ) (rec : List ℕ) {a 
       unfolding tally_of size_of
       all_well f en = rw (← ea, ← ec, ← es, le-leb (start + count) l.indices i, le-leb (start + count) l.edges e, ← et, f, ← en)
 
--- what a step's answer says
-module _ (table : List ℕ) (most : ℕ) (t : Paper ℕ) {s : Step} where
-  pub stepped_bad : {r : Refusal} → Stepped table most t s → s ≡ Bad r → t ≡ refusal_of r
-  stepped_bad h e = rw e at h
-
-  pub stepped_good : {w : ℕ} {c : Cursor} → Stepped table most t s → s ≡ Good w c → (t ≡ values w) × AtPart table c × (w ≤ most)
-  stepped_good h e = rw e at h
-
 -- ---- polygons in order
 
 pub then_none : (t : Paper ℕ) → words_added (values 0) t ≡ t
@@ -71,7 +57,7 @@ module _ (l : Limits) (indices : List (List ℕ)) (p w : ℕ) where
     unfolding tally_from
     tally_more {v} f = then_assoc (values w) (values v) (tally_from l indices (p + 1) bs) ∙ rw (e, f)
 
-    pub tally_stop : {r : Refusal} → tally_of l indices p b ≡ refusal_of r → refusal_of r ≡ words_added (values w) (tally_from l indices p xs)
+    pub tally_stop : {number place : ℕ} → tally_of l indices p b ≡ refusal number place → refusal number place ≡ words_added (values w) (tally_from l indices p xs)
     unfolding tally_from
     tally_stop f = rw (e, f)
 
@@ -90,8 +76,8 @@ module _ (l : Limits) (indices : List (List ℕ)) (run : List ℕ) (m first : �
           → words_added (values (w + v)) (tally_from l indices (first + (k + 1)) (cut 48 (m - (k + 1)) (drop (48 * (k + 1)) run))) ≡ words_added (values w) (tally_from l indices (first + k) (cut 48 (m - k) (drop (48 * k) run)))
       run_more f = rw (← add_assoc first k 1) (tally_more l indices (first + k) w (take (48 * k + 48 - 48 * k) (drop (48 * k) run)) (cut 48 (m - (k + 1)) (drop (48 * (k + 1)) run)) (record_next run m k h) (rw here at f))
 
-      pub run_stop : {r : Refusal} → tally_of l indices at (take (48 * k + 48 - 48 * k) (drop (48 * k) run)) ≡ refusal_of r
-          → refusal_of r ≡ words_added (values w) (tally_from l indices (first + k) (cut 48 (m - k) (drop (48 * k) run)))
+      pub run_stop : {number place : ℕ} → tally_of l indices at (take (48 * k + 48 - 48 * k) (drop (48 * k) run)) ≡ refusal number place
+          → refusal number place ≡ words_added (values w) (tally_from l indices (first + k) (cut 48 (m - k) (drop (48 * k) run)))
       run_stop f = tally_stop l indices (first + k) w (take (48 * k + 48 - 48 * k) (drop (48 * k) run)) (cut 48 (m - (k + 1)) (drop (48 * (k + 1)) run)) (record_next run m k h) (rw here at f)
 
     pub run_end : m ≤ k → values w ≡ words_added (values w) (tally_from l indices (first + k) (cut 48 (m - k) (drop (48 * k) run)))
@@ -110,7 +96,7 @@ module _ (l : Limits) (indices : List (List ℕ)) where
     pub runs_more : {m v : ℕ} → length ys ≡ m → tally_from l indices p ys ≡ values v → words_added (values (w + v)) (tally_from l indices (p + m) zs) ≡ words_added (values w) (tally_from l indices p xs)
     runs_more {m} {v} el f = then_assoc (values w) (values v) (tally_from l indices (p + m) zs) ∙ rw (e, tally_append p ys zs, el, f)
 
-    pub runs_stop : {r : Refusal} → tally_from l indices p ys ≡ refusal_of r → refusal_of r ≡ words_added (values w) (tally_from l indices p xs)
+    pub runs_stop : {number place : ℕ} → tally_from l indices p ys ≡ refusal number place → refusal number place ≡ words_added (values w) (tally_from l indices p xs)
     runs_stop f = rw (e, tally_append p ys zs, f)
 
 -- ---- what pass one accepted
@@ -138,23 +124,23 @@ module _ (l : Limits) (indices : List (List ℕ)) where
 
 -- a refusal's number, and its place: the polygon
 module _ (l : Limits) (indices : List (List ℕ)) where
-  one_refused : (p : ℕ) (b : List ℕ) {r : Refusal} → tally_of l indices p b ≡ refusal_of r → ((r.number ≡ 37) ⊎ (r.number ≡ 38)) × (r.place ≡ p)
+  one_refused : (p : ℕ) (b : List ℕ) {m q : ℕ} → tally_of l indices p b ≡ refusal m q → ((m ≡ 37) ⊎ (m ≡ 38)) × (q ≡ p)
   unfolding tally_of
-  one_refused p b {r} e = by (leb (start_of b + count_of b) l.indices && leb (start_of b + count_of b) l.edges) (all_below l.vertices (run_of b indices)) e
+  one_refused p b {m} {q} e = by (leb (start_of b + count_of b) l.indices && leb (start_of b + count_of b) l.edges) (all_below l.vertices (run_of b indices)) e
     where
-      by : (x y : Bool) → cond x (cond y (values (size_of l.links b)) (refusal 38 p)) (refusal 37 p) ≡ refusal_of r
-          → ((r.number ≡ 37) ⊎ (r.number ≡ 38)) × (r.place ≡ p)
+      by : (x y : Bool) → cond x (cond y (values (size_of l.links b)) (refusal 38 p)) (refusal 37 p) ≡ refusal m q
+          → ((m ≡ 37) ⊎ (m ≡ 38)) × (q ≡ p)
       by false y e = (inl (cc), cc)
       by true false e = (inr (cc), cc)
       by true true e = absurd (no_values (sym e))
 
-  pub tally_refused : (p : ℕ) (bs : List (List ℕ)) {r : Refusal} → tally_from l indices p bs ≡ refusal_of r → ((r.number ≡ 37) ⊎ (r.number ≡ 38)) × (p ≤ r.place) × (r.place < p + length bs)
+  pub tally_refused : (p : ℕ) (bs : List (List ℕ)) {m q : ℕ} → tally_from l indices p bs ≡ refusal m q → ((m ≡ 37) ⊎ (m ≡ 38)) × (p ≤ q) × (q < p + length bs)
   unfolding tally_from
   tally_refused p [] e = absurd (no_values (sym e))
-  tally_refused p (b ∷ bs) {r} e = by (tally_of l indices p b) (tally_from l indices (p + 1) bs) refl (λ h. tally_refused (p + 1) bs {r = r} h) e
+  tally_refused p (b ∷ bs) {m} {q} e = by (tally_of l indices p b) (tally_from l indices (p + 1) bs) refl (λ h. tally_refused (p + 1) bs {m = m} {q = q} h) e
     where
-      by : (t u : Paper ℕ) → tally_of l indices p b ≡ t → (u ≡ refusal_of r → ((r.number ≡ 37) ⊎ (r.number ≡ 38)) × (p + 1 ≤ r.place) × (r.place < p + 1 + length bs)) → words_added t u ≡ refusal_of r
-          → ((r.number ≡ 37) ⊎ (r.number ≡ 38)) × (p ≤ r.place) × (r.place < p + length (b ∷ bs))
-      by (refusal number place) u f g h = let (n, at) = one_refused p b {r = r} (f ∙ h) in (n, omega arith, omega arith)
+      by : (t u : Paper ℕ) → tally_of l indices p b ≡ t → (u ≡ refusal m q → ((m ≡ 37) ⊎ (m ≡ 38)) × (p + 1 ≤ q) × (q < p + 1 + length bs)) → words_added t u ≡ refusal m q
+          → ((m ≡ 37) ⊎ (m ≡ 38)) × (p ≤ q) × (q < p + length (b ∷ bs))
+      by (refusal number place) u f g h = let (n, at) = one_refused p b {m = m} {q = q} (f ∙ h) in (n, omega arith, omega arith)
       by (values a) (refusal number place) f g h = let (n, lo, hi) = g h in (n, omega arith, omega arith)
       by (values a) (values c) f g h = absurd (no_values (sym h))

@@ -1,23 +1,21 @@
 -- What pass one answers, step by step. Definitions only.
-use Rattle.std.specs.Prelude.{ℕ, ◌≤◌, ◌≡◌, List}
+use Rattle.std.specs.Prelude.{ℕ, ◌≤◌, ◌≡◌, Bool, true, false, List, Option, Some, None, Result, Ok, Err}
+use Rattle.strip.specs.declared.Refusal.{Refusal}
 use Rattle.strip.specs.Outcome.{Paper, values, refusal_of}
+use Rattle.read_lists.specs.declared.Cursor.{Cursor}
 use Rattle.read_lists.specs.Cursors.{AtPart}
-use Rattle.read_polygon_tally.specs.declared.PolysAnswer.{PolysAnswer}
-use Rattle.read_polygon_tally.specs.declared.PolysAnswer.TheVariants.{Words, Refused}
-use Rattle.read_polygon_tally.specs.declared.Step.{Step}
-use Rattle.read_polygon_tally.specs.declared.Step.TheVariants.{Good, Bad}
 
--- what each case of pass one's answer says
-abbrev pub paper : PolysAnswer → Paper ℕ
-paper (Words n) = values n
-paper (Refused r) = refusal_of r
+-- whether a run of indices is below a limit, and where the cursor stands if it is
+abbrev pub Below : List ℕ → Bool → Option Cursor → Type 0
+Below table t (Some c) = (t ≡ true) × AtPart table c
+Below table t None = t ≡ false
 
 -- what a step over polygons answers: their words, at most so many, and where the cursor over the indices stands
-abbrev pub Stepped : List ℕ → ℕ → Paper ℕ → Step → Type 0
-Stepped table most t (Good w c) = (t ≡ values w) × AtPart table c × (w ≤ most)
-Stepped table most t (Bad r) = t ≡ refusal_of r
+abbrev pub Stepped : List ℕ → ℕ → Paper ℕ → Result (ℕ × Cursor) Refusal → Type 0
+Stepped table most t (Ok a) = (t ≡ values a.0) × AtPart table a.1 × (a.0 ≤ most)
+Stepped table most t (Err r) = t ≡ refusal_of r
 
 -- words that are at most n
-abbrev pub Small : ℕ → PolysAnswer → Type 0
-Small n (Words w) = w ≤ n
-Small n (Refused r) = Unit {0}
+abbrev pub Small : ℕ → Result ℕ Refusal → Type 0
+Small n (Ok w) = w ≤ n
+Small n (Err r) = Unit {0}

@@ -5,16 +5,16 @@ use native.Mathlib.Numerals.{add-one}
 use native.Mathlib.Omega.{arith}
 use mathlib.Core.Path.{◌≡◌, refl, sym, ap, ◌∙◌}
 use mathlib.Core.Bool.{Bool, true, false, cond, ◌&&◌}
-use mathlib.Core.List.{List, [], ◌∷◌, map}
+use mathlib.Core.List.{List, [], ◌∷◌}
 use lib.Dec.{leb, ltb}
-use lib.ListN.{length, take, drop, get_or, set, length-take, length-drop, get_or-map, drop_of_length-le}
+use lib.ListN.{length, take, drop, get_or, set, length-take, length-drop, get_or-map, length-map, drop_of_length-le}
 use lib.Seq.{drop-cons, get_or-take, get_or-drop}
 use borrow.Author.Tests.{leb-true, ltb-true, le-leb, lt-leb, lt-ltb, le-ltb}
 use Rattle.fields.specs.Bytes.{le_at, cut}
 use Rattle.fields.specs.Put.{put}
 use Rattle.fields.specs.Rows.{pack}
 use Rattle.fields.proofs.Bytes.{past}
-use Rattle.fields.proofs.Puts.{put_next, put_one, put_append, put_cons, put_nil}
+use Rattle.fields.proofs.Puts.{put_next, put_cons, put_nil}
 use Rattle.resource.specs.Section.{resolved}
 use Rattle.strip.specs.Cell.{Vec3, vec_words}
 use Rattle.read_grammar.specs.Polygons.{link_run, links_at, count_of}
@@ -35,11 +35,6 @@ links_are system graphics va n = refl
 pub vec_three : (v : Vec3) → length (vec_words v) ≡ 3
 unfolding vec_words
 vec_three v = refl
-
--- ---- words stored
-
-pub fourth_behind : (at a b c d : ℕ) (xs : List ℕ) → set (put at (a ∷ b ∷ c ∷ []) xs) (at + 3) d ≡ put at (a ∷ b ∷ c ∷ d ∷ []) xs
-fourth_behind at a b c d xs = sym (put_one (at + 3) d (put at (a ∷ b ∷ c ∷ []) xs)) ∙ put_append (a ∷ b ∷ c ∷ []) (d ∷ []) at xs
 
 -- ---- indices
 
@@ -94,11 +89,7 @@ module _ (rec : List ℕ) (n : ℕ) {w : ℕ} (ew : w ≡ le_at 4 rec 0x2C) wher
 
 pub length_links : (bytes : List ℕ) → length (links_of bytes) ≡ length bytes / 2
 unfolding links_of
-length_links bytes = length_map (λ b. le_at 2 b 0) (cut 2 (length bytes / 2) bytes) ∙ cut_length 2 (length bytes / 2) bytes
-  where
-    length_map : (f : List ℕ → ℕ) (xs : List (List ℕ)) → length (map f xs) ≡ length xs
-    length_map f [] = refl
-    length_map f (x ∷ xs) = ap suc (length_map f xs)
+length_links bytes = length-map (cut 2 (length bytes / 2) bytes) (λ b. le_at 2 b 0) ∙ cut_length 2 (length bytes / 2) bytes
 
 link_of : (bytes : List ℕ) (i : ℕ) → i < length bytes / 2 → get_or (links_of bytes) i 0 ≡ le_at 2 bytes (2 * i)
 unfolding links_of

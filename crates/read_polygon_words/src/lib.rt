@@ -1,7 +1,7 @@
 // The words of a polygon's front and vertices, from bytes that are at hand. Nothing here can fail: pass two calls it for what pass one accepted. Edges are `read_edge_words`.
 #![tactic(auto)]
 
-ghost use Rattle.std.specs.Prelude.{◌≡◌, [], ◌∷◌, ◌+◌, ◌*◌, ◌≤◌, length};
+ghost use Rattle.std.specs.Prelude.{◌≡◌, ◌+◌, ◌*◌, ◌≤◌, length};
 ghost use Rattle.fields.specs.Bytes.{cut, le_at};
 ghost use Rattle.fields.specs.Put.{put};
 ghost use Rattle.fields.specs.Sizes.{index_size};
@@ -13,23 +13,15 @@ ghost use Rattle.read_polygon_words.specs.Front.{links_of, front_of};
 
 use fields::sizes::INDEX_SIZE;
 use fields::{u16_le, u32_le};
-use math::vec3::Vec3;
-use read_records::words::{put_position, put3, shorts_at};
-
-fn put4(out: &mut [u32], at: usize, a: u32, b: u32, c: u32, d: u32)
-    requires { at + 4 ≤ length out.old }
-    ensures { out.new ≡ put at (a ∷ b ∷ c ∷ d ∷ []) out.old }
-{
-    put3(out, at, a, b, c);
-    out[at + 3] = d;
-}
+use quantise::short::Frame;
+use read_records::words::{put_position, put_words, shorts_at};
 
 // A vertex, 6 bytes: the bits of its coordinates.
-pub fn put_vertex(v: &[u8], bb_min: Vec3, bb_size: Vec3, out: &mut [u32], at: usize)
+pub fn put_vertex(v: &[u8], frame: Frame, out: &mut [u32], at: usize)
     requires { at + 3 ≤ length out.old }
-    ensures { out.new ≡ put at (vec_words (vertex_of (back_by bb_min bb_size) v.now)) out.old }
+    ensures { out.new ≡ put at (vec_words (vertex_of (back_by frame.bb_min frame.bb_size) v.now)) out.old }
 {
-    put_position(shorts_at(v, 0), bb_min, bb_size, out, at);
+    put_position(shorts_at(v, 0), frame, out, at);
 }
 
 // Index k of `run`. Two bytes are lent to the reader of numbers, which then needs no look at the end.
@@ -39,7 +31,7 @@ pub fn index_at(run: &[u8], k: usize) -> usize
 {
     let from = INDEX_SIZE * k;
     let to = from + INDEX_SIZE;
-    u16_le(&run[from..to], 0) as usize
+    usize::from(u16_le(&run[from..to], 0))
 }
 
 // Whether the first n indices of `run` are below a limit.
@@ -47,12 +39,11 @@ pub fn all_below(run: &[u8], n: usize, limit: usize) -> bool
     requires { index_size * n ≤ length run.now }
     ensures { result ≡ all_below limit (cut index_size n run.now) }
 {
-    let mut k = 0;
-    while k < n {
+    // no `all` over the range: tried, and what it returns didn't close
+    for k in 0..n {
         if limit <= index_at(run, k) {
             return false;
         }
-        k += 1;
     }
     true
 }
@@ -74,10 +65,8 @@ fn put_links(rec: &[u8], links: &[u8], n: usize, out: &mut [u32], at: usize)
     ensures { out.new ≡ put at (link_run (links_of links.now) (link_start rec.now) (links_named rec.now)) out.old }
 {
     let start = (u32_le(rec, 0x2C) / 32768 % 131072) as usize;
-    let mut k = 0;
-    while k < n {
-        out[at + k] = u16_le(links, 2 * (start + k)) as u32;
-        k += 1;
+    for k in 0..n {
+        out[at + k] = u32::from(u16_le(links, 2 * (start + k)));
     }
 }
 
@@ -87,13 +76,15 @@ pub fn put_front(rec: &[u8], links: &[u8], n: usize, count: usize, out: &mut [u3
     ensures { out.new ≡ put at (front_of (links_of links.now) rec.now) out.old }
 {
     let first = 0x2000_0000 + (n * 0x100_0000 + (count * 0x1000 + count));
-    put4(
+    put_words(
         out,
         at,
-        first as u32,
-        u16_le(rec, 0) as u32,
-        u32_le(rec, 0x24),
-        u32_le(rec, 0x28),
+        [
+            first as u32,
+            u32::from(u16_le(rec, 0)),
+            u32_le(rec, 0x24),
+            u32_le(rec, 0x28),
+        ],
     );
     put_links(rec, links, n, out, at + 4);
 }

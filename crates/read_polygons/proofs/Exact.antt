@@ -9,10 +9,9 @@ use borrow.Author.Tests.{ltb-true, lt-ltb, le-leb}
 use Rattle.fields.specs.Bytes.{le_at}
 use Rattle.strip.specs.Cell.{NavPoly, polygon_words, each}
 use Rattle.strip.specs.Fits.{All}
-use Rattle.strip.specs.declared.Refusal.{Refusal}
 use Rattle.read_grammar.specs.Polygons.{count_of, start_of, run_of, Each, none, more}
 use Rattle.read_polygon_words.specs.Words.{all_below}
-use Rattle.strip.specs.Outcome.{values, refusal_of}
+use Rattle.strip.specs.Outcome.{values, refusal}
 use Rattle.strip.proofs.Papers.{no_values}
 use Rattle.read_polygons.specs.Polygons.{Source, Makes, limits_of, polygon_made}
 use Rattle.read_polygon_tally.specs.Tally.{tally_of, tally_from}
@@ -94,5 +93,5 @@ module _ (s : Source) where
       (rw (one_tally p m, t, one, length-append), rw (one, ← e))
 
   -- polygons that pass one refuses are made by nobody
-  pub refused_none : (p : ℕ) {bs : List (List ℕ)} {ps : List NavPoly} {r : Refusal} → tally_from (limits_of s) s.indices p bs ≡ refusal_of r → Each (Makes s) bs ps → ⊥
+  pub refused_none : (p : ℕ) {bs : List (List ℕ)} {ps : List NavPoly} {number place : ℕ} → tally_from (limits_of s) s.indices p bs ≡ refusal number place → Each (Makes s) bs ps → ⊥
   refused_none p e m = no_values (sym e ∙ (made_tally p m).0)

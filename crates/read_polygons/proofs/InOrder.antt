@@ -21,7 +21,7 @@ use Rattle.read_polygon_tally.specs.Tally.{size_of, tally_of, tally_from}
 use Rattle.read_list_set.specs.Items.{items_in}
 use Rattle.read_polygons.specs.Passes.{source_of, Put, Passed}
 use Rattle.read_polygon_sides.specs.Sides.{ListsOpen, Inside}
-use Rattle.read_list_set.proofs.Runs.{map_append}
+use Rattle.std.proofs.lemmas.List.{map-append}
 use Rattle.read_polygon_tally.proofs.Tallies.{tally_append, then_words, accepted}
 use Rattle.read_polygons.proofs.Writes.{inside}
 use Rattle.read_polygons.proofs.Exact.{tally_made, made_tally}
@@ -82,7 +82,7 @@ module _ (system graphics vertices indices edges links header : List ℕ) (bb-mi
       goes_on {r} {new} w =
           let front : List ℕ = each polygon_words (map (polygon_made source) ys) in
           let behind : List ℕ = each polygon_words (map (polygon_made source) zs) in
-          let all : each polygon_words (map (polygon_made source) rest) ≡ front ++ behind = rw (er, map_append (polygon_made source) ys zs, each_append polygon_words (map (polygon_made source) ys) (map (polygon_made source) zs)) in
+          let all : each polygon_words (map (polygon_made source) rest) ≡ front ++ behind = rw (er, map-append (polygon_made source) ys zs, each_append polygon_words (map (polygon_made source) ys) (map (polygon_made source) zs)) in
           record {
             ready = w.ready;
             same_length = ap length w.strip ∙ length_put e front out ∙ g.same_length;

@@ -10,6 +10,7 @@ use Rattle.read_polygon_words.specs.Front.{links_of}
 use Rattle.read_list_set.specs.declared.Limits.{Limits}
 use Rattle.read_list_set.specs.Items.{items_in}
 use Rattle.read_polygon_tally.specs.Tally.{tally_from}
+use Rattle.read_polygon_sides.specs.declared.Pages.{Pages}
 use Rattle.read_polygon_sides.specs.Sides.{ListsOpen}
 use Rattle.read_polygons.specs.declared.PolygonCursor.{PolygonCursor}
 use Rattle.read_polygons.specs.Polygons.{Source}
@@ -26,6 +27,9 @@ source_of system graphics vertices indices edges links header bb-min bb-size =
       back = back_by bb-min bb-size;
     }
 
+abbrev pub source_in : Pages → Source
+source_in p = source_of p.reader.system.now p.reader.graphics.now p.vertices.now p.indices.now p.edges.now p.links.now p.header.now p.frame.bb_min p.frame.bb_size
+
 -- words that stand from `at` on, and the rest as it was; the next place, and the cursors
 pub record Put (system graphics vertices indices edges words old : List ℕ) (at : ℕ) (r : PolygonCursor) (new : List ℕ) : Type 0 where
   pub next : r.at ≡ at + length words
@@ -37,3 +41,7 @@ pub record Passed (l : Limits) (indices : List (List ℕ)) (p : ℕ) (polys : Li
   pub words : ℕ
   pub is : tally_from l indices p polys ≡ values words
   pub room : at + words ≤ end
+
+-- the same of the pages in a struct
+abbrev pub PutBy : Pages → (words old : List ℕ) → (at : ℕ) → PolygonCursor → (new : List ℕ) → Type 0
+PutBy p = Put p.reader.system.now p.reader.graphics.now p.vertices.now p.indices.now p.edges.now

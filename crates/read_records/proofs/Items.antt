@@ -30,6 +30,13 @@ module _ {A : Type 0} (words : A → List ℕ) (n : ℕ) (h : (a : A) → length
       let e : at + n * (k + 1) ≡ at + n * k + n = rw (add-one k, mul-suc) (omega arith) in
       rw (cut_left w m bs k l, e) (put_next n (at + n * k) (words (f (take w (drop (w * k) bs)))) (each words (map f (cut w (m - (k + 1)) (drop (w * (k + 1)) bs)))) out (h (f (take w (drop (w * k) bs)))))
 
+  -- an item as a loop lends it
+  pub put_lent : (k : ℕ) (out : List ℕ) {new : List ℕ} → k < m → new ≡ put (at + n * k) (words (f (take (w * k + w - w * k) (drop (w * k) bs)))) out
+      → put (at + n * (k + 1)) (each words (map f (cut w (m - (k + 1)) (drop (w * (k + 1)) bs)))) new ≡ put (at + n * k) (each words (map f (cut w (m - k) (drop (w * k) bs)))) out
+  put_lent k out l e =
+      let long : w * k + w - w * k ≡ w = omega arith in
+      rw (e, long) (put_item k out l)
+
   pub put_end : (k : ℕ) (out : List ℕ) → m ≤ k → put (at + n * k) (each words (map f (cut w (m - k) (drop (w * k) bs)))) out ≡ out
   unfolding each cut
   put_end k out l = let e : m - k ≡ 0 = omega arith in rw (e, put_nil)

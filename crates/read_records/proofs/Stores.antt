@@ -1,4 +1,4 @@
--- Stores one after the other are one `put`: of single words and of a record's parts.
+-- Stores of a record's parts, one after the other, are one `put`.
 use mathlib.Core.Path.{◌≡◌, refl}
 use mathlib.Core.List.{List, [], ◌∷◌, ◌++◌}
 use Prim.Native.Nat.{ℕ, ◌+◌, ◌*◌, ◌/◌, ◌%◌, ◌^◌, ◌<◌}
@@ -11,10 +11,6 @@ use Rattle.cell_record.specs.Record.{bits, head_by}
 use Rattle.cell_record.specs.declared.CellRecord.{CellRecord}
 use Rattle.read_grammar.specs.Derives.{portal_of}
 use Rattle.read_records.specs.Words.{value_words, front_words, back_words}
-
--- kind and content flags, then area id, version and vft
-pub values_stored : (a b c d e : ℕ) (xs : List ℕ) → put 2 (c ∷ d ∷ e ∷ []) (put 0 (a ∷ b ∷ []) xs) ≡ put 0 (a ∷ b ∷ c ∷ d ∷ e ∷ []) xs
-values_stored a b c d e xs = put_next 2 0 (a ∷ b ∷ []) (c ∷ d ∷ e ∷ []) xs refl
 
 -- the cell's record
 pub cell_stored : (c : CellRecord) (xs : List ℕ)

@@ -7,7 +7,7 @@ ghost use Rattle.cell_record.specs.Floats.{floats};
 ghost use Rattle.read_grammar.specs.Derives.{vec_of, head_of};
 ghost use Rattle.read_records.specs.Words.{value_words};
 
-use super::words::{put_vec, put2, put3};
+use super::words::{put_vec, put_words};
 use cell_record::CellRecord;
 use fields::u32_le;
 use math::num::float_of_bits;
@@ -17,7 +17,7 @@ use math::vec3::Vec3;
 fn vec3_le(b: &[u8], off: u16) -> Vec3
     ensures { result ≡ floats (vec_of b.now off) }
 {
-    let at = off as usize;
+    let at = usize::from(off);
     Vec3 {
         x: float_of_bits(u32_le(b, at)),
         y: float_of_bits(u32_le(b, at + 4)),
@@ -48,8 +48,17 @@ fn put_values(cell: CellRecord, strip: &mut [u32])
     requires { 14 ≤ length strip.old }
     ensures { strip.new ≡ put 0 (value_words cell) strip.old }
 {
-    put2(strip, 0, 0x1000_0000, cell.content_flags);
-    put3(strip, 2, cell.area_id, cell.version_unk2, cell.vft);
+    put_words(
+        strip,
+        0,
+        [
+            0x1000_0000,
+            cell.content_flags,
+            cell.area_id,
+            cell.version_unk2,
+            cell.vft,
+        ],
+    );
 }
 
 // The record's 14 words, at the head of the strip.

@@ -8,21 +8,21 @@ ghost use Rattle.read_grammar.specs.Derives.{portal_of};
 ghost use Rattle.read_records.specs.Back.{back_by, back_in};
 ghost use Rattle.read_records.specs.Words.{front_words, back_words};
 
-use super::words::{put_position, put2, put3, shorts_at};
+use super::words::{put_position, put_words, shorts_at};
 use cell_record::CellRecord;
 use fields::sizes::PORTAL_SIZE;
 use fields::{u8_le, u16_le, u32_le};
-use math::vec3::Vec3;
+use quantise::short::Frame;
 
 // Kind, angle and flags_unk.
 fn put_front(b: &[u8], strip: &mut [u32], at: usize)
     requires { at + 2 ≤ length strip.old }
     ensures { strip.new ≡ put at (front_words b.now) strip.old }
 {
-    let kind = u8_le(b, 0) as u32;
-    let angle = u8_le(b, 1) as u32;
-    let flags_unk = u16_le(b, 2) as u32;
-    put2(strip, at, 0x3000_0000 + 0x100 * angle + kind, flags_unk);
+    let kind = u32::from(u8_le(b, 0));
+    let angle = u32::from(u8_le(b, 1));
+    let flags_unk = u32::from(u16_le(b, 2));
+    put_words(strip, at, [0x3000_0000 + 0x100 * angle + kind, flags_unk]);
 }
 
 // Polygons and areas of both ends; the first of each pair of polygons is read.
@@ -30,27 +30,29 @@ fn put_back(b: &[u8], strip: &mut [u32], at: usize)
     requires { at + 3 ≤ length strip.old }
     ensures { strip.new ≡ put at (back_words b.now) strip.old }
 {
-    let poly_from = u16_le(b, 16) as u32;
-    let poly_to = u16_le(b, 20) as u32;
+    let poly_from = u32::from(u16_le(b, 16));
+    let poly_to = u32::from(u16_le(b, 20));
     let areas = u32_le(b, 24);
-    put3(
+    put_words(
         strip,
         at,
-        poly_from + 65536 * poly_to,
-        areas % 16384 + 65536 * (areas / 16384 % 16384),
-        areas / 0x1000_0000,
+        [
+            poly_from + 65536 * poly_to,
+            areas % 16384 + 65536 * (areas / 16384 % 16384),
+            areas / 0x1000_0000,
+        ],
     );
 }
 
-fn put_portal(b: &[u8], bb_min: Vec3, bb_size: Vec3, strip: &mut [u32], at: usize)
+fn put_portal(b: &[u8], frame: Frame, strip: &mut [u32], at: usize)
     requires { at + 11 ≤ length strip.old }
-    ensures { strip.new ≡ put at (portal_words (portal_of (back_by bb_min bb_size) b.now)) strip.old }
+    ensures { strip.new ≡ put at (portal_words (portal_of (back_by frame.bb_min frame.bb_size) b.now)) strip.old }
 {
     put_front(b, strip, at);
     let from = shorts_at(b, 4);
     let to = shorts_at(b, 10);
-    put_position(from, bb_min, bb_size, strip, at + 2);
-    put_position(to, bb_min, bb_size, strip, at + 5);
+    put_position(from, frame, strip, at + 2);
+    put_position(to, frame, strip, at + 5);
     put_back(b, strip, at + 8);
 }
 
@@ -59,13 +61,10 @@ pub fn put_portals(portals: &[u8], n: usize, cell: CellRecord, strip: &mut [u32]
     requires { (portal_size * n ≤ length portals.now) × (at + 11 * n ≤ length strip.old) }
     ensures { strip.new ≡ put at (each portal_words (map (portal_of (back_in cell)) (cut portal_size n portals.now))) strip.old }
 {
-    let bb_min = cell.bb_min;
-    let bb_size = cell.bb_size;
-    let mut i = 0;
-    while i < n {
+    let frame = cell.frame();
+    for i in 0..n {
         let from = PORTAL_SIZE * i;
         let to = from + PORTAL_SIZE;
-        put_portal(&portals[from..to], bb_min, bb_size, strip, at + 11 * i);
-        i += 1;
+        put_portal(&portals[from..to], frame, strip, at + 11 * i);
     }
 }

@@ -1,5 +1,5 @@
 // Words stored into a strip, and the positions that shorts stand for.
-ghost use Rattle.std.specs.Prelude.{◌≡◌, [], ◌∷◌, ◌+◌, ◌≤◌, length};
+ghost use Rattle.std.specs.Prelude.{◌≡◌, ◌+◌, ◌≤◌, length};
 ghost use Rattle.fields.specs.Put.{put};
 ghost use Rattle.strip.specs.Cell.{vec_words};
 ghost use Rattle.cell_record.specs.Record.{bits};
@@ -8,23 +8,14 @@ ghost use Rattle.read_records.specs.Back.{shorts_at, back_by};
 use fields::u16_le;
 use math::num::bits_of_float;
 use math::vec3::Vec3;
-use quantise::short::{Shorts, unquantise};
+use quantise::short::{Frame, Shorts};
 
-pub(crate) fn put2(strip: &mut [u32], at: usize, a: u32, b: u32)
-    requires { at + 2 ≤ length strip.old }
-    ensures { strip.new ≡ put at (a ∷ b ∷ []) strip.old }
+// N words, from the strip's word `at` on.
+pub fn put_words<const N: usize>(strip: &mut [u32], at: usize, words: [u32; N])
+    requires { at + N ≤ length strip.old }
+    ensures { strip.new ≡ put at words.entry strip.old }
 {
-    strip[at] = a;
-    strip[at + 1] = b;
-}
-
-pub fn put3(strip: &mut [u32], at: usize, a: u32, b: u32, c: u32)
-    requires { at + 3 ≤ length strip.old }
-    ensures { strip.new ≡ put at (a ∷ b ∷ c ∷ []) strip.old }
-{
-    strip[at] = a;
-    strip[at + 1] = b;
-    strip[at + 2] = c;
+    strip[at..at + N].copy_from_slice(&words);
 }
 
 // A vector, by the bits of its floats.
@@ -35,7 +26,7 @@ pub(crate) fn put_vec(v: Vec3, strip: &mut [u32], at: usize)
     let x = bits_of_float(v.x);
     let y = bits_of_float(v.y);
     let z = bits_of_float(v.z);
-    put3(strip, at, x, y, z);
+    put_words(strip, at, [x, y, z]);
 }
 
 // The three shorts that stand in b from off on.
@@ -51,9 +42,9 @@ pub fn shorts_at(b: &[u8], off: usize) -> Shorts
 }
 
 // The position that three shorts stand for in a box.
-pub fn put_position(q: Shorts, bb_min: Vec3, bb_size: Vec3, strip: &mut [u32], at: usize)
+pub fn put_position(q: Shorts, frame: Frame, strip: &mut [u32], at: usize)
     requires { at + 3 ≤ length strip.old }
-    ensures { strip.new ≡ put at (vec_words (back_by bb_min bb_size q.x q.y q.z)) strip.old }
+    ensures { strip.new ≡ put at (vec_words (back_by frame.bb_min frame.bb_size q.x q.y q.z)) strip.old }
 {
-    put_vec(unquantise(q, bb_min, bb_size), strip, at);
+    put_vec(frame.unquantise(q), strip, at);
 }

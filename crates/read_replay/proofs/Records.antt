@@ -1,15 +1,26 @@
 -- What a record tells, from the tests that are made.
 use Prim.Native.Nat.{ℕ, ◌+◌, ◌*◌, ◌≤◌, ◌<◌}
-use mathlib.Core.Path.{◌≡◌}
+use mathlib.Core.Path.{◌≡◌, refl}
+use mathlib.Core.Bool.{Bool, true, false, ◌&&◌, false≢true}
+use lib.Dec.{eqb}
 use mathlib.Core.List.{List}
 use lib.ListN.{length}
-use borrow.Author.Tests.{eq-eqb, ne_eqb, lt-ltb, le-ltb}
+use borrow.Author.Tests.{eq-eqb, ne_eqb, lt-ltb, le-ltb, eqb-true}
 use Rattle.fields.specs.Bytes.{le_at}
 use Rattle.read_decide.specs.declared.Parsed.{Parsed}
 use Rattle.read_replay.specs.Agreement.{told_word, told_words}
 
-pub same_counts : (p : Parsed) (v w x y z : ℕ) → p.words ≡ v → p.polys ≡ w → p.portals ≡ x → p.points ≡ y → p.sectors ≡ z → p ≡ record { words = v; polys = w; portals = x; points = y; sectors = z }
-same_counts p v w x y z e f g h i = rw (← e, ← f, ← g, ← h, ← i)
+both : (a b : Bool) → a && b ≡ true → (a ≡ true) × (b ≡ true)
+both true b e = (refl, e)
+both false b e = absurd (false≢true e)
+
+pub same_counts : (p : Parsed) (v w x y z : ℕ) → (eqb p.words v && (eqb p.polys w && (eqb p.portals x && (eqb p.points y && eqb p.sectors z)))) ≡ true → p ≡ record { words = v; polys = w; portals = x; points = y; sectors = z }
+same_counts p v w x y z h =
+    let (a, i) = both _ _ h in
+    let (b, j) = both _ _ i in
+    let (c, k) = both _ _ j in
+    let (d, e) = both _ _ k in
+    rw (← eqb-true p.words v a, ← eqb-true p.polys w b, ← eqb-true p.portals x c, ← eqb-true p.points y d, ← eqb-true p.sectors z e)
 
 module _ (b : List ℕ) (at : ℕ) where
   pub told_words_lem : (w : ℕ) → le_at 4 b (at + 16) ≡ 0 → w ≡ le_at 4 b (at + 20) → w ≡ told_words b at

@@ -4,13 +4,14 @@
 // zeros; the two sections, each padded to whole words; and the words of an accepted cell. The first word that isn't 7 ends the list.
 #![tactic(auto)]
 
+ghost use Rattle.strip.specs.Outcome.{paper};
 ghost use Rattle.std.specs.Prelude.{◌≡◌, true, ℕ, ◌+◌, ◌*◌, ◌^◌, ◌≤◌, ◌<◌, length, get_or};
-ghost use Rattle.read_decide.specs.Answer.{paper};
 ghost use Rattle.read_replay.specs.Agreement.{expected, expected_counts, told_word, told_words, record_of, ReadRecordInside};
 
 use fields::u32_le;
-use read_decide::{ParseAnswer, Parsed};
+use read_decide::Parsed;
 use replay::{end_of, padded, refusal_agrees};
+use strip::Refusal;
 
 // Where the sections of a record begin and end, its strip begins, and the next record.
 #[derive(Clone, Copy)]
@@ -30,9 +31,10 @@ fn strip_words(bytes: &[u8], at: usize) -> usize
     ensures bound { result < 2 ^ 32 }
 {
     if u32_le(bytes, at + 16) == 0 {
-        return u32_le(bytes, at + 20) as usize;
+        u32_le(bytes, at + 20) as usize
+    } else {
+        0
     }
-    0
 }
 
 pub fn record_at(bytes: &[u8], at: usize) -> Record
@@ -60,36 +62,23 @@ fn counts_agree(bytes: &[u8], at: usize, p: Parsed) -> bool
     requires { at + 40 ≤ length bytes.now }
     ensures { result ≡ true → p ≡ expected_counts bytes.now at }
 {
-    if p.words != u32_le(bytes, at + 20) as usize {
-        return false;
+    p == Parsed {
+        words: u32_le(bytes, at + 20) as usize,
+        polys: u32_le(bytes, at + 24) as usize,
+        portals: u32_le(bytes, at + 28) as usize,
+        points: u32_le(bytes, at + 32) as usize,
+        sectors: u32_le(bytes, at + 36) as usize,
     }
-    if p.polys != u32_le(bytes, at + 24) as usize {
-        return false;
-    }
-    if p.portals != u32_le(bytes, at + 28) as usize {
-        return false;
-    }
-    if p.points != u32_le(bytes, at + 32) as usize {
-        return false;
-    }
-    p.sectors == u32_le(bytes, at + 36) as usize
 }
 
 // Whether an answer is what the record says.
-pub fn answer_agrees(bytes: &[u8], at: usize, a: ParseAnswer) -> bool
+pub fn answer_agrees(bytes: &[u8], at: usize, a: Result<Parsed, Refusal>) -> bool
     requires { at + 40 ≤ length bytes.now }
     ensures { result ≡ true → paper a ≡ expected bytes.now at }
 {
     match a {
-        ParseAnswer::Parsed(p) => {
-            if u32_le(bytes, at + 16) == 0 {
-                return counts_agree(bytes, at, p);
-            }
-            false
-        }
-        ParseAnswer::Refused(r) => {
-            refusal_agrees(r, u32_le(bytes, at + 16), u32_le(bytes, at + 20))
-        }
+        Ok(p) => u32_le(bytes, at + 16) == 0 && counts_agree(bytes, at, p),
+        Err(r) => refusal_agrees(r, u32_le(bytes, at + 16), u32_le(bytes, at + 20)),
     }
 }
 
@@ -99,22 +88,19 @@ fn told_word(words: &[u8], k: usize) -> u32
     ensures { result ≡ told_word words.now k }
 {
     if 4 * k < words.len() {
-        return u32_le(words, 4 * k);
+        u32_le(words, 4 * k)
+    } else {
+        0xD1D1_D1D1
     }
-    0xD1D1_D1D1
 }
 
 pub fn words_agree(words: &[u8], strip: &[u32; 512]) -> bool
     ensures { result ≡ true → ((k : ℕ) → k < 512 → get_or strip.now k 0 ≡ told_word words.now k) }
 {
-    let mut k = 0;
-    while k < 512 {
-        let expected = told_word(words, k);
-        let found = strip[k];
-        if found != expected {
+    for k in 0..512 {
+        if strip[k] != told_word(words, k) {
             return false;
         }
-        k += 1;
     }
     true
 }

@@ -8,39 +8,41 @@ use mathlib.Core.List.{List, [], ◌∷◌}
 use lib.Dec.{eqb}
 use lib.ListN.{length}
 use borrow.Author.Tests.{eq-eqb, ne_eqb}
+use Rattle.strip.specs.declared.Reason.{Reason}
+use Rattle.strip.specs.Reasons.{reason_number}
 use Rattle.strip.specs.Outcome.{Paper, shown, refusal, values}
 use Rattle.strip.specs.Outcome as Outcome
 use Rattle.read_sectors.specs.declared.Tree.{Tree}
 use Rattle.read_sectors.specs.declared.Walk.{Walk}
-use Rattle.read_sectors.specs.declared.Walk.TheVariants.{Done, Refused}
+use Rattle.std.specs.Prelude.{Ok, Err}
 use Rattle.read_sectors.specs.Walk.{Walked, walk}
 use Rattle.read_sectors.specs.Walk.Walked.{done, refused}
-use Rattle.read_sectors.specs.Answer.{outcome_of, tree_outcome, walk_paper, walk_answer, WalkCounted}
+use Rattle.read_sectors.specs.Answer.{outcome_of, tree_outcome, walk_answer, WalkCounted}
 
-was_refused : (w : Walked) {e : ℕ} → walk_answer 0 w ≡ refusal e 0 → w ≡ refused e
+was_refused : (w : Walked) {n : ℕ} → refusal n 0 ≡ walk_answer 0 w → w ≡ refused n
 was_refused (done l ps) h = let z : ◌≡◌ {A = ℕ} 0 1 = cc in absurd (omega arith)
 was_refused (refused y) h = cc
 
-was_done : (w : Walked) (l p : ℕ) → ◌≡◌ {A = Paper (ℕ × ℕ)} (walk_answer 0 w) (values (l, p)) → (ps : List (List ℕ)) × (w ≡ done l ps) × (length ps ≡ p)
-was_done (done k ps) l p h =
-    let pair : ◌≡◌ {A = ℕ × ℕ} (k, 0 + length ps) (l, p) = cc in
-    (ps, ap (λ (s : ℕ × ℕ). done s.0 ps) pair, sym (zero-add (length ps)) ∙ ap (λ (s : ℕ × ℕ). s.1) pair)
-was_done (refused y) l p h = let z : ◌≡◌ {A = ℕ} 0 1 = cc in absurd (omega arith)
+was_done : (w : Walked) (to : Walk) → values to ≡ walk_answer 0 w → (ps : List (List ℕ)) × (w ≡ done to.left ps) × (length ps ≡ to.points)
+was_done (done k ps) to h =
+    let same : record { left = k; points = 0 + length ps } ≡ to = cc in
+    (ps, ap (λ (s : Walk). done s.left ps) same, sym (zero-add (length ps)) ∙ ap (λ (s : Walk). s.points) same)
+was_done (refused y) to h = let z : ◌≡◌ {A = ℕ} 0 1 = cc in absurd (omega arith)
 
 module _ (system graphics : List ℕ) (root : ℕ) where
   pub says_null : root ≡ 0 → refusal 31 0 ≡ shown (tree_outcome system graphics root)
   unfolding tree_outcome
   says_null z = rw (eq-eqb root 0 z)
 
-  module _ (some : root ≡ 0 → ⊥) {v : Walk} (k : WalkCounted (walk system graphics 4096 (root ∷ [])) 4096 0 v) where
-    pub says_refused : {e : ℕ} → v ≡ Refused e → refusal e 0 ≡ shown (tree_outcome system graphics root)
+  module _ (some : root ≡ 0 → ⊥) {start : Walk} (es : start ≡ record { left = 4096; points = 0 }) where
+    pub says_refused : {e : Reason} → WalkCounted (walk system graphics start.left (root ∷ [])) start (Err e) → refusal (reason_number e) 0 ≡ shown (tree_outcome system graphics root)
     unfolding tree_outcome
-    says_refused h = rw (ne_eqb root 0 some, was_refused (walk system graphics 4096 (root ∷ [])) (sym k.is ∙ ap walk_paper h))
+    says_refused k = rw (ne_eqb root 0 some, was_refused (walk system graphics 4096 (root ∷ [])) (rw es at k).is)
 
-    pub says_tree : {l p : ℕ} → v ≡ Done l p → values (record { sectors = 4096 - l; points = p }) ≡ shown (tree_outcome system graphics root)
+    pub says_tree : {to : Walk} → WalkCounted (walk system graphics start.left (root ∷ [])) start (Ok to) → values (record { sectors = 4096 - to.left; points = to.points }) ≡ shown (tree_outcome system graphics root)
     unfolding tree_outcome
-    says_tree {l} {p} h =
-        let (ps, a, b) = was_done (walk system graphics 4096 (root ∷ [])) l p (sym k.is ∙ ap walk_paper h) in
+    says_tree {to} k =
+        let (ps, a, b) = was_done (walk system graphics 4096 (root ∷ [])) to (rw es at k).is in
         rw (ne_eqb root 0 some, a, b)
 
   -- ---- for a caller: at a root that isn't 0 the walk decides, and an accepted tree is one that `put_tree_points` takes

@@ -1,7 +1,7 @@
 -- The walk and the grammar say the same.
 --     walk_complete   where there are trees, a walk with enough visits spends one on each sector and finds their points
 --     walk_sound      what a walk accepts has trees, of as many sectors as visits were spent, with those points
-use Prim.Native.Nat.{ℕ, zero, suc, ◌+◌, ◌-◌}
+use Prim.Native.Nat.{ℕ, zero, suc, ◌+◌}
 use native.Mathlib.Nat.{zero-add, suc-add, add_assoc}
 use native.Mathlib.Omega.{arith}
 use mathlib.Core.Path.{◌≡◌, refl, sym, ap, subst}

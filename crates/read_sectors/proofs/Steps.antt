@@ -3,23 +3,24 @@ use Prim.Native.Nat.{ℕ, zero, suc, ◌+◌, ◌-◌, ◌*◌, ◌≤◌, ◌<�
 use native.Mathlib.Numerals.{sub-one}
 use native.Mathlib.Nat.{add_assoc, add-zero, le_refl}
 use native.Mathlib.Omega.{arith}
-use mathlib.Core.Path.{◌≡◌, refl, ap, sym, subst, ◌∙◌}
+use mathlib.Core.Path.{◌≡◌, refl, sym, ◌∙◌}
 use mathlib.Core.Bool.{Bool, true, false}
 use mathlib.Core.List.{List, [], ◌∷◌, ◌++◌, append-nil}
 use lib.ListN.{length, length-append}
+use Rattle.std.specs.Prelude.{Result, Ok, Err}
+use Rattle.strip.specs.declared.Reason.{Reason}
+use Rattle.strip.specs.Reasons.{reason_number}
+use Rattle.strip.specs.declared.Reason.TheVariants.{ManySectors, BadSector}
 use Rattle.fields.specs.Bytes.{le_at}
 use Rattle.resource.specs.Section.{good, resolved}
 use Rattle.resource.proofs.Parts.{short_bad, full_good}
 use Rattle.strip.specs.Outcome.{Paper, refusal, values}
 use Rattle.read_grammar.specs.Trees.{keep, subs_to}
 use Rattle.read_sectors.specs.declared.Walk.{Walk}
-use Rattle.read_sectors.specs.declared.Walk.TheVariants.{Done, Refused}
-use Rattle.read_sectors.specs.declared.SectorPoints.{SectorPoints}
-use Rattle.read_sectors.specs.declared.SectorPoints.TheVariants.{Points, Bad}
 use Rattle.read_sectors.specs.Sector.{points_of, good_data}
 use Rattle.read_sectors.specs.Walk.{Walked, also, checked, sector_at, walk}
 use Rattle.read_sectors.specs.Walk.Walked.{done, refused}
-use Rattle.read_sectors.specs.Answer.{walk_paper, walk_answer, WalkCounted, Within, found_paper, found_of, Few}
+use Rattle.read_sectors.specs.Answer.{reason_paper, walk_answer, WalkCounted, Within, found_of}
 use Rattle.read_sectors.proofs.Exact.{onward, walk_append, walk_none, never}
 
 counted_also : (p : ℕ) (ps : List (List ℕ)) (w : Walked) → walk_answer p (also ps w) ≡ walk_answer (p + length ps) w
@@ -42,28 +43,22 @@ subs_skip s i h e z = rw (subs_step s i h, ← e, z)
 pub subs_at : (s : List ℕ) (i : ℕ) {va : ℕ} → (i ≡ 0 → ⊥) → va ≡ le_at 8 s (0x34 + 8 * (i - 1)) → (va ≡ 0 → ⊥) → subs_to s i ≡ va ∷ subs_to s (i - 1)
 subs_at s i {va} h e z = rw (subs_step s i h, ← e) (keep_more va (subs_to s (i - 1)) z)
 
-found_bad : (b : Bool) (ps : List (List ℕ)) → found_of b ps ≡ refusal 34 0 → b ≡ false
-found_bad true ps e = cc
-found_bad false ps e = refl
+found_bad : (b : Bool) (ps : List (List ℕ)) {n : ℕ} → refusal n 0 ≡ found_of b ps → (b ≡ false) × (n ≡ 34)
+found_bad true ps e = (cc, cc)
+found_bad false ps e = (refl, cc)
 
-found_good : (b : Bool) (ps : List (List ℕ)) {n : ℕ} → found_of b ps ≡ values n → (b ≡ true) × (length ps ≡ n)
+found_good : (b : Bool) (ps : List (List ℕ)) {n : ℕ} → values n ≡ found_of b ps → (b ≡ true) × (length ps ≡ n)
 found_good true ps e = (refl, cc)
 found_good false ps e = (cc, cc)
 
-pub few : {b : SectorPoints} {n : ℕ} → Few b → b ≡ Points n → n ≤ 65535
-few h e = subst Few e h
-
-pub done_within : {w : Walked} {left points l p : ℕ} {r : Walk} → WalkCounted w left points r → r ≡ Done l p → (l ≤ left) × (p + 65535 * l ≤ points + 65535 * left)
-done_within {left = left} {points = points} k e = subst (Within left points) e k.within
-
-within_more : (l k p q : ℕ) (r : Walk) → k ≤ l → q + 65535 * k ≤ p + 65535 * l → Within k q r → Within l p r
-within_more l k p q (Done m o) g h w = omega arith
-within_more l k p q (Refused e) g h w = tt
+within_more : (from on : Walk) (r : Result Walk Reason) → on.left ≤ from.left → on.points + 65535 * on.left ≤ from.points + 65535 * from.left → Within on r → Within from r
+within_more from on (Ok to) g h w = omega arith
+within_more from on (Err e) g h w = tt
 
 module _ (system graphics : List ℕ) where
   -- the walk goes on over t from what was said so far
-  abbrev resume : Paper (ℕ × ℕ) → List ℕ → Paper (ℕ × ℕ)
-  resume (values s) t = walk_answer s.1 (walk system graphics s.0 t)
+  abbrev resume : Paper Walk → List ℕ → Paper Walk
+  resume (values to) t = walk_answer to.points (walk system graphics to.left t)
   resume (refusal number place) t = refusal number place
 
   counted_onward : (p : ℕ) (w : Walked) (t : List ℕ) → walk_answer p (onward system graphics w t) ≡ resume (walk_answer p w) t
@@ -73,9 +68,9 @@ module _ (system graphics : List ℕ) where
   counted_append : (p f : ℕ) (s t : List ℕ) → walk_answer p (walk system graphics f (s ++ t)) ≡ resume (walk_answer p (walk system graphics f s)) t
   counted_append p f s t = rw walk_append (counted_onward p (walk system graphics f s) t)
 
-  pub too_many : (left va points : ℕ) → left ≡ 0 → WalkCounted (walk system graphics left (va ∷ [])) left points (Refused 33)
+  pub too_many : (va : ℕ) (from : Walk) → from.left ≡ 0 → WalkCounted (walk system graphics from.left (va ∷ [])) from (Err ManySectors)
   unfolding walk
-  too_many left va points z = record { is = rw z; within = tt }
+  too_many va from z = record { is = rw z; within = tt }
 
   -- an accepted walk over a sector has a visit for it
   pub too_few : (left va : ℕ) {l : ℕ} {ps : List (List ℕ)} → walk system graphics left (va ∷ []) ≡ done l ps → left ≡ 0 → ⊥
@@ -89,77 +84,78 @@ module _ (system graphics : List ℕ) where
   walk_step zero va t h = absurd (h refl)
   walk_step (suc f) va t h = rw sub-one
 
-  module _ (left va points : ℕ) (some : left ≡ 0 → ⊥) {s : List ℕ} (es : s ≡ resolved system graphics va 96) where
-    pub bad_sector : length s < 96 → WalkCounted (walk system graphics left (va ∷ [])) left points (Refused 32)
-    bad_sector h = record { is = rw (walk_step left va [] some, short_bad system graphics va 96 (rw es at h)); within = tt }
+  module _ (va : ℕ) (from : Walk) (some : from.left ≡ 0 → ⊥) {s : List ℕ} (es : s ≡ resolved system graphics va 96) where
+    pub bad_sector : length s < 96 → WalkCounted (walk system graphics from.left (va ∷ [])) from (Err BadSector)
+    bad_sector h = record { is = rw (walk_step from.left va [] some, short_bad system graphics va 96 (rw es at h)); within = tt }
 
-    module _ (long : 96 ≤ length s) {b : SectorPoints} (eb : found_paper b ≡ found_of (good_data system graphics s) (points_of system graphics s)) where
-      pub bad_data : b ≡ Bad → WalkCounted (walk system graphics left (va ∷ [])) left points (Refused 34)
+    module _ (long : 96 ≤ length s) where
+      pub bad_data : {e : Reason} → refusal (reason_number e) 0 ≡ found_of (good_data system graphics s) (points_of system graphics s)
+          → WalkCounted (walk system graphics from.left (va ∷ [])) from (Err e)
       unfolding sector_at
       bad_data h =
-          let f = found_bad (good_data system graphics s) (points_of system graphics s) (sym eb ∙ ap found_paper h) in
-          record { is = rw (walk_step left va [] some, full_good system graphics va 96 (omega arith) (rw es at long), ← es, f); within = tt }
+          let (f, n) = found_bad (good_data system graphics s) (points_of system graphics s) h in
+          record { is = rw (n, walk_step from.left va [] some, full_good system graphics va 96 (omega arith) (rw es at long), ← es, f); within = tt }
 
-      pub into : {n : ℕ} {r : Walk} → b ≡ Points n → n ≤ 65535 → WalkCounted (walk system graphics (left - 1) (subs_to s 4)) (left - 1) (points + n) r
-          → WalkCounted (walk system graphics left (va ∷ [])) left points r
+      pub into : {n : ℕ} {r : Result Walk Reason} → values n ≡ found_of (good_data system graphics s) (points_of system graphics s) → n ≤ 65535
+          → (let on : Walk = record { left = from.left - 1; points = from.points + n } in WalkCounted (walk system graphics on.left (subs_to s 4)) on r)
+          → WalkCounted (walk system graphics from.left (va ∷ [])) from r
       unfolding sector_at
       into {n} {r} h few k =
-          let (f, g) = found_good (good_data system graphics s) (points_of system graphics s) (sym eb ∙ ap found_paper h) in
+          let (f, g) = found_good (good_data system graphics s) (points_of system graphics s) h in
           record {
-            is = rw (walk_step left va [] some, full_good system graphics va 96 (omega arith) (rw es at long), ← es, f, append-nil, counted_also, g) k.is;
-            within = within_more left (left - 1) points (points + n) r (omega arith) (omega arith) k.within;
+            is = rw (walk_step from.left va [] some, full_good system graphics va 96 (omega arith) (rw es at long), ← es, f, append-nil, counted_also, g) k.is;
+            within = within_more from (record { left = from.left - 1; points = from.points + n }) r (omega arith) (omega arith) k.within;
           }
 
-  module _ (s : List ℕ) (i left points : ℕ) where
-    pub no_subs : i ≡ 0 → WalkCounted (walk system graphics left (subs_to s i)) left points (Done left points)
+  module _ (s : List ℕ) (i : ℕ) (at : Walk) where
+    pub no_subs : i ≡ 0 → WalkCounted (walk system graphics at.left (subs_to s i)) at (Ok at)
     unfolding subs_to
     no_subs z = record { is = rw (z, walk_none, add-zero); within = (le_refl _, le_refl _) }
 
     module _ (some : i ≡ 0 → ⊥) {va : ℕ} (ev : va ≡ le_at 8 s (0x34 + 8 * (i - 1))) where
-      pub skip : {r : Walk} → va ≡ 0 → WalkCounted (walk system graphics left (subs_to s (i - 1))) left points r → WalkCounted (walk system graphics left (subs_to s i)) left points r
+      pub skip : {r : Result Walk Reason} → va ≡ 0 → WalkCounted (walk system graphics at.left (subs_to s (i - 1))) at r → WalkCounted (walk system graphics at.left (subs_to s i)) at r
       skip z k = rw (subs_skip s i some ev z) k
 
-      module _ (there : va ≡ 0 → ⊥) {v : Walk} (k : WalkCounted (walk system graphics left (va ∷ [])) left points v) where
+      module _ (there : va ≡ 0 → ⊥) where
         -- the whole walk goes on from the answer on va
-        from_va : walk_answer points (walk system graphics left (subs_to s i)) ≡ resume (walk_paper v) (subs_to s (i - 1))
-        from_va = rw (subs_at s i some ev there, k.is) (counted_append points left (va ∷ []) (subs_to s (i - 1)))
+        from_va : {v : Result Walk Reason} → WalkCounted (walk system graphics at.left (va ∷ [])) at v
+            → walk_answer at.points (walk system graphics at.left (subs_to s i)) ≡ resume (reason_paper v) (subs_to s (i - 1))
+        from_va k = rw (subs_at s i some ev there, k.is) (counted_append at.points at.left (va ∷ []) (subs_to s (i - 1)))
 
-        pub stop : {e : ℕ} → v ≡ Refused e → WalkCounted (walk system graphics left (subs_to s i)) left points (Refused e)
-        stop h = record { is = sym (rw h at from_va); within = tt }
+        pub stop : {e : Reason} → WalkCounted (walk system graphics at.left (va ∷ [])) at (Err e) → WalkCounted (walk system graphics at.left (subs_to s i)) at (Err e)
+        stop k = record { is = sym (from_va k); within = tt }
 
-        pub next : {l p : ℕ} {r : Walk} → v ≡ Done l p → WalkCounted (walk system graphics l (subs_to s (i - 1))) l p r
-            → WalkCounted (walk system graphics left (subs_to s i)) left points r
-        next {l} {p} {r} h n =
-            let w : Within left points (Done l p) = rw h at k.within in
-            record { is = n.is ∙ sym (rw h at from_va); within = within_more left l points p r w.0 w.1 n.within }
+        pub next : {to : Walk} {r : Result Walk Reason} → WalkCounted (walk system graphics at.left (va ∷ [])) at (Ok to) → WalkCounted (walk system graphics to.left (subs_to s (i - 1))) to r
+            → WalkCounted (walk system graphics at.left (subs_to s i)) at r
+        next {to} {r} k n = record { is = n.is ∙ sym (from_va k); within = within_more at to r k.within.0 k.within.1 n.within }
 
   -- what holds at the head of the loop over the subs: i of them are left, and whatever walks them from here on walks the whole
-  pub record Turn (s : List ℕ) (left points l p i : ℕ) : Type 0 where
+  pub record Turn (s : List ℕ) (start at : Walk) (i : ℕ) : Type 0 where
     pub few : i ≤ 4
-    pub spent : l ≤ left
-    pub within : p + 65535 * l ≤ points + 65535 * left
-    pub goes_on : (r : Walk) → WalkCounted (walk system graphics l (subs_to s i)) l p r → WalkCounted (walk system graphics left (subs_to s 4)) left points r
+    pub spent : at.left ≤ start.left
+    pub within : at.points + 65535 * at.left ≤ start.points + 65535 * start.left
+    pub goes_on : (r : Result Walk Reason) → WalkCounted (walk system graphics at.left (subs_to s i)) at r → WalkCounted (walk system graphics start.left (subs_to s 4)) start r
 
-  pub turn_end : {s : List ℕ} {left points l p i : ℕ} → Turn s left points l p i → i ≤ 0 → WalkCounted (walk system graphics left (subs_to s 4)) left points (Done l p)
-  turn_end {s} {l = l} {p = p} {i = i} k h = k.goes_on _ (no_subs s i l p (omega arith))
+  pub turn_end : {s : List ℕ} {start at : Walk} {i : ℕ} → Turn s start at i → i ≤ 0 → WalkCounted (walk system graphics start.left (subs_to s 4)) start (Ok at)
+  turn_end {s} {at = at} {i = i} k h = k.goes_on _ (no_subs s i at (omega arith))
 
-  module _ {s : List ℕ} {left points l p i : ℕ} (k : Turn s left points l p i) (some : 0 < i) {va : ℕ} (ev : va ≡ le_at 8 s (0x34 + 8 * (i - 1))) where
+  module _ {s : List ℕ} {start at : Walk} {i : ℕ} (k : Turn s start at i) (some : 0 < i) {va : ℕ} (ev : va ≡ le_at 8 s (0x34 + 8 * (i - 1))) where
     none : i ≡ 0 → ⊥
     none z = omega arith
 
-    pub turn_skip : va ≡ 0 → Turn s left points l p (i - 1)
+    pub turn_skip : va ≡ 0 → Turn s start at (i - 1)
     turn_skip z =
         let f = k.few in
-        record { few = omega arith; spent = k.spent; within = k.within; goes_on = λ r w. k.goes_on r (skip s i l p none ev z w) }
+        record { few = omega arith; spent = k.spent; within = k.within; goes_on = λ r w. k.goes_on r (skip s i at none ev z w) }
 
-    module _ (there : va ≡ 0 → ⊥) {v : Walk} (c : WalkCounted (walk system graphics l (va ∷ [])) l p v) where
-      pub turn_stop : {e : ℕ} → v ≡ Refused e → WalkCounted (walk system graphics left (subs_to s 4)) left points (Refused e)
-      turn_stop h = k.goes_on _ (stop s i l p none ev there c h)
+    module _ (there : va ≡ 0 → ⊥) where
+      pub turn_stop : {e : Reason} → WalkCounted (walk system graphics at.left (va ∷ [])) at (Err e) → WalkCounted (walk system graphics start.left (subs_to s 4)) start (Err e)
+      turn_stop c = k.goes_on _ (stop s i at none ev there c)
 
-      pub turn_next : {a b : ℕ} → v ≡ Done a b → Turn s left points a b (i - 1)
-      turn_next h =
-          let w = done_within c h in
+      pub turn_next : {to : Walk} → WalkCounted (walk system graphics at.left (va ∷ [])) at (Ok to) → Turn s start to (i - 1)
+      turn_next c =
+          let w = c.within in
           let f = k.few in
           let g = k.spent in
           let j = k.within in
-          record { few = omega arith; spent = omega arith; within = omega arith; goes_on = λ r u. k.goes_on r (next s i l p none ev there c h u) }
+          record { few = omega arith; spent = omega arith; within = omega arith; goes_on = λ r u. k.goes_on r (next s i at none ev there c u) }

@@ -3,16 +3,16 @@
 
 ghost use Rattle.std.specs.Prelude.{◌≡◌, [], ◌∷◌, ◌+◌, ◌*◌, ◌^◌, ◌<◌};
 ghost use Rattle.fields.specs.Bytes.{le_at};
-ghost use Rattle.strip.specs.Outcome.{shown};
+ghost use Rattle.strip.specs.Outcome.{shown, paper};
 ghost use Rattle.read_grammar.specs.Trees.{subs_to};
 ghost use Rattle.read_sectors.specs.Sector.{good_data, points_of};
 ghost use Rattle.read_sectors.specs.Walk.{walk};
-ghost use Rattle.read_sectors.specs.Answer.{paper, tree_outcome, found_paper, found_of, Few, Small, WalkCounted};
+ghost use Rattle.read_sectors.specs.Answer.{tree_outcome, reason_paper, found_of, Few, Small, WalkCounted};
 
 use fields::sizes::{POINT_SIZE, SECTOR_DATA_SIZE, SECTOR_SIZE};
 use fields::{u16_le, u64_le};
-use resource::resolve;
-use strip::Refusal;
+use res_reader::ResReader;
+use strip::{Reason, Refusal};
 
 // A sector reached twice counts twice, and so do its points.
 #[derive(Clone, Copy)]
@@ -21,48 +21,36 @@ pub struct Tree {
     pub points: usize,
 }
 
+// Where a walk stands: the visits left, and the points counted so far.
 #[derive(Clone, Copy)]
-pub enum TreeAnswer {
-    Tree(Tree),
-    Refused(Refusal),
+struct Walk {
+    left: usize,
+    points: usize,
 }
 
-// A sector's data and points are good or absent, and there are so many points; or not.
-#[derive(Clone, Copy)]
-enum SectorPoints {
-    Points(usize),
-    Bad,
-}
-
-// What a walk answers: the visits left and the points counted, or a refusal's number.
-#[derive(Clone, Copy)]
-enum Walk {
-    Done { left: usize, points: usize },
-    Refused(u32),
-}
-
-// How many points a sector has, by its data's address, 0x2C, and the data's count and address of points, 0x1A and 0x10.
-fn find_points<'a>(system: &'a [u8], graphics: &'a [u8], sector: &'a [u8]) -> SectorPoints
-    ensures answer { found_paper result ≡ found_of (good_data system.now graphics.now sector.now) (points_of system.now graphics.now sector.now) }
+// How many points a sector has, where its data and points are good or absent: by its data's address, 0x2C, and the data's count and address of
+// points, 0x1A and 0x10.
+fn find_points<'a>(reader: &ResReader<'a>, sector: &'a [u8]) -> Result<usize, Reason>
+    ensures answer { reason_paper result ≡ found_of (good_data reader.now.system.now reader.now.graphics.now sector.now) (points_of reader.now.system.now reader.now.graphics.now sector.now) }
     ensures bound { Few result }
 {
     let va = u64_le(sector, 0x2C);
     if va == 0 {
-        return SectorPoints::Points(0);
+        return Ok(0);
     }
-    let data = resolve(system, graphics, va, SECTOR_DATA_SIZE);
+    let data = reader.resolve(va, SECTOR_DATA_SIZE);
     if data.len() < SECTOR_DATA_SIZE {
-        return SectorPoints::Bad;
+        return Err(Reason::BadSectorData);
     }
-    let n = u16_le(data, 0x1A) as usize;
+    let n = usize::from(u16_le(data, 0x1A));
     if n == 0 {
-        return SectorPoints::Points(0);
+        return Ok(0);
     }
-    let points = resolve(system, graphics, u64_le(data, 0x10), POINT_SIZE * n);
+    let points = reader.resolve(u64_le(data, 0x10), POINT_SIZE * n);
     if points.len() < POINT_SIZE * n {
-        return SectorPoints::Bad;
+        return Err(Reason::BadSectorData);
     }
-    SectorPoints::Points(n)
+    Ok(n)
 }
 
 // The address of a sector's sub i.
@@ -73,80 +61,58 @@ pub fn sub_at(sector: &[u8], i: usize) -> u64
     u64_le(sector, 0x34 + 8 * i)
 }
 
-// The sector at va and all below it, with `left` visits left and `points` points counted before it.
+// The sector at va and all below it. The walk, which may be 4,096 deep, has the sections by reference: by value each level would hold a copy of them.
 #[cycle(visit_sector_visit_subs)]
-fn visit_sector<'a>(
-    system: &'a [u8],
-    graphics: &'a [u8],
-    va: u64,
-    left: usize,
-    points: usize,
-) -> Walk
-    requires { points + 65535 * left < 2 ^ 64 }
-    ensures { WalkCounted (walk system.now graphics.now left (va ∷ [])) left points result }
+fn visit_sector<'a>(reader: &ResReader<'a>, va: u64, from: Walk) -> Result<Walk, Reason>
+    requires { from.points + 65535 * from.left < 2 ^ 64 }
+    ensures { WalkCounted (walk reader.now.system.now reader.now.graphics.now from.left (va ∷ [])) from result }
 {
-    if left == 0 {
-        return Walk::Refused(33);
+    if from.left == 0 {
+        return Err(Reason::ManySectors);
     }
-    let sector = resolve(system, graphics, va, SECTOR_SIZE);
+    let sector = reader.resolve(va, SECTOR_SIZE);
     if sector.len() < SECTOR_SIZE {
-        return Walk::Refused(32);
+        return Err(Reason::BadSector);
     }
-    match find_points(system, graphics, sector) {
-        SectorPoints::Bad => Walk::Refused(34),
-        SectorPoints::Points(n) => visit_subs(system, graphics, sector, left - 1, points + n),
-    }
+    let n = find_points(reader, sector)?;
+    let on = Walk {
+        left: from.left - 1,
+        points: from.points + n,
+    };
+    visit_subs(reader, sector, on)
 }
 
 // The trees at a sector's four subs, the last sub first.
 #[cycle(visit_sector_visit_subs)]
-fn visit_subs<'a>(
-    system: &'a [u8],
-    graphics: &'a [u8],
-    sector: &'a [u8],
-    left: usize,
-    points: usize,
-) -> Walk
-    requires { points + 65535 * left < 2 ^ 64 }
-    ensures { WalkCounted (walk system.now graphics.now left (subs_to sector.now 4)) left points result }
+fn visit_subs<'a>(reader: &ResReader<'a>, sector: &'a [u8], start: Walk) -> Result<Walk, Reason>
+    requires { start.points + 65535 * start.left < 2 ^ 64 }
+    ensures { WalkCounted (walk reader.now.system.now reader.now.graphics.now start.left (subs_to sector.now 4)) start result }
 {
-    let mut l = left;
-    let mut p = points;
-    let mut i = 4;
-    while i > 0 {
-        i -= 1;
+    let mut at = start;
+    for i in (0..4).rev() {
         let sub = sub_at(sector, i);
         if sub != 0 {
-            match visit_sector(system, graphics, sub, l, p) {
-                Walk::Refused(number) => {
-                    return Walk::Refused(number);
-                }
-                Walk::Done { left: a, points: b } => {
-                    l = a;
-                    p = b;
-                }
-            }
+            at = visit_sector(reader, sub, at)?;
         }
     }
-    Walk::Done { left: l, points: p }
+    Ok(at)
 }
 
 // The tree at root, of 4,096 sectors at most: how many sectors and points it has, or the first fault in preorder.
-pub fn read_sector_tree<'a>(system: &'a [u8], graphics: &'a [u8], root: u64) -> TreeAnswer
-    ensures answer { paper result ≡ shown (tree_outcome system.now graphics.now root) }
+pub fn read_sector_tree<'a>(reader: ResReader<'a>, root: u64) -> Result<Tree, Refusal>
+    ensures answer { paper result ≡ shown (tree_outcome reader.entry.system.now reader.entry.graphics.now root) }
     ensures bound { Small result }
 {
     if root == 0 {
-        return TreeAnswer::Refused(Refusal {
-            number: 31,
-            place: 0,
-        });
+        return Err(Refusal::from(Reason::NoTree));
     }
-    match visit_sector(system, graphics, root, 4096, 0) {
-        Walk::Refused(number) => TreeAnswer::Refused(Refusal { number, place: 0 }),
-        Walk::Done { left, points } => TreeAnswer::Tree(Tree {
-            sectors: 4096 - left,
-            points,
-        }),
-    }
+    let start = Walk {
+        left: 4096,
+        points: 0,
+    };
+    let end = visit_sector(&reader, root, start)?;
+    Ok(Tree {
+        sectors: 4096 - end.left,
+        points: end.points,
+    })
 }

@@ -3,19 +3,19 @@
 #![tactic(auto)]
 
 ghost use Rattle.std.specs.Prelude.{◌≡◌, true, ◌+◌, ◌≤◌, ◌<◌, length, IfOk};
-ghost use Rattle.strip.specs.Outcome.{shown};
-ghost use Rattle.read_decide.specs.Answer.{paper};
+ghost use Rattle.strip.specs.Outcome.{shown, paper};
 ghost use Rattle.replay.specs.Tallies.{Tallied, Step};
 ghost use Rattle.read_replay.specs.Agreement.{untouched_words, outcome_of, strip_of, Agrees, Asked, TallyOf, ReadRecordInside};
 
 use fields::u32_le;
-use read_decide::ParseAnswer;
+use read_decide::Parsed;
 use read_replay::{Record, answer_agrees, record_at, words_agree};
-use replay::{Tally, asked, print, print_first, print_number, print_tally, read_full, tallied};
+use replay::{Tally, asked, print_first, print_number, print_tally, read_full, tallied};
 use std::io;
+use strip::Refusal;
 
 // Reads the sections of a record into as much of the strip as the record says.
-fn read_record(bytes: &[u8], at: usize, r: Record, strip: &mut [u32]) -> ParseAnswer
+fn read_record(bytes: &[u8], at: usize, r: Record, strip: &mut [u32]) -> Result<Parsed, Refusal>
     requires { ReadRecordInside at r (length bytes.now) }
     ensures answer { paper result ≡ shown (outcome_of bytes.now at r (length strip.old)) }
     ensures strip { strip.new ≡ strip_of bytes.now at r strip.old }
@@ -24,7 +24,7 @@ fn read_record(bytes: &[u8], at: usize, r: Record, strip: &mut [u32]) -> ParseAn
     let system_end = r.system_end;
     let graphics = r.graphics;
     let graphics_end = r.graphics_end;
-    let lent = fields::least(u32_le(bytes, at + 12) as usize, strip.len());
+    let lent = (u32_le(bytes, at + 12) as usize).min(strip.len());
     ynv_read::parse_ynv(
         &bytes[system..system_end],
         &bytes[graphics..graphics_end],
@@ -77,6 +77,7 @@ fn tally_of(bytes: &[u8], low: u32, high: u32) -> Tally
         first: bytes.len(),
     };
     let mut at = 0;
+    // a `while`: only the record says where the next one begins
     while 40 <= bytes.len() - at {
         if u32_le(bytes, at) != 7 {
             return t;
@@ -104,10 +105,8 @@ fn report_number(rt: &impl Print, bytes: &[u8], n: u32) -> io::Result<()> {
 }
 
 fn report_numbers(rt: &impl Print, bytes: &[u8], low: u32, high: u32) -> io::Result<()> {
-    let mut n = low;
-    while n < high {
+    for n in low..high {
         report_number(rt, bytes, n)?;
-        n += 1;
     }
     Ok(())
 }
@@ -116,7 +115,7 @@ fn report_all(rt: &impl Print, bytes: &[u8]) -> io::Result<()> {
     report_number(rt, bytes, 0)?;
     report_number(rt, bytes, 2)?;
     report_numbers(rt, bytes, 30, 41)?;
-    print(rt, b"all ")?;
+    print!(rt; "all ")?;
     let first = report(rt, bytes, 0, 4294967295)?;
     print_first(rt, first, bytes.len(), b"byte")
 }

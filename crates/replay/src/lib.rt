@@ -1,40 +1,41 @@
 // What the programs that replay the oracle's lists share: where the parts of a record end, the tally of the records, how the list is read, and the lines that are printed.
 #![tactic(auto)]
 
+ghost use Rattle.strip.specs.Reasons.{reason_number};
 ghost use Rattle.std.specs.Prelude.{◌≡◌, true, false, ◌+◌, ◌≤◌, ◌<◌, length, get_or, IfOk};
 ghost use Rattle.replay.specs.Ends.{record_end, padded};
 ghost use Rattle.replay.specs.Tallies.{Tallied, Within, counting};
 
-use fields::least;
+pub mod lent;
+
 use std::io;
 use std::io::Read;
 use strip::Refusal;
 
 // Where `count` bytes from `from` on end, of n in all. What the list lacks is left out.
+#[tactic(auto, unfolding(crate::specs::Ends::record_end))]
 pub fn end_of(n: usize, from: usize, count: usize) -> usize
     requires { from ≤ n }
     ensures end { result ≡ record_end n from count }
     ensures start { from ≤ result }
     ensures bound { result ≤ n }
 {
-    from + least(count, n - from)
+    from + count.min(n - from)
 }
 
 // Whole words that hold so many bytes, in bytes.
+#[tactic(auto, unfolding(crate::specs::Ends::padded))]
 pub fn padded(count: u32) -> usize
     ensures { result ≡ padded count }
 {
-    ((count as usize) + 3) / 4 * 4
+    (count as usize).div_ceil(4) * 4
 }
 
 // Word i, and another one past the end.
 pub fn word_or(words: &[u32], i: usize, other: u32) -> u32
     ensures { result ≡ get_or words.now i other }
 {
-    if i < words.len() {
-        return words[i];
-    }
-    other
+    words.get(i).copied().unwrap_or(other)
 }
 
 // How many records there are, how many of them agree, and where the first stands that doesn't, or the end of the list.
@@ -51,18 +52,13 @@ pub fn tallied(t: Tally, n: usize, at: usize, agreed: bool) -> Tally
     ensures tally { result ≡ counting t at agreed }
     ensures bound { Tallied n (at + 1) result }
 {
+    let seen = t.seen + 1;
     if agreed {
-        return Tally {
-            seen: t.seen + 1,
-            agreed: t.agreed + 1,
-            first: t.first,
-        };
+        let agreed = t.agreed + 1;
+        return Tally { seen, agreed, ..t };
     }
-    Tally {
-        seen: t.seen + 1,
-        agreed: t.agreed,
-        first: least(t.first, at),
-    }
+    let first = t.first.min(at);
+    Tally { seen, first, ..t }
 }
 
 // Whether a number is from low to high.
@@ -70,26 +66,14 @@ pub fn asked(number: u32, low: u32, high: u32) -> bool
     ensures within { result ≡ true → Within low high number }
     ensures outside { result ≡ false → Within low high number → ⊥ }
 {
-    if number < low {
-        return false;
-    }
-    if high < number {
-        return false;
-    }
-    true
+    (low..=high).contains(&number)
 }
 
 // Whether a refusal is the one that a record tells by its number and place. The number 0 tells none.
 pub fn refusal_agrees(r: Refusal, number: u32, place: u32) -> bool
-    ensures { result ≡ true → (number ≡ 0 → ⊥) × (r.number ≡ number) × (r.place ≡ place) }
+    ensures { result ≡ true → (number ≡ 0 → ⊥) × (reason_number r.reason ≡ number) × (r.place ≡ place) }
 {
-    if number == 0 {
-        return false;
-    }
-    if r.number != number {
-        return false;
-    }
-    r.place == place as usize
+    number != 0 && u32::from(r.reason) == number && r.place == place as usize
 }
 
 // Reads until the buffer is full or the input ends, and answers how many bytes it put at the start of the buffer.
@@ -97,6 +81,7 @@ pub fn read_full(input: &mut impl Read, buffer: &mut [u8]) -> io::Result<usize>
     ensures { IfOk result (λ n. n ≤ length buffer.new) }
 {
     let mut done = 0;
+    // no `for`: each read gives as much as it has
     while done < buffer.len() {
         let got = input.read(&mut buffer[done..])?;
         if got == 0 {
@@ -112,27 +97,21 @@ pub fn print(rt: &impl Print, text: &[u8]) -> io::Result<()> {
 }
 
 pub fn print_tally(rt: &impl Print, t: Tally) -> io::Result<()> {
-    rt.print(t.agreed)?;
-    print(rt, b" of ")?;
-    rt.print(t.seen)?;
-    print(rt, b"\n")
+    let Tally { seen, agreed, .. } = t;
+    println!(rt; "{agreed} of {seen}")
 }
 
 // What a line begins with that is about one number of the refusals.
 pub fn print_number(rt: &impl Print, n: u32) -> io::Result<()> {
-    print(rt, b"number ")?;
-    rt.print(n)?;
-    print(rt, b": ")
+    print!(rt; "number {n}: ")
 }
 
 // A line with the first difference, of n places, if there is one.
 pub fn print_first(rt: &impl Print, first: usize, n: usize, unit: &[u8]) -> io::Result<()> {
     if first < n {
-        print(rt, b"first difference at ")?;
+        print!(rt; "first difference at ")?;
         print(rt, unit)?;
-        print(rt, b" ")?;
-        rt.print(first)?;
-        print(rt, b"\n")?;
+        println!(rt; " {first}")?;
     }
     Ok(())
 }

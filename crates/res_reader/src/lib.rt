@@ -1,8 +1,10 @@
 // The two lent sections in a struct, with thin methods over the lookup.
 #![tactic(auto)]
 
-ghost use Rattle.std.specs.Prelude.{◌≡◌};
-ghost use Rattle.res_reader.specs.Looked.{Looked, pointer_to};
+ghost use Rattle.std.specs.Prelude.{◌≡◌, IfSome, true};
+ghost use Rattle.resource.specs.Section.{good, resolved};
+ghost use Rattle.resource.specs.Places.{resolved_at};
+ghost use Rattle.res_reader.specs.Looked.{Looked, told, pointer_to};
 
 use resource::is_good;
 
@@ -12,18 +14,12 @@ pub struct ResReader<'a> {
     pub graphics: &'a [u8],
 }
 
-// What an address and a length name: the Rust's `Some(None)`, `Some(Some(..))` and `None`.
-#[derive(Clone, Copy)]
+// What an address and a length name: the Rust's `Some(None)`, `Some(Some(..))` and `None`. An enum and no such option, since `pointer_to` (docs/PROMISES.md) has no part to give.
+#[derive(Clone, Copy, Debug, PartialEq, Eq)]
 pub enum Pointer {
     Null,
     Good,
     NotGood,
-}
-
-#[derive(Clone, Copy)]
-pub struct OptionalPart<'a> {
-    pub pointer: Pointer,
-    pub part: &'a [u8],
 }
 
 pub fn pointer_to<'a>(system: &'a [u8], graphics: &'a [u8], va: u64, len: usize) -> Pointer
@@ -32,10 +28,10 @@ pub fn pointer_to<'a>(system: &'a [u8], graphics: &'a [u8], va: u64, len: usize)
     if va == 0 {
         return Pointer::Null;
     }
-    if is_good(system, graphics, va, len) {
-        return Pointer::Good;
+    if !is_good(system, graphics, va, len) {
+        return Pointer::NotGood;
     }
-    Pointer::NotGood
+    Pointer::Good
 }
 
 impl<'a> ResReader<'a> {
@@ -53,14 +49,25 @@ impl<'a> ResReader<'a> {
         resource::resolve(self.system, self.graphics, va, len)
     }
 
-    // The same beside what va is, which tells a null address from one that isn't good.
-    pub fn resolve_optional(self, va: u64, len: usize) -> OptionalPart<'a>
-        ensures pointer { result.pointer ≡ pointer_to self.entry.system.now self.entry.graphics.now va len }
-        ensures part { Looked self.entry.system self.entry.graphics va len result.part }
+    // The part that an address names, in the memory of its section itself, where it is known to be good: `resolve` without its tests.
+    pub fn good_part(self, va: u64, len: usize) -> &'a [u8]
+        requires { good self.system.now self.graphics.now va len ≡ true }
+        ensures content { result.now ≡ resolved self.entry.system.now self.entry.graphics.now va len }
+        ensures place { result.ref_ptr ≡ resolved_at self.entry.system self.entry.graphics va }
     {
-        let pointer = pointer_to(self.system, self.graphics, va, len);
-        let part = self.resolve(va, len);
-        OptionalPart { pointer, part }
+        resource::good_part(self.system, self.graphics, va, len)
+    }
+
+    // The same as the Rust tells it: `Some(None)` where va is null, and `None` where it isn't good.
+    pub fn resolve_optional(self, va: u64, len: usize) -> Option<Option<&'a [u8]>>
+        ensures pointer { told result ≡ pointer_to self.entry.system.now self.entry.graphics.now va len }
+        ensures part { IfSome result (λ found. IfSome found (Looked self.entry.system self.entry.graphics va len)) }
+    {
+        match pointer_to(self.system, self.graphics, va, len) {
+            Pointer::Null => Some(None),
+            Pointer::Good => Some(Some(self.resolve(va, len))),
+            Pointer::NotGood => None,
+        }
     }
 }
 

@@ -1,13 +1,15 @@
 -- Where a part stands in the memory of the two lent sections. Definitions only.
 use Rattle.std.specs.Prelude.{ℕ, ◌+◌, ◌-◌, cond, List}
 use Rattle.std.specs.Borrow.{Bor}
-use Rattle.resource.specs.declared.Located.{Located}
-use Rattle.resource.specs.declared.Located.TheVariants.{Graphics, System, Nowhere}
+use Rattle.std.specs.declared.option.Option.{Option}
+use Rattle.std.specs.declared.option.Option.TheVariants.{None, Some}
+use Rattle.resource.specs.declared.Section.{Section}
+use Rattle.resource.specs.declared.Section.TheVariants.{System, Graphics}
 use Rattle.resource.specs.Section.{in_graphics, in_system}
 
 -- the section that an address names, with the offset there
-unfoldable pub located : ℕ → Located
-located va = cond (in_graphics va) (Graphics (va - 0x60000000)) (cond (in_system va) (System (va - 0x50000000)) Nowhere)
+unfoldable pub located : ℕ → Option (Section × ℕ)
+located va = cond (in_graphics va) (Some (Graphics, va - 0x60000000)) (cond (in_system va) (Some (System, va - 0x50000000)) None)
 
 -- where byte off of a lent section stands: its block of memory, and the offset there
 abbrev pub place_in : Bor (List ℕ) → ℕ → ℕ × ℕ

@@ -9,40 +9,33 @@ pub const SYSTEM_BASE: u64 = 0x5000_0000;
 
 const GRAPHICS_BASE: u64 = 0x6000_0000;
 
-// The section that an address names, with the offset there.
 #[derive(Clone, Copy)]
-enum Located {
-    Graphics(usize),
-    System(usize),
-    Nowhere,
+enum Section {
+    System,
+    Graphics,
 }
 
-fn locate(va: u64) -> Located
+// The section that an address names, with the offset there.
+fn locate(va: u64) -> Option<(Section, usize)>
     ensures { result ≡ located va }
 {
     if va & GRAPHICS_BASE == GRAPHICS_BASE {
-        return Located::Graphics((va - GRAPHICS_BASE) as usize);
+        return Some((Section::Graphics, (va - GRAPHICS_BASE) as usize));
     }
     if va & SYSTEM_BASE == SYSTEM_BASE {
-        return Located::System((va - SYSTEM_BASE) as usize);
+        return Some((Section::System, (va - SYSTEM_BASE) as usize));
     }
-    Located::Nowhere
+    None
 }
 
 // Whether the len bytes of s from off on are all inside.
 fn inside(s: &[u8], off: usize, len: usize) -> bool
     ensures { result ≡ within s.now off len }
 {
-    if s.len() < off {
-        return false;
-    }
-    if s.len() - off < len {
-        return false;
-    }
-    true
+    off <= s.len() && len <= s.len() - off
 }
 
-// The len bytes of s from off on, in the memory of s itself, or an empty part where they are not all inside.
+// The len bytes of s from off on, in the memory of s itself, or an empty part where they are not all inside: no option, since its promise is of a part.
 pub fn part_of(s: &[u8], off: usize, len: usize) -> &[u8]
     ensures content { result.now ≡ part s.now off len }
     ensures place { within s.now off len ≡ true → result.ref_ptr ≡ place_in s.entry off }
@@ -58,9 +51,9 @@ pub fn is_good<'a>(system: &'a [u8], graphics: &'a [u8], va: u64, len: usize) ->
     ensures { result ≡ good system.now graphics.now va len }
 {
     match locate(va) {
-        Located::Graphics(off) => inside(graphics, off, len),
-        Located::System(off) => inside(system, off, len),
-        Located::Nowhere => false,
+        Some((Section::Graphics, off)) => inside(graphics, off, len),
+        Some((Section::System, off)) => inside(system, off, len),
+        None => false,
     }
 }
 
@@ -70,9 +63,9 @@ pub fn resolve<'a>(system: &'a [u8], graphics: &'a [u8], va: u64, len: usize) ->
     ensures place { good system.now graphics.now va len ≡ true → result.ref_ptr ≡ resolved_at system.entry graphics.entry va }
 {
     match locate(va) {
-        Located::Graphics(off) => part_of(graphics, off, len),
-        Located::System(off) => part_of(system, off, len),
-        Located::Nowhere => &system[..0],
+        Some((Section::Graphics, off)) => part_of(graphics, off, len),
+        Some((Section::System, off)) => part_of(system, off, len),
+        None => &system[..0],
     }
 }
 

@@ -6,16 +6,16 @@ use mathlib.Core.Bool.{true}
 use mathlib.Core.List.{List}
 use mathlib.Core.Logic.{◌↔◌, ◌≢◌}
 use native.Mathlib.Omega.{arith}
+use Rattle.strip.specs.declared.Refusal.{Refusal}
+use Rattle.std.specs.Prelude.{Result, Ok}
 use Rattle.strip.specs.Cell.{Cell}
 use Rattle.strip.specs.Scan.{ok, scan}
-use Rattle.strip.specs.Outcome.{shown}
+use Rattle.strip.specs.Outcome.{shown, paper}
 use Rattle.touching.specs.Touch.{touch}
 use Rattle.touching.specs.Before.{touch_by_number}
 use Rattle.touching.proofs.Theorems.{touched_before}
-use Rattle.seams.specs.Seams.{counted, half_count, seams, paper, seam_outcome}
+use Rattle.seams.specs.Seams.{counted, half_count, seams, seam_outcome}
 use Rattle.seams.specs.Before.{counted_by_number, seams_by_number, left_out, SomeHalf}
-use Rattle.seams.specs.declared.SeamAnswer.{SeamAnswer}
-use Rattle.seams.specs.declared.SeamAnswer.TheVariants.{Count}
 use Rattle.seams.proofs.Halves.{one_split, halves_split, some_half}
 use Rattle.seams.proofs.Theorems.{counts}
 
@@ -42,7 +42,7 @@ Changed c n = (n ≤ seams_by_number c) × ((n ≢ seams_by_number c) ↔ SomeHa
 changed : (c : Cell) {n : ℕ} → seams c ≡ n → Changed c n
 changed c e = subst (Changed c) e (seams_fewer c, seams_changed c)
 
-module _ (s : List ℕ) (r : SeamAnswer) (promise : paper r ≡ shown (seam_outcome s)) (n : ℕ) (counted-now : r ≡ Count n) where
+module _ (s : List ℕ) (r : Result ℕ Refusal) (promise : paper r ≡ shown (seam_outcome s)) (n : ℕ) (counted-now : r ≡ Ok n) where
   pub count_before : (c : Cell) × (scan s ≡ ok c) × (seams_by_number c ≡ n + half_count (left_out c.head.area) c.polys)
   count_before = let (c, e, k) = counts s r promise n counted-now in (c, e, omega (arith, seams_before c))
 

@@ -3,14 +3,14 @@ use Prim.Native.Nat.{ℕ}
 use mathlib.Core.Path.{◌≡◌, refl, sym, ap, ◌∙◌}
 use mathlib.Core.List.{List}
 use native.Mathlib.Omega.{arith}
+use Rattle.strip.specs.declared.Refusal.{Refusal}
+use Rattle.std.specs.Prelude.{Result, Ok}
 use Rattle.strip.specs.Cell.{Cell}
 use Rattle.strip.specs.Scan.{Scanned, ok, fault, scan}
-use Rattle.strip.specs.Outcome.{refused, values, shown}
+use Rattle.strip.specs.Outcome.{refused, values, shown, paper}
 use Rattle.strip.specs.Check.{on_cell}
 use Rattle.strip.proofs.Faults.{Refused, scan_fault}
-use Rattle.seams.specs.Seams.{seams, paper, seamed, seam_outcome}
-use Rattle.seams.specs.declared.SeamAnswer.{SeamAnswer}
-use Rattle.seams.specs.declared.SeamAnswer.TheVariants.{Count}
+use Rattle.seams.specs.Seams.{seams, seamed, seam_outcome}
 
 refused_on : (s : List ℕ) (number place : ℕ) (d : Scanned) → scan s ≡ d → on_cell seamed d ≡ refused number place → scan s ≡ fault number place
 refused_on s number place (ok c) e h = let z : ◌≡◌ {A = ℕ} 0 1 = cc in absurd (omega arith)
@@ -20,10 +20,10 @@ pub refused_named : (s : List ℕ) (number place : ℕ) → seam_outcome s ≡ r
 refused_named s number place h = (scan_fault s number place).0 (refused_on s number place (scan s) refl h)
 
 -- of the call, by its promise: a count is that of the strip's cell
-module _ (s : List ℕ) (r : SeamAnswer) (promise : paper r ≡ shown (seam_outcome s)) where
+module _ (s : List ℕ) (r : Result ℕ Refusal) (promise : paper r ≡ shown (seam_outcome s)) where
   count_on : (n : ℕ) (d : Scanned) → scan s ≡ d → values n ≡ shown (on_cell seamed d) → (c : Cell) × (scan s ≡ ok c) × (seams c ≡ n)
   count_on n (ok c) e h = (c, e, cc)
   count_on n (fault number place) e h = let z : ◌≡◌ {A = ℕ} 0 1 = cc in absurd (omega arith)
 
-  pub counts : (n : ℕ) → r ≡ Count n → (c : Cell) × (scan s ≡ ok c) × (seams c ≡ n)
+  pub counts : (n : ℕ) → r ≡ Ok n → (c : Cell) × (scan s ≡ ok c) × (seams c ≡ n)
   counts n e = count_on n (scan s) refl (ap paper (sym e) ∙ promise)

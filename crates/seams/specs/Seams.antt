@@ -3,11 +3,9 @@ use Rattle.std.specs.Prelude.{ℕ, ◌+◌, List, [], ◌∷◌, Bool}
 use Rattle.strip.specs.Cell.{Cell, NavEdgeEnd, NavEdge, NavPoly}
 use Rattle.strip.specs.Tests.{one_if}
 use Rattle.strip.specs.Scan.{scan}
-use Rattle.strip.specs.Outcome.{Outcome, done, Paper, values, refusal_of}
+use Rattle.strip.specs.Outcome.{Outcome, done}
 use Rattle.strip.specs.Check.{on_cell}
 use Rattle.touching.specs.Touch.{touch}
-use Rattle.seams.specs.declared.SeamAnswer.{SeamAnswer}
-use Rattle.seams.specs.declared.SeamAnswer.TheVariants.{Count, Refused}
 
 -- which halves are counted in the cell of an area
 unfoldable pub counted : ℕ → NavEdgeEnd → Bool
@@ -25,11 +23,7 @@ half_count test (p ∷ ps) = edge_count test p.edges + half_count test ps
 abbrev pub seams : Cell → ℕ
 seams c = half_count (counted c.head.area) c.polys
 
--- what each case of `count_seams`'s answer says, and what the call has to decide
-abbrev pub paper : SeamAnswer → Paper ℕ
-paper (Count n) = values n
-paper (Refused r) = refusal_of r
-
+-- what `count_seams` has to decide
 abbrev pub seamed : Cell → Outcome ℕ
 seamed c = done (seams c) []
 

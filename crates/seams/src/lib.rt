@@ -7,27 +7,22 @@ ghost use Rattle.answers.specs.Words.{number_of, answer_words};
 ghost use Rattle.strip.specs.Reading.{half_at, edges_at};
 ghost use Rattle.strip.specs.Rows.{polygons_at, after_polygons};
 ghost use Rattle.strip.specs.Tests.{one_if};
-ghost use Rattle.strip.specs.Outcome.{shown};
-ghost use Rattle.seams.specs.Seams.{counted, edge_count, half_count, paper, seam_outcome};
+ghost use Rattle.strip.specs.Outcome.{shown, paper};
+ghost use Rattle.seams.specs.Seams.{counted, edge_count, half_count, seam_outcome};
 ghost use Rattle.seams.specs.Entries.{seam_words};
 
 use answers::{accept, refuse};
-use strip::{Refusal, StripAnswer};
+use strip::Refusal;
 use touching::touch;
 
-#[derive(Clone, Copy)]
-pub enum SeamAnswer {
-    Count(u64),
-    Refused(Refusal),
-}
-
 // 1 if the half at `at` is counted, otherwise 0.
+#[tactic(auto, unfolding(crate::specs::Seams::counted))]
 fn half_seams(strip: &[u32], at: usize, own: u32) -> u64
     requires { at + 3 ≤ length strip.now }
     ensures count { result ≡ one_if (counted own (half_at strip.now at)) }
     ensures bound { result ≤ 1 }
 {
-    if touch(own, strip[at]) { 1 } else { 0 }
+    u64::from(touch(own, strip[at]))
 }
 
 // The counted halves of `n` edges from `at` on, by halves, which stand there in one row, two to an edge.
@@ -36,11 +31,9 @@ fn few_seams(strip: &[u32], at: usize, n: usize, own: u32) -> u64
     ensures count { result ≡ edge_count (counted own) (edges_at strip.now at n) }
     ensures bound { result ≤ 2 * n }
 {
-    let mut count: u64 = 0;
-    let mut place = at;
+    let mut count = 0;
     for i in 0..2 * n {
-        count += half_seams(strip, place, own);
-        place += 3;
+        count += half_seams(strip, at + 3 * i, own);
     }
     count
 }
@@ -51,12 +44,11 @@ fn many_seams(strip: &[u32], at: usize, n: usize, own: u32) -> u64
     ensures count { result ≡ edge_count (counted own) (edges_at strip.now at n) }
     ensures bound { result ≤ 2 * n }
 {
-    let mut count: u64 = 0;
-    let mut place = at;
+    let mut count = 0;
     for i in 0..n {
-        count += half_seams(strip, place, own);
-        count += half_seams(strip, place + 3, own);
-        place += 6;
+        let edge = at + 6 * i;
+        count += half_seams(strip, edge, own);
+        count += half_seams(strip, edge + 3, own);
     }
     count
 }
@@ -80,29 +72,22 @@ fn poly_seams(strip: &[u32], n: usize, own: u32) -> u64
     requires { after_polygons strip.now 14 n ≤ length strip.now }
     ensures { result ≡ half_count (counted own) (polygons_at strip.now 14 n) }
 {
-    let mut count: u64 = 0;
-    let mut at: usize = 14;
-    for i in 0..n {
+    let mut count = 0;
+    let mut at = 14;
+    for _ in 0..n {
         let p = strip::poly_at(strip, at);
-        let edge_at = p.edge_at;
-        let edges = p.edges;
-        count += edge_seams(strip, edge_at, edges, own);
+        count += edge_seams(strip, p.edge_at, p.edges, own);
         at = p.next;
     }
     count
 }
 
 // How many halves of all the strip's edges lie towards a neighbour, or refusal 3 with its place.
-pub fn count_seams(strip: &[u32]) -> SeamAnswer
+pub fn count_seams(strip: &[u32]) -> Result<u64, Refusal>
     ensures { paper result ≡ shown (seam_outcome strip.now) }
 {
-    match strip_check::check_strip(strip) {
-        StripAnswer::WellFormed(n) => {
-            let polys = n.polys;
-            SeamAnswer::Count(poly_seams(strip, polys, strip[2]))
-        }
-        StripAnswer::Refused(r) => SeamAnswer::Refused(r),
-    }
+    let counts = strip_check::check_strip(strip)?;
+    Ok(poly_seams(strip, counts.polys, strip[2]))
 }
 
 // `count_seams` for C: the count.
@@ -111,7 +96,7 @@ pub fn seams_entry(strip: &[u32], answer: &mut [u64; 8]) -> u32
     ensures words { answer.new ≡ over (answer_words seam_words (shown (seam_outcome strip.now))) answer.old }
 {
     match count_seams(strip) {
-        SeamAnswer::Count(n) => accept(answer, &[n]),
-        SeamAnswer::Refused(r) => refuse(answer, r),
+        Ok(n) => accept(answer, &[n]),
+        Err(r) => refuse(answer, r),
     }
 }

@@ -5,105 +5,68 @@ ghost use Rattle.std.specs.Prelude.{◌≡◌, ◌+◌, ◌*◌, ◌≤◌, leng
 ghost use Rattle.fields.specs.Bytes.{le_bytes, les};
 ghost use Rattle.fields.specs.Put.{put};
 
-// One store where there is room for all the bytes: the caller tests it once.
-fn store_u8(b: &mut [u8], off: usize, v: u8)
-    requires { off + 1 ≤ length b.old }
-    ensures { b.new ≡ put off (le_bytes 1 v) b.old }
+// One store, where there is room for all the bytes: the caller tests it once.
+fn store(b: &mut [u8], off: usize, bytes: &[u8])
+    requires { off + length bytes.now ≤ length b.old }
+    ensures { b.new ≡ put off bytes.now b.old }
 {
-    b[off] = v;
+    b[off..off + bytes.len()].copy_from_slice(bytes);
 }
 
-fn store_u16(b: &mut [u8], off: usize, v: u16)
-    requires { off + 2 ≤ length b.old }
-    ensures { b.new ≡ put off (le_bytes 2 v) b.old }
-{
-    store_u8(b, off, (v % 0x100) as u8);
-    store_u8(b, off + 1, (v / 0x100) as u8);
-}
-
-fn store_u32(b: &mut [u8], off: usize, v: u32)
-    requires { off + 4 ≤ length b.old }
-    ensures { b.new ≡ put off (le_bytes 4 v) b.old }
-{
-    store_u16(b, off, (v % 0x1_0000) as u16);
-    store_u16(b, off + 2, (v / 0x1_0000) as u16);
-}
-
-fn store_u64(b: &mut [u8], off: usize, v: u64)
-    requires { off + 8 ≤ length b.old }
-    ensures { b.new ≡ put off (le_bytes 8 v) b.old }
-{
-    store_u32(b, off, (v % 0x1_0000_0000) as u32);
-    store_u32(b, off + 4, (v / 0x1_0000_0000) as u32);
-}
-
-// The bytes of a number stored at off, wherever that is; near the end by halves.
-pub fn put_u8(b: &mut [u8], off: usize, v: u8)
-    ensures { b.new ≡ put off (le_bytes 1 v) b.old }
+// The bytes stored at off, wherever that is; near the end one by one.
+fn put_bytes(b: &mut [u8], off: usize, bytes: &[u8])
+    ensures { b.new ≡ put off bytes.now b.old }
 {
     if b.len() <= off {
         return;
     }
-    store_u8(b, off, v);
+    let room = b.len() - off;
+    if bytes.len() <= room {
+        store(b, off, bytes);
+        return;
+    }
+    for (i, byte) in bytes.iter().enumerate() {
+        if i < room {
+            b[off + i] = *byte;
+        }
+    }
+}
+
+pub fn put_u8(b: &mut [u8], off: usize, v: u8)
+    ensures { b.new ≡ put off (le_bytes 1 v) b.old }
+{
+    if off < b.len() {
+        b[off] = v;
+    }
 }
 
 pub fn put_u16(b: &mut [u8], off: usize, v: u16)
     ensures { b.new ≡ put off (le_bytes 2 v) b.old }
 {
-    if b.len() <= off {
-        return;
-    }
-    if 2 <= b.len() - off {
-        store_u16(b, off, v);
-        return;
-    }
-    put_u8(b, off, (v % 0x100) as u8);
-    put_u8(b, off + 1, (v / 0x100) as u8);
+    put_bytes(b, off, &u16::to_le_bytes(v));
 }
 
 pub fn put_u32(b: &mut [u8], off: usize, v: u32)
     ensures { b.new ≡ put off (le_bytes 4 v) b.old }
 {
-    if b.len() <= off {
-        return;
-    }
-    if 4 <= b.len() - off {
-        store_u32(b, off, v);
-        return;
-    }
-    put_u16(b, off, (v % 0x1_0000) as u16);
-    put_u16(b, off + 2, (v / 0x1_0000) as u16);
+    put_bytes(b, off, &u32::to_le_bytes(v));
 }
 
 pub fn put_u64(b: &mut [u8], off: usize, v: u64)
     ensures { b.new ≡ put off (le_bytes 8 v) b.old }
 {
-    if b.len() <= off {
-        return;
-    }
-    if 8 <= b.len() - off {
-        store_u64(b, off, v);
-        return;
-    }
-    put_u32(b, off, (v % 0x1_0000_0000) as u32);
-    put_u32(b, off + 4, (v / 0x1_0000_0000) as u32);
+    put_bytes(b, off, &u64::to_le_bytes(v));
 }
 
 // The n low bytes of v, for any n: past the eighth they are 0, so with v 0 it stores n zeros.
 pub fn put_le(b: &mut [u8], off: usize, n: usize, v: u64)
     ensures { b.new ≡ put off (le_bytes n v) b.old }
 {
-    let mut at = off;
-    let mut left = n;
-    let mut w = v;
-    while at < b.len() {
-        if left == 0 {
-            return;
-        }
-        b[at] = (w % 0x100) as u8;
-        at += 1;
-        left -= 1;
-        w = w / 0x100;
+    let end = b.len().min(off.saturating_add(n));
+    let mut rest = v;
+    for at in off..end {
+        b[at] = (rest % 0x100) as u8;
+        rest /= 0x100;
     }
 }
 
@@ -111,15 +74,11 @@ pub fn put_le(b: &mut [u8], off: usize, n: usize, v: u64)
 fn put_word(b: &mut [u8], off: usize, n: usize, w: u32)
     ensures { b.new ≡ put off (le_bytes n w) b.old }
 {
-    if n == 4 {
-        put_u32(b, off, w);
-        return;
+    match n {
+        4 => put_u32(b, off, w),
+        2 => put_u16(b, off, (w % 0x1_0000) as u16),
+        _ => put_le(b, off, n, u64::from(w)),
     }
-    if n == 2 {
-        put_u16(b, off, (w % 0x1_0000) as u16);
-        return;
-    }
-    put_le(b, off, n, w as u64);
 }
 
 // Words of 4 bytes, one after the other, where there is room for all of them.
@@ -128,11 +87,9 @@ fn store_words(b: &mut [u8], off: usize, ws: &[u32])
     ensures { b.new ≡ put off (les 4 ws.now) b.old }
 {
     let mut at = off;
-    let mut i = 0;
-    while i < ws.len() {
-        store_u32(b, at, ws[i]);
+    for w in ws {
+        store(b, at, &w.to_le_bytes());
         at += 4;
-        i += 1;
     }
 }
 
@@ -146,22 +103,16 @@ pub fn put_all(b: &mut [u8], off: usize, n: usize, ws: &[u32])
     if b.len() <= off {
         return;
     }
-    if n == 4 {
-        if WHOLE <= ws.len() {
-            if ws.len() <= (b.len() - off) / 4 {
-                store_words(b, off, ws);
-                return;
-            }
-        }
+    if n == 4 && WHOLE <= ws.len() && ws.len() <= (b.len() - off) / 4 {
+        store_words(b, off, ws);
+        return;
     }
     let mut at = off;
-    let mut i = 0;
-    while i < ws.len() {
-        put_word(b, at, n, ws[i]);
+    for w in ws {
+        put_word(b, at, n, *w);
         if b.len() - at <= n {
             return;
         }
         at += n;
-        i += 1;
     }
 }

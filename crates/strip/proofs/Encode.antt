@@ -11,6 +11,7 @@ use Rattle.fields.specs.Rows.{pack, field}
 use Rattle.strip.specs.Cell.{Cell, NavPoly, NavPortal, NavPoint, vec_words, half_words, edge_words, each, polygon_head_as, polygon_words_as, polygon_words, portal_words, point_words, head_words, end_words, plain, encode_as, encode}
 use Rattle.strip.specs.Reading.{word, items_at, words_at, vec_at, vecs_at, nav_edge_at, edges_at, poly_at, polygon_of, polygon_at, nav_portal_at, point_at, head_at}
 use Rattle.strip.specs.Scan.{Rest, Scanned, kind_of, polygon_rank, cell_rank, portal_rank, point_rank, on_record, with_polygon, with_portal, with_point, with_head, rest_from, rest_at, scan}
+use Rattle.std.specs.Prelude.{Result}
 use Rattle.strip.specs.declared.Record.{Record}
 use Rattle.strip.proofs.Steps.{items_length}
 use Rattle.strip.proofs.Bits.{counts_word, bytes_word, bare_word}
@@ -140,7 +141,7 @@ module _ (s : List ℕ) (at : ℕ) where
       ap (λ (x : ℕ). x ∷ []) w ∙ ap (λ (x : List ℕ). word s at ∷ x) (sym (drop_of_length-le s g)) ∙ sym (word_cut s at h)
 
   words_on : (rank : ℕ) (go : ℕ → ℕ → Rest) → ((n l : ℕ) → 1 ≤ l → LaidRest s n l (go n l)) → ((n l : ℕ) → 1 ≤ l → Encoded s n (go n l)) → 1 ≤ rank
-      → {r : Record} → Judged s at rank r → Encoded s at (on_record r go s at)
+      → {r : Result Record ℕ} → Judged s at rank r → Encoded s at (on_record r go s at)
   words_on rank go h w o (cell k l r) = absurd (omega arith)
   words_on rank go h w o (polygon k l r t) = words_polygon (polygon_cut s at k r) (go (poly_at s at).next polygon_rank) (w _ _ (omega arith))
   words_on rank go h w o (portal k l r t) =
@@ -164,7 +165,7 @@ unfolding encode_as rest_words
 words_head s (Rest.good ps qs ts) e h = simp append_assoc (ap (λ (x : List ℕ). head_words (head_at s 0) ++ x) h ∙ sym e)
 words_head s (Rest.bad place) e h = tt
 
-words_first : (s : List ℕ) {r : Record} → Judged s 0 0 r → EncodedCell s (with_head (head_at s 0) (on_record r (rest_at s) s 0))
+words_first : (s : List ℕ) {r : Result Record ℕ} → Judged s 0 0 r → EncodedCell s (with_head (head_at s 0) (on_record r (rest_at s) s 0))
 unfolding rest_at
 words_first s (cell k l r) =
     words_head s (rest_at s 14 cell_rank) (words_cut s 14 0 r ∙ ap (λ (x : List ℕ). x ++ drop 14 s) (sym (head_words_lem s k l.bits)))

@@ -12,6 +12,7 @@ use Rattle.strip.specs.Cell.{Cell, NavPoly, NavPortal, NavPoint, plain, encode}
 use Rattle.strip.specs.Fits.{All, HalfFits, EdgeFits, PolygonFits, PortalFits, PointFits, Fits, Words, InRange}
 use Rattle.strip.specs.Reading.{word, items_at, words_at, edges_at, half_at, poly_at, polygon_of, polygon_at, nav_portal_at, point_at, head_at}
 use Rattle.strip.specs.Scan.{Rest, Scanned, polygon_rank, cell_rank, portal_rank, point_rank, all_below, edges_fit, poly_fits, portal_fits, on_record, with_polygon, with_portal, with_point, with_head, rest_from, rest_at, scan}
+use Rattle.std.specs.Prelude.{Result}
 use Rattle.strip.specs.declared.Record.{Record}
 use Rattle.strip.proofs.Judged.{Judged, cell, polygon, portal, point, end, bad, judged, both}
 use Rattle.strip.proofs.Steps.{items_length}
@@ -92,7 +93,7 @@ fits_point : (t : NavPoint) → PointFits t → (r : Rest) → FitsRest r → Fi
 fits_point t f (Rest.good ps qs ts) h = record { polys = h.polys; portals = h.portals; points = (f, h.points) }
 fits_point t f (Rest.bad place) h = tt
 
-fits_on : (s : List ℕ) (at rank : ℕ) (go : ℕ → ℕ → Rest) → ((n l : ℕ) → FitsRest (go n l)) → {r : Record} → Judged s at rank r → FitsRest (on_record r go s at)
+fits_on : (s : List ℕ) (at rank : ℕ) (go : ℕ → ℕ → Rest) → ((n l : ℕ) → FitsRest (go n l)) → {r : Result Record ℕ} → Judged s at rank r → FitsRest (on_record r go s at)
 fits_on s at rank go h (cell k l r) = h (at + 14) cell_rank
 fits_on s at rank go h (polygon k l r t) = fits_polygon (polygon_at s at) (polygon_fits s at t) (go (poly_at s at).next polygon_rank) (h _ _)
 fits_on s at rank go h (portal k l r t) = fits_portal (nav_portal_at s at) (portal_fits_lem s at t) (go (at + 11) portal_rank) (h _ _)

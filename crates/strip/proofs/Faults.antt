@@ -5,11 +5,12 @@ use mathlib.Core.Logic.{◌↔◌}
 use mathlib.Core.List.{List}
 use native.Mathlib.Omega.{arith}
 use lib.ListN.{length}
+use Rattle.std.specs.Prelude.{Result, Ok, Err}
 use Rattle.strip.specs.Cell.{Head, NavPoly, NavPortal, NavPoint}
 use Rattle.strip.specs.Reading.{poly_at, polygon_at, nav_portal_at, point_at, head_at}
 use Rattle.strip.specs.Scan.{Rest, Scanned, polygon_rank, cell_rank, portal_rank, point_rank, record_at, on_record, with_polygon, with_portal, with_point, with_head, rest_at, scan}
 use Rattle.strip.specs.declared.Record.{Record}
-use Rattle.strip.specs.declared.Record.TheVariants.{Cell as IsCell, Polygon as IsPolygon, Portal as IsPortal, Point as IsPoint, End as IsEnd, Bad as IsBad}
+use Rattle.strip.specs.declared.Record.TheVariants.{Cell as IsCell, Polygon as IsPolygon, Portal as IsPortal, Point as IsPoint, End as IsEnd}
 use Rattle.strip.specs.Faults.{Place, Goes, next_of, rank_of, Reached, start, step}
 use Rattle.strip.proofs.Judged.{Judged, cell, polygon, portal, point, end, bad, judged, poly_next, rest_step}
 pub use Rattle.strip.specs.Faults.{Fault, Refused, badly_formed}
@@ -32,7 +33,7 @@ module _ (s : List ℕ) where
   faulty_point t (Rest.bad place) f = f
 
   faulty_on : (at rank : ℕ) → Reached s at rank → ((n l : ℕ) → at < n → n ≤ length s → Reached s n l → Faulty (rest_at s n l))
-      → {r : Record} → record_at s at rank ≡ r → Judged s at rank r → Faulty (on_record r (rest_at s) s at)
+      → {r : Result Record ℕ} → record_at s at rank ≡ r → Judged s at rank r → Faulty (on_record r (rest_at s) s at)
   faulty_on at rank h go e (cell k o r) = go (at + 14) cell_rank (omega arith) r (step h IsCell e tt)
   faulty_on at rank h go e (polygon k o r t) =
       faulty_polygon (polygon_at s at) (rest_at s (poly_at s at).next polygon_rank)
@@ -64,23 +65,22 @@ module _ (s : List ℕ) where
 
 -- and back: where the records are good up to a position, the rest's place is the strip's
 module _ (s : List ℕ) (place : ℕ) where
-  bad_on : (at rank : ℕ) (r : Record) → Goes r → rest_at s (next_of at r) (rank_of r) ≡ Rest.bad place → on_record r (rest_at s) s at ≡ Rest.bad place
+  bad_on : (at rank : ℕ) (r : Record) → Goes r → rest_at s (next_of at r) (rank_of r) ≡ Rest.bad place → on_record (Ok r) (rest_at s) s at ≡ Rest.bad place
   bad_on at rank IsCell g e = e
   bad_on at rank (IsPolygon p) g e = ap (with_polygon (polygon_at s at)) e
   bad_on at rank IsPortal g e = ap (with_portal (nav_portal_at s at)) e
   bad_on at rank IsPoint g e = ap (with_point (point_at s at)) e
   bad_on at rank IsEnd g e = absurd g
-  bad_on at rank (IsBad p) g e = absurd g
 
   bad_back : {at rank : ℕ} → Reached s at rank → rest_at s at rank ≡ Rest.bad place → rest_at s 0 0 ≡ Rest.bad place
   bad_back start e = e
   bad_back (step {at} {rank} h r f g) e =
-      bad_back h (rest_step s at rank ∙ ap (λ (x : Record). on_record x (rest_at s) s at) f ∙ bad_on at rank r g e)
+      bad_back h (rest_step s at rank ∙ ap (λ (x : Result Record ℕ). on_record x (rest_at s) s at) f ∙ bad_on at rank r g e)
 
   fault_back : Fault s place → scan s ≡ Scanned.fault 3 place
   unfolding scan
   fault_back f =
-      let here : rest_at s f.at f.rank ≡ Rest.bad place = rest_step s f.at f.rank ∙ ap (λ (x : Record). on_record x (rest_at s) s f.at) f.found in
+      let here : rest_at s f.at f.rank ≡ Rest.bad place = rest_step s f.at f.rank ∙ ap (λ (x : Result Record ℕ). on_record x (rest_at s) s f.at) f.found in
       ap (with_head (head_at s 0)) (bad_back f.reached here)
 
 refused_back : (s : List ℕ) {number place : ℕ} → Refused s number place → scan s ≡ Scanned.fault number place

@@ -10,6 +10,7 @@ use lib.ListN.{length}
 use lib.Dec.{ltb, leb}
 use borrow.Author.Tests.{ltb-true, leb-true, leb-false}
 use Rattle.fields.specs.Rows.{field}
+use Rattle.std.specs.Prelude.{Result, Ok, Err}
 use Rattle.strip.specs.Cell.{Head, NavPoly, NavPortal, NavPoint}
 use Rattle.strip.specs.Reading.{word, poly_at, polygon_at, nav_portal_at, point_at, head_at}
 use Rattle.strip.specs.Scan.{Rest, check, kind_of, polygon_rank, cell_rank, portal_rank, point_rank, first_good, poly_fits, portal_fits, cell_record, polygon_record, portal_record, point_record, end_record, record_of, record_at, on_record, with_polygon, with_portal, with_point, rest_from, rest_at, with_head, scan}
@@ -20,7 +21,7 @@ use Rattle.strip.specs.Checked.{counts_of, strip_outcome}
 use Rattle.strip.specs.declared.Counts.{Counts}
 use Rattle.strip.specs.declared.Poly.{Poly}
 use Rattle.strip.specs.declared.Record.{Record}
-use Rattle.strip.specs.declared.Record.TheVariants.{Cell as IsCell, Polygon as IsPolygon, Portal as IsPortal, Point as IsPoint, End as IsEnd, Bad as IsBad}
+use Rattle.strip.specs.declared.Record.TheVariants.{Cell as IsCell, Polygon as IsPolygon, Portal as IsPortal, Point as IsPoint, End as IsEnd}
 
 -- both tests of a pair
 pub both : (a b : Bool) → (a && b) ≡ true → (a ≡ true) × (b ≡ true)
@@ -41,26 +42,26 @@ first low high limit rank w e =
     record { from = leb-true low rank a.0; to = leb-true rank high b.0; bits = ltb-true (field 0 28 w) limit b.1 }
 
 -- all that is known of a record
-pub data Judged (s : List ℕ) (at rank : ℕ) : Record → Type 0 where
-  cell : kind_of (word s at) ≡ 1 → First 0 0 1 rank (word s at) → at + 14 ≤ length s → Judged s at rank IsCell
+pub data Judged (s : List ℕ) (at rank : ℕ) : Result Record ℕ → Type 0 where
+  cell : kind_of (word s at) ≡ 1 → First 0 0 1 rank (word s at) → at + 14 ≤ length s → Judged s at rank (Ok IsCell)
   polygon : kind_of (word s at) ≡ 2 → First polygon_rank cell_rank (2 ^ 28) rank (word s at) → (poly_at s at).next ≤ length s → poly_fits s (poly_at s at) ≡ true
-      → Judged s at rank (IsPolygon (poly_at s at))
-  portal : kind_of (word s at) ≡ 3 → First polygon_rank portal_rank (2 ^ 16) rank (word s at) → at + 11 ≤ length s → portal_fits s at ≡ true → Judged s at rank IsPortal
-  point : kind_of (word s at) ≡ 4 → First polygon_rank point_rank (2 ^ 16) rank (word s at) → at + 4 ≤ length s → Judged s at rank IsPoint
-  end : kind_of (word s at) ≡ 5 → First polygon_rank point_rank 1 rank (word s at) → at < length s → length s ≤ at + 1 → Judged s at rank IsEnd
-  bad : {place : ℕ} → Place s at place → Judged s at rank (IsBad place)
+      → Judged s at rank (Ok (IsPolygon (poly_at s at)))
+  portal : kind_of (word s at) ≡ 3 → First polygon_rank portal_rank (2 ^ 16) rank (word s at) → at + 11 ≤ length s → portal_fits s at ≡ true → Judged s at rank (Ok IsPortal)
+  point : kind_of (word s at) ≡ 4 → First polygon_rank point_rank (2 ^ 16) rank (word s at) → at + 4 ≤ length s → Judged s at rank (Ok IsPoint)
+  end : kind_of (word s at) ≡ 5 → First polygon_rank point_rank 1 rank (word s at) → at < length s → length s ≤ at + 1 → Judged s at rank (Ok IsEnd)
+  bad : {place : ℕ} → Place s at place → Judged s at rank (Err place)
 
 module _ (s : List ℕ) (at rank : ℕ) where
   -- a record that passes three tests
-  judged_by : at < length s → (a b c : Bool) {r : Record} → (a ≡ true → b ≡ true → c ≡ true → Judged s at rank r)
-      → Judged s at rank (check a at (check b (length s) (check c at r)))
+  judged_by : at < length s → (a b c : Bool) {r : Record} → (a ≡ true → b ≡ true → c ≡ true → Judged s at rank (Ok r))
+      → Judged s at rank (check a at (check b (length s) (check c at (Ok r))))
   judged_by h true true true k = k refl refl refl
   judged_by h true true false k = bad (here h)
   judged_by h true false c k = bad short
   judged_by h false b c k = bad (here h)
 
   judged_end : at < length s → kind_of (word s at) ≡ 5 → (a b : Bool) → first_good polygon_rank point_rank 1 rank (word s at) ≡ a → leb (length s) (at + 1) ≡ b
-      → Judged s at rank (check a at (check b (at + 1) IsEnd))
+      → Judged s at rank (check a at (check b (at + 1) (Ok IsEnd)))
   judged_end h e true true f r = end e (first _ _ _ _ _ f) h (leb-true _ _ r)
   judged_end h e true false f r = bad (more e (leb-false _ _ r))
   judged_end h e false b f r = bad (here h)
@@ -90,7 +91,7 @@ poly_next s at = omega arith
 
 -- the rest after a record depends on the positions after it alone
 same : (s : List ℕ) (at rank : ℕ) (f g : ℕ → ℕ → Rest) → ((n l : ℕ) → at < n → at < length s → f n l ≡ g n l)
-    → {r : Record} → Judged s at rank r → on_record r f s at ≡ on_record r g s at
+    → {r : Result Record ℕ} → Judged s at rank r → on_record r f s at ≡ on_record r g s at
 same s at rank f g h (cell k o r) = h (at + 14) cell_rank (omega arith) (omega arith)
 same s at rank f g h (polygon k o r t) = ap (with_polygon (polygon_at s at)) (h (poly_at s at).next polygon_rank (omega (arith, poly_next s at)) (omega (arith, poly_next s at)))
 same s at rank f g h (portal k o r t) = ap (with_portal (nav_portal_at s at)) (h (at + 11) portal_rank (omega arith) (omega arith))
@@ -113,24 +114,15 @@ rest_step s at rank =
     (λ n l a b. enough (length s - at) (suc (length s - n)) s n l (omega arith) (omega arith))
     (judged s at rank)
 
--- a good record
-abbrev pub Good : Record → Type 0
-Good IsCell = Unit
-Good (IsPolygon p) = Unit
-Good IsPortal = Unit
-Good IsPoint = Unit
-Good IsEnd = Unit
-Good (IsBad place) = ⊥
+-- a good record has a word or more, and is all there
+ends : (s : List ℕ) (at rank : ℕ) {r : Record} → Judged s at rank (Ok r) → (at < next_of at r) × (next_of at r ≤ length s)
+ends s at rank (cell k o r) = omega arith
+ends s at rank (polygon k o r t) = omega (arith, poly_next s at)
+ends s at rank (portal k o r t) = omega arith
+ends s at rank (point k o r) = omega arith
+ends s at rank (end k o r t) = omega arith
 
-ends : (s : List ℕ) (at rank : ℕ) {r : Record} → Judged s at rank r → Good r → (at < next_of at r) × (next_of at r ≤ length s)
-ends s at rank (cell k o r) g = omega arith
-ends s at rank (polygon k o r t) g = omega (arith, poly_next s at)
-ends s at rank (portal k o r t) g = omega arith
-ends s at rank (point k o r) g = omega arith
-ends s at rank (end k o r t) g = omega arith
-ends s at rank (bad place) g = absurd g
-
-pub moves : (s : List ℕ) (at rank : ℕ) (r : Record) → record_at s at rank ≡ r → Good r → (at < next_of at r) × (next_of at r ≤ length s)
+pub moves : (s : List ℕ) (at rank : ℕ) (r : Record) → record_at s at rank ≡ Ok r → (at < next_of at r) × (next_of at r ≤ length s)
 moves s at rank r e = ends s at rank (rw e at (judged s at rank))
 
 -- what `check_strip` says of the counts so far and of the rest
@@ -167,31 +159,31 @@ passed_none s = record { inside = omega arith; few = omega arith; answer = tally
 
 -- a turn of it
 module _ (s : List ℕ) (a b c at rank : ℕ) (h : Passed s a b c at rank) where
-  turn_on : (r : Record) → record_at s at rank ≡ r → shown (strip_outcome s) ≡ tally a b c (on_record r (rest_at s) s at)
-  turn_on r e = h.answer ∙ ap (tally a b c) (rest_step s at rank ∙ ap (λ (x : Record). on_record x (rest_at s) s at) e)
+  turn_on : (r : Result Record ℕ) → record_at s at rank ≡ r → shown (strip_outcome s) ≡ tally a b c (on_record r (rest_at s) s at)
+  turn_on r e = h.answer ∙ ap (tally a b c) (rest_step s at rank ∙ ap (λ (x : Result Record ℕ). on_record x (rest_at s) s at) e)
 
-  pub passed_cell : record_at s at rank ≡ IsCell → Passed s a b c (at + 14) cell_rank
+  pub passed_cell : record_at s at rank ≡ Ok IsCell → Passed s a b c (at + 14) cell_rank
   passed_cell e =
-      let m = moves s at rank IsCell e tt in
-      record { inside = m.1; few = omega arith; answer = turn_on IsCell e }
+      let m = moves s at rank IsCell e in
+      record { inside = m.1; few = omega arith; answer = turn_on (Ok IsCell) e }
 
-  pub passed_polygon : (p : Poly) → record_at s at rank ≡ IsPolygon p → Passed s (a + 1) b c p.next polygon_rank
+  pub passed_polygon : (p : Poly) → record_at s at rank ≡ Ok (IsPolygon p) → Passed s (a + 1) b c p.next polygon_rank
   passed_polygon p e =
-      let m = moves s at rank (IsPolygon p) e tt in
-      record { inside = m.1; few = omega arith; answer = turn_on (IsPolygon p) e ∙ tally_polygon a b c (polygon_at s at) (rest_at s p.next polygon_rank) }
+      let m = moves s at rank (IsPolygon p) e in
+      record { inside = m.1; few = omega arith; answer = turn_on (Ok (IsPolygon p)) e ∙ tally_polygon a b c (polygon_at s at) (rest_at s p.next polygon_rank) }
 
-  pub passed_portal : record_at s at rank ≡ IsPortal → Passed s a (b + 1) c (at + 11) portal_rank
+  pub passed_portal : record_at s at rank ≡ Ok IsPortal → Passed s a (b + 1) c (at + 11) portal_rank
   passed_portal e =
-      let m = moves s at rank IsPortal e tt in
-      record { inside = m.1; few = omega arith; answer = turn_on IsPortal e ∙ tally_portal a b c (nav_portal_at s at) (rest_at s (at + 11) portal_rank) }
+      let m = moves s at rank IsPortal e in
+      record { inside = m.1; few = omega arith; answer = turn_on (Ok IsPortal) e ∙ tally_portal a b c (nav_portal_at s at) (rest_at s (at + 11) portal_rank) }
 
-  pub passed_point : record_at s at rank ≡ IsPoint → Passed s a b (c + 1) (at + 4) point_rank
+  pub passed_point : record_at s at rank ≡ Ok IsPoint → Passed s a b (c + 1) (at + 4) point_rank
   passed_point e =
-      let m = moves s at rank IsPoint e tt in
-      record { inside = m.1; few = omega arith; answer = turn_on IsPoint e ∙ tally_point a b c (point_at s at) (rest_at s (at + 4) point_rank) }
+      let m = moves s at rank IsPoint e in
+      record { inside = m.1; few = omega arith; answer = turn_on (Ok IsPoint) e ∙ tally_point a b c (point_at s at) (rest_at s (at + 4) point_rank) }
 
-  pub passed_end : record_at s at rank ≡ IsEnd → shown (strip_outcome s) ≡ values (record { polys = a; portals = b; points = c })
-  passed_end e = turn_on IsEnd e ∙ simp add-zero
+  pub passed_end : record_at s at rank ≡ Ok IsEnd → shown (strip_outcome s) ≡ values (record { polys = a; portals = b; points = c })
+  passed_end e = turn_on (Ok IsEnd) e ∙ simp add-zero
 
-  pub passed_bad : (place : ℕ) → record_at s at rank ≡ IsBad place → shown (strip_outcome s) ≡ refusal 3 place
-  passed_bad place e = turn_on (IsBad place) e
+  pub passed_bad : (place : ℕ) → record_at s at rank ≡ Err place → shown (strip_outcome s) ≡ refusal 3 place
+  passed_bad place e = turn_on (Err place) e

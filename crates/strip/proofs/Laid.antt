@@ -11,13 +11,14 @@ use Rattle.strip.specs.Rows.{after, polygons_at, after_polygons, portals_at, poi
 use Rattle.strip.specs.Scan.{Rest, Scanned, polygon_rank, cell_rank, portal_rank, point_rank, on_record, with_polygon, with_portal, with_point, with_head, rest_from, rest_at, scan}
 use Rattle.strip.specs.Laid.{cell_counts, first_portal, first_point, cell_at}
 pub use Rattle.strip.specs.Laid.{Well}
-use Rattle.strip.specs.Outcome.{values, shown, refusal_of}
+use Rattle.strip.specs.Outcome.{values, shown, refusal_of, paper}
 use Rattle.strip.specs.Check.{on_cell}
-use Rattle.strip.specs.Checked.{paper, counts_of, strip_outcome}
+use Rattle.strip.specs.Checked.{counts_of, strip_outcome}
 use Rattle.strip.specs.declared.Counts.{Counts}
 use Rattle.strip.specs.declared.Refusal.{Refusal}
-use Rattle.strip.specs.declared.StripAnswer.{StripAnswer}
-use Rattle.strip.specs.declared.StripAnswer.TheVariants.{WellFormed, Refused}
+use Rattle.std.specs.Prelude.{Result, Ok, Err}
+use Rattle.strip.specs.Reasons.{reason_number}
+use Rattle.std.specs.Prelude.{Result}
 use Rattle.strip.specs.declared.Record.{Record}
 use Rattle.strip.proofs.Steps.{items_length}
 use Rattle.strip.proofs.Judged.{Judged, cell, polygon, portal, point, end, bad, judged, rest_step}
@@ -83,7 +84,7 @@ module _ (s : List ℕ) (at rank : ℕ) where
       record { polys = refl; portals = refl; points = refl; length_is = omega arith; no_polys = λ k. refl; no_portals = λ k. refl }
 
   laid_on : (go : ℕ → ℕ → Rest) → ((n l : ℕ) → 1 ≤ l → LaidRest s n l (go n l)) → 1 ≤ rank
-      → {r : Record} → Judged s at rank r → LaidRest s at rank (on_record r go s at)
+      → {r : Result Record ℕ} → Judged s at rank r → LaidRest s at rank (on_record r go s at)
   laid_on go h o (cell k l r) = absurd (omega arith)
   laid_on go h o (polygon k l r t) = laid_polygon l.to (go (poly_at s at).next polygon_rank) (h _ _ (omega arith))
   laid_on go h o (portal k l r t) = laid_portal l.to (go (at + 11) portal_rank) (h _ _ (omega arith))
@@ -110,7 +111,7 @@ laid_head : (s : List ℕ) (r : Rest) → 14 ≤ length s → LaidRest s 14 cell
 laid_head s (Rest.good ps qs ts) k h = record { head = refl; long = k; body = h }
 laid_head s (Rest.bad place) k h = tt
 
-laid_first : (s : List ℕ) {r : Record} → Judged s 0 0 r → LaidCell s (with_head (head_at s 0) (on_record r (rest_at s) s 0))
+laid_first : (s : List ℕ) {r : Result Record ℕ} → Judged s 0 0 r → LaidCell s (with_head (head_at s 0) (on_record r (rest_at s) s 0))
 unfolding rest_at
 laid_first s (cell k l r) = laid_head s (rest_at s 14 cell_rank) (omega arith) (laid_from (suc (length s - 14)) s 14 cell_rank (omega arith))
 laid_first s (polygon k l r t) = absurd (omega arith)
@@ -134,7 +135,7 @@ well_on s n (Scanned.ok c) e l k =
 well_on s n (Scanned.fault number place) e l k = let z : ◌≡◌ {A = ℕ} 0 1 = cc in absurd (omega arith)
 
 -- the answer's promise, and which case it is
-pub well : (s : List ℕ) (n : Counts) (r : StripAnswer) → paper r ≡ shown (strip_outcome s) → r ≡ WellFormed n → Well s n
+pub well : (s : List ℕ) (n : Counts) (r : Result Counts Refusal) → paper r ≡ shown (strip_outcome s) → r ≡ Ok n → Well s n
 well s n r k e = well_on s n (scan s) refl (laid_out s) (rw e at k)
 
 -- a strip by the counts of the cell that it scans to
@@ -150,9 +151,9 @@ pub counts_back : (s : List ℕ) (n : Counts) → cell_counts (cell_at s n) ≡ 
 counts_back s n =
     rw (items_length (polygon_at s) (λ x. (poly_at s x).next) n.polys 14, items_length (nav_portal_at s) (λ x. x + 11) n.portals (first_portal s n), items_length (point_at s) (λ x. x + 4) n.points (first_point s n))
 
-refused_on : (f : Refusal) (d : Scanned) → refusal_of f ≡ shown (on_cell counts_of d) → d ≡ Scanned.fault f.number f.place
+refused_on : (f : Refusal) (d : Scanned) → refusal_of f ≡ shown (on_cell counts_of d) → d ≡ Scanned.fault (reason_number f.reason) f.place
 refused_on f (Scanned.ok c) k = let z : ◌≡◌ {A = ℕ} 0 1 = cc in absurd (omega arith)
 refused_on f (Scanned.fault number place) k = cc
 
-pub not_well : (s : List ℕ) (f : Refusal) (r : StripAnswer) → paper r ≡ shown (strip_outcome s) → r ≡ Refused f → scan s ≡ Scanned.fault f.number f.place
+pub not_well : (s : List ℕ) (f : Refusal) (r : Result Counts Refusal) → paper r ≡ shown (strip_outcome s) → r ≡ Err f → scan s ≡ Scanned.fault (reason_number f.reason) f.place
 not_well s f r k e = refused_on f (scan s) (rw e at k)

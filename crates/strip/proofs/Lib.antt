@@ -4,6 +4,7 @@ pub mod Steps
 pub mod Lengths
 pub mod Papers
 pub mod Judged
+pub mod Reasons
 pub mod Laid
 pub mod Bits
 pub mod Plain

@@ -15,6 +15,7 @@ use Rattle.strip.specs.Fits.{All, EdgeFits, PolygonFits, PortalFits, PointFits, 
 use Rattle.strip.specs.Reading.{word, items_at, words_at, vec_at, vecs_at, nav_edge_at, edges_at, layout, poly_at, polygon_of, nav_portal_at, point_at, head_at}
 use Rattle.strip.specs.Scan.{Rest, Scanned, all_below, edges_fit, poly_fits, portal_fits, kind_of, polygon_rank, cell_rank, portal_rank, point_rank, first_good, on_record, with_polygon, with_portal, with_point, cell_record, polygon_record, portal_record, point_record, end_record, record_of, record_at, rest_at, scan}
 use Rattle.strip.specs.declared.Poly.{Poly}
+use Rattle.std.specs.Prelude.{Result, Ok}
 use Rattle.strip.specs.declared.Record.{Record}
 use Rattle.strip.specs.declared.Record.TheVariants.{Cell as IsCell, Polygon as IsPolygon}
 use Rattle.strip.proofs.Bits.{kind_back, held_field, unnamed_back}
@@ -168,7 +169,7 @@ module _ (s : List ℕ) (at : ℕ) (p : NavPoly) (post : List ℕ) (f : PolygonF
   unfolding layout
   inside h = let n = in_strip s cursor.next post h edges_back.1 in omega arith
 
-  polygon_record_back : 1 ≤ length post → (rank : ℕ) → polygon_rank ≤ rank → rank ≤ cell_rank → record_at s at rank ≡ IsPolygon cursor
+  polygon_record_back : 1 ≤ length post → (rank : ℕ) → polygon_rank ≤ rank → rank ≤ cell_rank → record_at s at rank ≡ Ok (IsPolygon cursor)
   unfolding record_at record_of polygon_record
   polygon_record_back h rank o q =
       rw (
@@ -310,7 +311,7 @@ module _ (s : List ℕ) where
     unfolding head_at head_words vec_words
     head_back = ap (λ (x : List ℕ). head_at x 0) e
 
-    cell_record_back : record_at s 0 0 ≡ IsCell
+    cell_record_back : record_at s 0 0 ≡ Ok IsCell
     unfolding record_at record_of cell_record head_words vec_words
     cell_record_back =
         let n : 15 ≤ length s = omega (arith, ap length e, some c.polys c.portals c.points) in
@@ -323,7 +324,7 @@ module _ (s : List ℕ) where
     unfolding head_words vec_words
     rest_back =
         rest_step s 0 0
-        ∙ ap (λ (r : Record). on_record r (rest_at s) s 0) cell_record_back
+        ∙ ap (λ (r : Result Record ℕ). on_record r (rest_at s) s 0) cell_record_back
         ∙ polygons_back c.polys c.portals c.points 14 cell_rank (omega arith) (omega arith) f.polys f.portals f.points (ap (drop 14) e)
 
     cell_back : scan s ≡ Scanned.ok c

@@ -11,7 +11,7 @@ use Rattle.strip.specs.Reading.{word, items_at, poly_at, polygon_of, polygon_at}
 use Rattle.strip.specs.Rows.{after, polygons_at, after_polygons}
 use Rattle.strip.specs.declared.Poly.{Poly}
 use Rattle.strip.specs.Scan.{all_below, edges_fit, record_of}
-use Rattle.strip.specs.declared.Record.TheVariants.{Bad}
+use Rattle.std.specs.Prelude.{Err}
 
 pub turn : (i n : ℕ) → i < n → n - i ≡ suc (n - (i + 1))
 turn i n h = omega arith
@@ -51,7 +51,7 @@ module _ (s : List ℕ) (at i n : ℕ) where
 
 -- a kind that no record has
 pub unknown : (k : ℕ) (s : List ℕ) (at rank : ℕ) → (k ≡ 0 → ⊥) → (k ≡ 1 → ⊥) → (k ≡ 2 → ⊥) → (k ≡ 3 → ⊥) → (k ≡ 4 → ⊥) → (k ≡ 5 → ⊥)
-    → record_of k s at rank ≡ Bad at
+    → record_of k s at rank ≡ Err at
 unfolding record_of
 unknown zero s at rank a b c d e f = absurd (a refl)
 unknown (suc zero) s at rank a b c d e f = absurd (b refl)

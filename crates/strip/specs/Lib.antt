@@ -6,6 +6,7 @@ pub mod Reading
 pub mod Rows
 pub mod Scan
 pub mod Laid
+pub mod Reasons
 pub mod Outcome
 pub mod Check
 pub mod Checked

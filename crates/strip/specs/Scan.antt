@@ -1,11 +1,11 @@
 -- Which strips are well formed, what cell such a strip stands for, and where another one is bad (refusal 3's place). Definitions only.
-use Rattle.std.specs.Prelude.{ℕ, zero, suc, ◌+◌, ◌-◌, ◌/◌, ◌^◌, List, [], ◌∷◌, Bool, true, cond, ◌&&◌, length, ltb, leb}
+use Rattle.std.specs.Prelude.{ℕ, zero, suc, ◌+◌, ◌-◌, ◌/◌, ◌^◌, List, [], ◌∷◌, Bool, true, cond, ◌&&◌, length, ltb, leb, Result, Ok, Err}
 use Rattle.fields.specs.Rows.{field}
 use Rattle.strip.specs.Cell.{Cell, Head, NavPoly, NavPortal, NavPoint}
 use Rattle.strip.specs.Reading.{word, poly_at, polygon_at, nav_portal_at, point_at, head_at}
 use Rattle.strip.specs.declared.Poly.{Poly}
 use Rattle.strip.specs.declared.Record.{Record}
-use Rattle.strip.specs.declared.Record.TheVariants.{Cell as IsCell, Polygon as IsPolygon, Portal as IsPortal, Point as IsPoint, End as IsEnd, Bad as IsBad}
+use Rattle.strip.specs.declared.Record.TheVariants.{Cell as IsCell, Polygon as IsPolygon, Portal as IsPortal, Point as IsPoint, End as IsEnd}
 
 -- the top 4 of a word's 32 bits
 abbrev pub kind_of : ℕ → ℕ
@@ -50,42 +50,42 @@ poly_fits s p =
 unfoldable pub portal_fits : List ℕ → ℕ → Bool
 portal_fits s at = ltb (word s (at + 1)) (2 ^ 16) && ltb (word s (at + 10)) (2 ^ 8)
 
--- a record whose test passes is r, and otherwise the strip is bad at a place
-abbrev pub check : Bool → ℕ → Record → Record
-check test place r = cond test r (IsBad place)
+-- what is read at a position is a good record, or the place where the strip is bad: r where a test passes, and otherwise a place
+abbrev pub check : Bool → ℕ → Result Record ℕ → Result Record ℕ
+check test place r = cond test r (Err place)
 
 -- A record's first word is judged, then whether all its words are there, then the rest.
-abbrev pub judge : List ℕ → ℕ → Bool → ℕ → Bool → Record → Record
-judge s at first next rest r = check first at (check (leb next (length s)) (length s) (check rest at r))
+abbrev pub judge : List ℕ → ℕ → Bool → ℕ → Bool → Record → Result Record ℕ
+judge s at first next rest r = check first at (check (leb next (length s)) (length s) (check rest at (Ok r)))
 
-unfoldable pub cell_record : List ℕ → ℕ → ℕ → Record
+unfoldable pub cell_record : List ℕ → ℕ → ℕ → Result Record ℕ
 cell_record s at rank = judge s at (first_good 0 0 (2 ^ 0) rank (word s at)) (at + 14) true IsCell
 
-unfoldable pub polygon_record : List ℕ → ℕ → ℕ → Record
+unfoldable pub polygon_record : List ℕ → ℕ → ℕ → Result Record ℕ
 polygon_record s at rank =
     judge s at (first_good polygon_rank cell_rank (2 ^ 28) rank (word s at)) (poly_at s at).next (poly_fits s (poly_at s at)) (IsPolygon (poly_at s at))
 
-unfoldable pub portal_record : List ℕ → ℕ → ℕ → Record
+unfoldable pub portal_record : List ℕ → ℕ → ℕ → Result Record ℕ
 portal_record s at rank = judge s at (first_good polygon_rank portal_rank (2 ^ 16) rank (word s at)) (at + 11) (portal_fits s at) IsPortal
 
-unfoldable pub point_record : List ℕ → ℕ → ℕ → Record
+unfoldable pub point_record : List ℕ → ℕ → ℕ → Result Record ℕ
 point_record s at rank = judge s at (first_good polygon_rank point_rank (2 ^ 16) rank (word s at)) (at + 4) true IsPoint
 
 -- the end is the last word
-unfoldable pub end_record : List ℕ → ℕ → ℕ → Record
-end_record s at rank = check (first_good polygon_rank point_rank (2 ^ 0) rank (word s at)) at (check (leb (length s) (at + 1)) (at + 1) IsEnd)
+unfoldable pub end_record : List ℕ → ℕ → ℕ → Result Record ℕ
+end_record s at rank = check (first_good polygon_rank point_rank (2 ^ 0) rank (word s at)) at (check (leb (length s) (at + 1)) (at + 1) (Ok IsEnd))
 
-unfoldable pub record_of : ℕ → List ℕ → ℕ → ℕ → Record
-record_of zero s at rank = IsBad at
+unfoldable pub record_of : ℕ → List ℕ → ℕ → ℕ → Result Record ℕ
+record_of zero s at rank = Err at
 record_of (suc zero) s at rank = cell_record s at rank
 record_of (suc (suc zero)) s at rank = polygon_record s at rank
 record_of (suc (suc (suc zero))) s at rank = portal_record s at rank
 record_of (suc (suc (suc (suc zero)))) s at rank = point_record s at rank
 record_of (suc (suc (suc (suc (suc zero))))) s at rank = end_record s at rank
-record_of (suc (suc (suc (suc (suc (suc k)))))) s at rank = IsBad at
+record_of (suc (suc (suc (suc (suc (suc k)))))) s at rank = Err at
 
 -- the record at a position, after one of a rank; a strip with no word there lacks its end
-unfoldable pub record_at : List ℕ → ℕ → ℕ → Record
+unfoldable pub record_at : List ℕ → ℕ → ℕ → Result Record ℕ
 record_at s at rank = check (ltb at (length s)) (length s) (record_of (kind_of (word s at)) s at rank)
 
 -- the records after the cell's: their lists, or the place where the strip is bad
@@ -116,13 +116,13 @@ with_head h (bad place) = fault 3 place
 
 -- The records from a position on, after one of a rank. A record has a word or more, so that one turn more than there are words left is
 -- enough (`rest_step`, in proofs/Judged.antt, is the law without the turns).
-abbrev pub on_record : Record → (ℕ → ℕ → Rest) → List ℕ → ℕ → Rest
-on_record IsCell go s at = go (at + 14) cell_rank
-on_record (IsPolygon p) go s at = with_polygon (polygon_at s at) (go p.next polygon_rank)
-on_record IsPortal go s at = with_portal (nav_portal_at s at) (go (at + 11) portal_rank)
-on_record IsPoint go s at = with_point (point_at s at) (go (at + 4) point_rank)
-on_record IsEnd go s at = good [] [] []
-on_record (IsBad place) go s at = bad place
+abbrev pub on_record : Result Record ℕ → (ℕ → ℕ → Rest) → List ℕ → ℕ → Rest
+on_record (Ok IsCell) go s at = go (at + 14) cell_rank
+on_record (Ok (IsPolygon p)) go s at = with_polygon (polygon_at s at) (go p.next polygon_rank)
+on_record (Ok IsPortal) go s at = with_portal (nav_portal_at s at) (go (at + 11) portal_rank)
+on_record (Ok IsPoint) go s at = with_point (point_at s at) (go (at + 4) point_rank)
+on_record (Ok IsEnd) go s at = good [] [] []
+on_record (Err place) go s at = bad place
 
 unfoldable pub rest_from : ℕ → List ℕ → ℕ → ℕ → Rest
 rest_from zero s at rank = bad at

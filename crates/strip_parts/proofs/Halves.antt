@@ -1,14 +1,12 @@
 -- The halves that a cursor goes through are those of the cell's polygon. Assumes nothing.
 use Prim.Native.Nat.{ℕ, zero, suc, ◌+◌, ◌*◌, ◌/◌}
-use mathlib.Core.Path.{◌≡◌, refl, ap, sym, ◌∙◌}
-use mathlib.Core.List.{List, [], ◌∷◌}
+use mathlib.Core.Path.{◌≡◌, refl}
+use mathlib.Core.List.{List}
 use native.Mathlib.Omega.{arith}
-use lib.ListN.{length}
 use lib.Dec.{ltb}
 use Rattle.strip.specs.Reading.{vec_at, half_at, edges_at, items_at, polygon_of}
 use Rattle.strip_parts.specs.Halves.{half_of, halves_from, halves, half_in, halves_in}
 use Rattle.strip.specs.declared.Poly.{Poly}
-use Rattle.strip_parts.specs.declared.Half.{Half}
 use Rattle.strip.proofs.Steps.{items_length}
 
 module _ (s : List ℕ) (p : Poly) where
@@ -40,7 +38,3 @@ module _ (s : List ℕ) (p : Poly) where
   halves_in_lem =
       let here : p.edge_at + 6 * 0 ≡ p.edge_at = omega arith in
       rw (items_length (vec_at s) (λ x. x + 3) p.vertices p.vertex_at) (rw here at (from_edge p.edges 0))
-
--- a half that is read where its number says
-pub half_read : (s : List ℕ) (p : Poly) (i : ℕ) {at : ℕ} → at ≡ p.edge_at + 3 * i → half_of (ltb (i / 2) p.vertices) (half_at s at) ≡ half_in s p i
-half_read s p i e = rw e

@@ -5,12 +5,11 @@ ghost use Rattle.std.specs.Prelude.{◌≡◌, ◌+◌, ◌*◌, ◌≤◌, leng
 ghost use Rattle.strip.specs.Reading.{vec_at, head_at};
 ghost use Rattle.strip.specs.Box.{finite_bits, finite_vec, finite_box};
 ghost use Rattle.strip.specs.Laid.{first_portal, first_point, Whole};
-ghost use Rattle.strip.specs.Outcome.{shown};
-ghost use Rattle.strip.specs.Checked.{paper};
+ghost use Rattle.strip.specs.Outcome.{shown, paper};
 ghost use Rattle.strip_parts.specs.BoxedCell.{cell_outcome};
 ghost use Rattle.strip_parts.specs.Halves.{half_in};
 
-use strip::{Counts, Poly, Refusal, StripAnswer};
+use strip::{Counts, Poly, Reason, Refusal};
 
 // Half of an edge: the area and the polygon that it lies towards, and whether its edge is below the vertex count. The others are surplus.
 #[derive(Clone, Copy)]
@@ -31,13 +30,7 @@ fn is_finite(w: u32) -> bool
 pub fn finite_vec(x: u32, y: u32, z: u32) -> bool
     ensures { result ≡ finite_vec (record { x = x; y = y; z = z }) }
 {
-    if !is_finite(x) {
-        return false;
-    }
-    if !is_finite(y) {
-        return false;
-    }
-    is_finite(z)
+    is_finite(x) && is_finite(y) && is_finite(z)
 }
 
 // Whether the three words from `at` on are.
@@ -49,35 +42,23 @@ fn finite_at(strip: &[u32], at: usize) -> bool
 }
 
 // Whether min, max and size of the cell's box are finite. A caller has the cell's record from `check_strip`.
+#[tactic(auto, unfolding(strip::specs::Box::finite_box, strip::specs::Reading::head_at))]
 pub fn finite_box(strip: &[u32]) -> bool
     requires { 14 ≤ length strip.now }
     ensures { result ≡ finite_box (head_at strip.now 0) }
 {
-    if !finite_at(strip, 5) {
-        return false;
-    }
-    if !finite_at(strip, 8) {
-        return false;
-    }
-    finite_at(strip, 11)
+    finite_at(strip, 5) && finite_at(strip, 8) && finite_at(strip, 11)
 }
 
 // Refusals 3, then 10, or the counts.
-pub fn check_cell(strip: &[u32]) -> StripAnswer
+pub fn check_cell(strip: &[u32]) -> Result<Counts, Refusal>
     ensures { paper result ≡ shown (cell_outcome strip.now) }
 {
-    match strip_check::check_strip(strip) {
-        StripAnswer::WellFormed(n) => {
-            if finite_box(strip) {
-                return StripAnswer::WellFormed(n);
-            }
-            StripAnswer::Refused(Refusal {
-                number: 10,
-                place: 0,
-            })
-        }
-        StripAnswer::Refused(r) => StripAnswer::Refused(r),
+    let counts = strip_check::check_strip(strip)?;
+    if !finite_box(strip) {
+        return Err(Refusal::from(Reason::BoxNotFinite));
     }
+    Ok(counts)
 }
 
 // Where the points begin, counted back from the strip's end. `n` are its counts.

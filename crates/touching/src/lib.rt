@@ -33,8 +33,5 @@ fn beside_in_column(own: u32, area: u32) -> bool
 pub fn touch(own: u32, area: u32) -> bool
     ensures { result ≡ Touch.touch own area }
 {
-    if 10000 <= own {
-        return false;
-    }
-    beside_in_row(own, area) | beside_in_column(own, area)
+    own < 10000 && (beside_in_row(own, area) | beside_in_column(own, area))
 }

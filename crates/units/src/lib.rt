@@ -19,13 +19,11 @@ ghost use Rattle.write_blocks.specs.Layout.{place_of};
 ghost use Rattle.math.specs.Floats.{floats_at};
 ghost use Rattle.units.specs.Entries.{side_of, seed_at, index_or_full, shorts_to, count_or_why, number_of, answer_of};
 
-use areas::AreaAnswer;
 use math::num::{bits_of_float, float_of_bits};
 use math::vec3::floats_at;
-use quantise::short::Shorts;
+use quantise::short::{Frame, Shorts};
 use quarters::quarter::{bits16_of, quarter_ceil, quarter_floor};
-use strip::StripAnswer;
-use write_vertex_numbers::All;
+use strip::Reason;
 
 // The short of a on an axis.
 pub fn leaf_short(a: u32, lo: u32, extent: u32) -> u32
@@ -79,8 +77,8 @@ pub fn leaf_ensure_area(ids: &mut [u32; 32], len: usize, id: u32) -> u32
     let e = areas::ensure_id(ids, len, id);
     let at = e.at;
     match at {
-        AreaAnswer::At(i) => i,
-        AreaAnswer::Full => 32,
+        Some(i) => i,
+        None => 32,
     }
 }
 
@@ -105,14 +103,14 @@ pub fn leaf_quantise_all(vertices: &[u32], bounds: &[u32; 6], out: &mut [u32]) -
     ensures count { result ≡ min (length vertices.now / 3) (length out.old / 3) }
     ensures content { out.new ≡ over (shorts_to vertices.now (floats_at bounds.now 0) (floats_at bounds.now 3) result) out.old }
 {
-    let bb_min = floats_at(bounds, 0);
-    let bb_size = floats_at(bounds, 3);
-    let n = fields::least(vertices.len() / 3, out.len() / 3);
-    let mut i = 0;
-    while i < n {
-        let q = quantise::short::shorts_of(floats_at(vertices, 3 * i), bb_min, bb_size);
+    let frame = Frame {
+        bb_min: floats_at(bounds, 0),
+        bb_size: floats_at(bounds, 3),
+    };
+    let n = (vertices.len() / 3).min(out.len() / 3);
+    for i in 0..n {
+        let q = frame.shorts_of(floats_at(vertices, 3 * i));
         store(out, 3 * i, q);
-        i += 1;
     }
     n
 }
@@ -125,9 +123,11 @@ pub fn leaf_number_all(triples: &[u32], work: &mut [u32]) -> usize
     ensures rest { drop (4 * length (triples_of triples.now)) work.new ≡ drop (4 * length (triples_of triples.now)) work.old }
 {
     match write_vertex_numbers::number_all(triples, work) {
-        All::Count(n) => n,
-        All::Over(_) => 65537,
-        All::Short => 65538,
+        Ok(n) => n,
+        Err(refusal) => match refusal.reason {
+            Reason::ManyVertices => 65537,
+            _ => 65538,
+        },
     }
 }
 
@@ -137,15 +137,15 @@ pub fn leaf_check_strip(strip: &[u32], answer: &mut [u64; 8]) -> u32
     ensures words { answer.new ≡ over (answer_of (shown (strip_outcome strip.now))) answer.old }
 {
     match strip_check::check_strip(strip) {
-        StripAnswer::WellFormed(n) => {
+        Ok(n) => {
             answer[0] = n.polys as u64;
             answer[1] = n.portals as u64;
             answer[2] = n.points as u64;
             0
         }
-        StripAnswer::Refused(r) => {
+        Err(r) => {
             answer[0] = r.place as u64;
-            r.number
+            u32::from(r.reason)
         }
     }
 }

@@ -8,7 +8,7 @@ ghost use Rattle.replay.specs.Tallies.{Tallied, Step};
 ghost use Rattle.leaf_replay.specs.Agreement.{AgreesAt, Asked, TallyOf, LeafRecordInside};
 
 use leaf_replay::{Record, agrees, record_at};
-use replay::{Tally, asked, print, print_first, print_tally, read_full, tallied};
+use replay::{Tally, asked, print_first, print_tally, read_full, tallied};
 use std::io;
 
 // The tally with the record at a place, where the record's tag is from low to high.
@@ -38,6 +38,7 @@ fn tally_of(words: &[u32], low: u32, high: u32) -> Tally
         first: words.len(),
     };
     let mut at = 0;
+    // a `while`: only the record says where the next one begins
     while 3 <= words.len() - at {
         let r = record_at(words, at);
         t = with_record(words, at, r, t, low, high);
@@ -47,11 +48,11 @@ fn tally_of(words: &[u32], low: u32, high: u32) -> Tally
 }
 
 // Prints how many of the records with such a tag agree. The answer is where the first stands that doesn't.
-fn report(rt: &impl Print, name: &[u8], words: &[u32], low: u32, high: u32) -> io::Result<usize>
+fn report(rt: &impl Print, name: &str, words: &[u32], low: u32, high: u32) -> io::Result<usize>
     ensures { IfOk result (λ first. first ≤ length words.now) }
 {
     let t = tally_of(words, low, high);
-    print(rt, name)?;
+    print!(rt; "{name}")?;
     print_tally(rt, t)?;
     Ok(t.first)
 }
@@ -60,26 +61,24 @@ fn report(rt: &impl Print, name: &[u8], words: &[u32], low: u32, high: u32) -> i
 fn load(bytes: &[u8], words: &mut [u32])
     ensures { (k : ℕ) → k < length words.old → get_or words.new k 0 ≡ le_at 4 bytes.now (4 * k) }
 {
-    let mut i = 0;
-    while i < words.len() {
+    for i in 0..words.len() {
         words[i] = fields::u32_le(bytes, 4 * i);
-        i += 1;
     }
 }
 
 // A line for each kind and one for all, where a record of another tag counts as one that differs.
 fn report_all(rt: &impl Print, words: &[u32]) -> io::Result<()> {
-    report(rt, b"short ", words, 1, 1)?;
-    report(rt, b"back ", words, 2, 2)?;
-    report(rt, b"quarter ", words, 3, 3)?;
-    report(rt, b"areas ", words, 4, 4)?;
-    report(rt, b"place ", words, 5, 5)?;
-    report(rt, b"strip ", words, 6, 6)?;
-    report(rt, b"pick ", words, 7, 7)?;
-    report(rt, b"obj ", words, 8, 8)?;
-    report(rt, b"seams ", words, 9, 9)?;
-    report(rt, b"reach ", words, 10, 10)?;
-    let first = report(rt, b"all ", words, 1, 4294967295)?;
+    report(rt, "short ", words, 1, 1)?;
+    report(rt, "back ", words, 2, 2)?;
+    report(rt, "quarter ", words, 3, 3)?;
+    report(rt, "areas ", words, 4, 4)?;
+    report(rt, "place ", words, 5, 5)?;
+    report(rt, "strip ", words, 6, 6)?;
+    report(rt, "pick ", words, 7, 7)?;
+    report(rt, "obj ", words, 8, 8)?;
+    report(rt, "seams ", words, 9, 9)?;
+    report(rt, "reach ", words, 10, 10)?;
+    let first = report(rt, "all ", words, 1, 4294967295)?;
     print_first(rt, first, words.len(), b"word")
 }
 

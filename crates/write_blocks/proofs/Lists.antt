@@ -1,6 +1,8 @@
 -- The laws of a list's blocks: sizes and lengths, what one turn of a loop over the parts does, and how a list is put together.
-use Rattle.std.proofs.Common.{◌≡◌, ℕ, zero, suc, ◌+◌, ◌-◌, ◌*◌, ◌/◌, ◌%◌, ◌^◌, ◌<◌, ◌≤◌, min, List, [], ◌∷◌, ◌++◌, map, length, take, drop, sym, refl, ap, ◌∙◌, subst, div-lt_iff_lt-mul, add-mul, mul-le-mul_left, mul-zero, le-div_iff_mul-le, mul-suc, div-le_self, arith, length-append, length-drop, length-take-le, take_at, drop_at}
-use native.Mathlib.Nat.{mul-div-le, div-add-mod, mul-add-div}
+use Rattle.std.proofs.Common.{◌≡◌, ℕ, zero, suc, ◌+◌, ◌-◌, ◌*◌, ◌/◌, ◌%◌, ◌^◌, ◌<◌, ◌≤◌, min, List, [], ◌∷◌, ◌++◌, map, length, take, drop, sym, refl, ap, ◌∙◌, subst, div-lt_iff_lt-mul, add-mul, mul-le-mul_left, mul-zero, zero-mul, suc-mul, le-div_iff_mul-le, mul-suc, div-le_self, arith, length-append, length-drop, length-take-le, take_at, drop_at}
+use Rattle.std.proofs.lemmas.Grind.{div_ceil_times}
+use Rattle.std.proofs.Math.Nat.{div-eq_of_lt-le}
+use native.Mathlib.Nat.{mul-div-le, div-add-mod, mod-lt, mul_comm}
 use Rattle.fields.specs.Bytes.{les, le_bytes, cat, cut}
 use Rattle.fields.specs.Put.{put}
 use Rattle.fields.specs.Rows.{row_bytes}
@@ -8,7 +10,7 @@ use Rattle.fields.proofs.Bytes.{length_les}
 use Rattle.fields.proofs.Puts.{put_next, put_number}
 use Rattle.fields.proofs.Rows.{length_rows}
 use Rattle.write_blocks.specs.Layout.{address, place_of, behind, end_of}
-use Rattle.write_blocks.specs.Laid.{lengths, allocated, reached, Laid}
+use Rattle.write_blocks.specs.Laid.{lengths, allocated, reached, sum_of, Laid}
 use Rattle.write_blocks.specs.Lists.{per_part, part_count, part_counts, chunks, firsts, sizes, part_sizes, offset_sizes, list_sizes, table_at, parts_from, items_end, offsets_address, list_row, part_row, table_bytes, front_blocks, part_blocks, offset_blocks, list_blocks}
 use Rattle.write_blocks.specs.ListRoom.{Wide, ListRoom}
 use Rattle.write_blocks.specs.Optional.{size_of, address_of}
@@ -20,14 +22,23 @@ use Rattle.write_blocks.proofs.Layouts.{place_ge, end_ge, end_append, small_appe
 -- ---- how many items a part takes, and how many parts n items take
 
 module _ (per n : ℕ) (some : 0 < per) where
-  pub count_sum : n / per + (n % per + (per - 1)) / per ≡ (n + (per - 1)) / per
-  count_sum = sym (mul-add-div some (n / per) (n % per + (per - 1))) ∙ ap (λ (x : ℕ). x / per) (omega (arith, div-add-mod n per))
+  pub count_sum : n / per + min 1 (n % per) ≡ (n + (per - 1)) / per
+  count_sum =
+      let k : ℕ = n / per + min 1 (n % per) in
+      let h = div_ceil_times n per some in
+      sym (div-eq_of_lt-le {k = k} per {m = n + (per - 1)} (omega (arith, h)) (omega (arith, h, add-mul k 1 per)))
 
   pub count_le : (n + (per - 1)) / per ≤ n
   count_le =
       let m : n * 1 ≤ n * per = mul-le-mul_left n some in
       let l : n + (per - 1) < (n + 1) * per = omega (arith, add-mul n 1 per) in
       omega (arith, (div-lt_iff_lt-mul {k = per} {x = n + (per - 1)} {y = n + 1} some).1 l)
+
+  -- so many parts have room for them
+  pub count_ge : n ≤ (n + (per - 1)) / per * per
+  count_ge =
+      let q : ℕ = (n + (per - 1)) / per in
+      omega (arith, div-add-mod (n + (per - 1)) per, mod-lt (n + (per - 1)) {m = per} some, mul_comm per q)
 
 module _ (w : ℕ) (some : 1 ≤ w) (page : w ≤ 16384) where
   pub per_some : 1 ≤ per_part w
@@ -49,39 +60,50 @@ module _ (w : ℕ) (some : 1 ≤ w) (page : w ≤ 16384) where
 pub room_items : {end w n : ℕ} {ns : List ℕ} → ListRoom end w n ns → n ≤ 2 ^ 24
 room_items {end} {w} {n} r = few_items w r.some r.page n r.table
 
--- ---- part i of k, which has m items, with `left` items left
+-- ---- how many items all parts have
 
-module _ (per k i left m : ℕ) (h : i < k) (is : m ≡ min per left) where
-  pub counts_turn : part_counts (k - i) per left ≡ m ∷ part_counts (k - (i + 1)) per (left - m)
-  counts_turn = let e : k - i ≡ suc (k - (i + 1)) = omega arith in rw (e, ← is)
+pub sum_counts_le : (k per n : ℕ) → sum_of (part_counts k per n) ≤ n
+sum_counts_le zero per n = omega arith
+sum_counts_le (suc k) per n = omega (arith, sum_counts_le k per (n - min per n))
 
-  -- it takes at most a page
-  pub size_turn : (w : ℕ) → w * per ≤ 16384 → w * m ≤ 16384
-  size_turn w room = let q : m ≤ per = omega arith in omega (arith, mul-le-mul_left w q)
+pub sum_counts : (k per n : ℕ) → n ≤ k * per → sum_of (part_counts k per n) ≡ n
+sum_counts zero per n h = omega (arith, zero-mul per)
+sum_counts (suc k) per n h = omega (arith, sum_counts k per (n - min per n) (omega (arith, suc-mul k per)))
 
+-- all of a list's items lie in its parts
+pub sum_parts : (w n : ℕ) → 1 ≤ w → w ≤ 16384 → sum_of (part_counts (part_count w n) (per_part w) n) ≡ n
+sum_parts w n some page = sum_counts (part_count w n) (per_part w) n (count_ge (per_part w) n (per_some w some page))
+
+-- ---- the parts that are left have ms items: the first m, the others `rest`
+
+module _ (ms rest : List ℕ) (m : ℕ) (is : ms ≡ m ∷ rest) where
   -- the end behind it and the rest
-  pub end_turn : (w p : ℕ) → end_of p (sizes w (part_counts (k - i) per left)) ≡ end_of (behind p (w * m)) (sizes w (part_counts (k - (i + 1)) per (left - m)))
-  end_turn w p = rw counts_turn
+  pub end_turn : (w p : ℕ) → end_of p (sizes w ms) ≡ end_of (behind p (w * m)) (sizes w rest)
+  end_turn w p = rw is
 
-  pub reached_turn : (w : ℕ) (l : Layout) → reached l (sizes w (part_counts (k - i) per left)) ≡ reached (allocated l (w * m)) (sizes w (part_counts (k - (i + 1)) per (left - m)))
-  reached_turn w l = rw counts_turn
+  pub reached_turn : (w : ℕ) (l : Layout) → reached l (sizes w ms) ≡ reached (allocated l (w * m)) (sizes w rest)
+  reached_turn w l = rw is
 
-  pub room_turn : (w p : ℕ) → behind p (w * m) ≤ end_of p (sizes w (part_counts (k - i) per left))
-  room_turn w p = omega (arith, end_turn w p, end_ge (behind p (w * m)) (sizes w (part_counts (k - (i + 1)) per (left - m))))
+  pub room_turn : (w p : ℕ) → behind p (w * m) ≤ end_of p (sizes w ms)
+  room_turn w p = omega (arith, end_turn w p, end_ge (behind p (w * m)) (sizes w rest))
+
+  pub sum_turn : sum_of ms ≡ m + sum_of rest
+  sum_turn = rw is
+
+  pub length_turn : length ms ≡ suc (length rest)
+  length_turn = rw is
 
   -- its entry in the table, and the rest
   pub table_turn : (w a p : ℕ) (out : List ℕ)
-      → put (a + 16) (table_bytes w (behind p (w * m)) (part_counts (k - (i + 1)) per (left - m))) (put a (row_bytes (part_row (place_of p (w * m)) m)) out)
-      ≡ put a (table_bytes w p (part_counts (k - i) per left)) out
+      → put (a + 16) (table_bytes w (behind p (w * m)) rest) (put a (row_bytes (part_row (place_of p (w * m)) m)) out) ≡ put a (table_bytes w p ms) out
   unfolding table_bytes
-  table_turn w a p out = rw counts_turn (put_next 16 a (row_bytes (part_row (place_of p (w * m)) m)) _ out (length_rows (part_row (place_of p (w * m)) m)))
+  table_turn w a p out = rw is (put_next 16 a (row_bytes (part_row (place_of p (w * m)) m)) _ out (length_rows (part_row (place_of p (w * m)) m)))
 
   -- its first item number, and the rest
   pub offsets_turn : (a first : ℕ) (out : List ℕ)
-      → put (a + 4) (les 4 (firsts (first + m) (part_counts (k - (i + 1)) per (left - m)))) (put a (le_bytes 4 first) out)
-      ≡ put a (les 4 (firsts first (part_counts (k - i) per left))) out
+      → put (a + 4) (les 4 (firsts (first + m) rest)) (put a (le_bytes 4 first) out) ≡ put a (les 4 (firsts first ms)) out
   unfolding les
-  offsets_turn a first out = rw counts_turn (put_number a 4 first _ out)
+  offsets_turn a first out = rw is (put_number a 4 first _ out)
 
 -- ---- items in a row
 

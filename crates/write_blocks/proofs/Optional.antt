@@ -3,7 +3,7 @@ use Rattle.std.proofs.Common.{◌≡◌, ℕ, zero, suc, ◌-◌, ◌^◌, ◌<�
 use Rattle.fields.specs.Bytes.{zeros}
 use Rattle.fields.specs.Put.{put}
 use Rattle.write_blocks.specs.Layout.{place_of, behind, end_of, address}
-use Rattle.write_blocks.specs.Laid.{allocated, sum_of, Laid}
+use Rattle.write_blocks.specs.Laid.{allocated, Laid}
 use Rattle.write_blocks.specs.declared.Layout.{Layout}
 use Rattle.write_blocks.proofs.Layouts.{laid_none, laid_block}
 use Rattle.write_blocks.specs.Optional.{block_of, size_of, address_of}

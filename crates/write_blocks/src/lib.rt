@@ -6,11 +6,11 @@
 ghost use Rattle.std.specs.Prelude.{◌≡◌, ◌-◌, ◌^◌, ◌<◌};
 ghost use Rattle.fields.specs.Bytes.{zeros};
 ghost use Rattle.fields.specs.Put.{put};
-ghost use Rattle.write_blocks.specs.Layout.{place_of, behind, end_of};
+ghost use Rattle.write_blocks.specs.Layout.{place_of, behind, end_of, address};
 ghost use Rattle.write_blocks.specs.Laid.{empty, allocated, reached, Within};
 ghost use Rattle.write_blocks.specs.Optional.{size_of, address_of};
 
-pub const SYSTEM_BASE: usize = 0x5000_0000;
+use resource::SYSTEM_BASE;
 
 const PAGE_SIZE: u64 = 16384;
 
@@ -18,15 +18,16 @@ const PAGE_SIZE: u64 = 16384;
 pub fn place(end: u32, size: u32) -> u64
     ensures { result ≡ place_of end size }
 {
-    let at = (end as u64 + 15) / 16 * 16;
-    if at % PAGE_SIZE + size as u64 <= PAGE_SIZE {
+    let size = u64::from(size);
+    let at = u64::from(end).div_ceil(16) * 16;
+    if at % PAGE_SIZE + size <= PAGE_SIZE {
         return at;
     }
     (at / PAGE_SIZE + 1) * PAGE_SIZE
 }
 
 // What is laid out so far: its end, and the bytes that its blocks asked for, as a word counts them.
-#[derive(Clone, Copy)]
+#[derive(Clone, Copy, Default)]
 pub struct Layout {
     pub at: usize,
     pub asked: u32,
@@ -36,7 +37,7 @@ impl Layout {
     pub fn new() -> Self
         ensures { result ≡ empty }
     {
-        Self { at: 0, asked: 0 }
+        Self::default()
     }
 
     // Where the next block starts.
@@ -54,7 +55,7 @@ impl Layout {
     {
         Self {
             at: self.start(size) + size,
-            asked: std::num::wrapping_add_u32(self.asked, size as u32),
+            asked: self.asked.wrapping_add(size as u32),
         }
     }
 
@@ -70,18 +71,27 @@ impl Layout {
     }
 }
 
+// The address of a position: that of the system section.
+pub fn address(at: usize) -> u32
+    requires { at < 2 ^ 28 }
+    ensures { result ≡ address at }
+{
+    (SYSTEM_BASE as usize + at) as u32
+}
+
 // The address of a block of `size` bytes that is laid out next; 0 where there is none.
 pub fn address_of(l: Layout, size: usize) -> u32
     requires { end_of l.at (size_of size) < 2 ^ 28 }
     ensures { result ≡ address_of l.at size }
 {
     if 0 < size {
-        return (SYSTEM_BASE + l.start(size)) as u32;
+        return address(l.start(size));
     }
     0
 }
 
-// Zeros up to where the next block starts, which is the answer.
+// Zeros up to where the next block starts, which is the answer. Blocks that stand only where there is something (portals, links, ids, points, offsets) are
+// each laid out by `pad`, a store and `alloc`: one function that takes the store would name its bytes by a ghost value, and is no plainer at its callers.
 pub fn pad(out: &mut [u8], l: Layout, size: usize) -> usize
     requires { behind l.at size < 2 ^ 28 }
     ensures start { result ≡ place_of l.at size }

@@ -9,6 +9,8 @@ use mathlib.Core.List.{List, [], ◌∷◌, append_assoc, append-nil}
 use lib.ListN.{length}
 use lib.Dec.{ltb}
 use borrow.Author.Tests.{lt-ltb, le-ltb}
+use Rattle.std.specs.Prelude.{Result, Ok, Err}
+use Rattle.strip.specs.declared.Reason.{Reason}
 use Rattle.math.specs.declared.vec3.Vec3.{Vec3 as Floats}
 use Rattle.strip.specs.Cell.{Vec3, NavEdge}
 use Rattle.strip.specs.Reading.{word, vec_at, vecs_at, nav_edge_at, edges_at}
@@ -21,10 +23,9 @@ use Rattle.write_pages.specs.Items.{Corner, no_edge, triple_in, corners_of, name
 use Rattle.write_pages.specs.Checks.{at, corner_fault, corners_fault}
 use Rattle.write_pages.proofs.Firsts.{first_none, first_some, first_last}
 use Rattle.write_corner_checks.specs.Steps.{area_or, TablesReady, Added, CornerDone, CornersDone, behind_table}
-use Rattle.write_corner_checks.proofs.Faults.{not_passed, passes, passed_none, refused_some}
-use Rattle.write_corner_checks.specs.declared.Check.TheVariants as Check
+use Rattle.write_corner_checks.proofs.Faults.{not_ok, passes, passed_none, refused_some}
 use Rattle.write_corner_checks.specs.declared.Tables.{Tables}
-use Rattle.write_corner_checks.specs.declared.TablesAfter.{TablesAfter}
+use Rattle.write_corner_checks.specs.declared.CornersAfter.{CornersAfter}
 
 pub later : (w ids : List ℕ) (b m n i j : ℕ) → i ≤ j → TablesReady w ids b m n i → TablesReady w ids b m n j
 later w ids b m n i j h r = record { table = r.table; few = omega (arith, r.few); room = r.room; trees = r.trees; areas = r.areas }
@@ -34,43 +35,51 @@ module _ (w ids : List ℕ) (b m : ℕ) (t : Tables) (item : ℕ) where
   unfolding named distinct_from numbers_from
   nothing_added = record { now_met = refl; now_ids = refl; indices = rw (add-zero item, append-nil) }
 
-  none_left : TablesReady w ids b m t.vertices item → CornersDone w w ids ids b m t item [] (record { tables = t; check = Check.Passed })
+  none_left : (u : ℕ) → TablesReady w ids b m t.vertices item → CornersDone w w ids ids b m t item [] (Ok (record { tables = t; pushed = u }))
   unfolding corners_fault
-  none_left r = record {
-    fault = passes _ _ refl refl;
-    ready = later w ids b m t.vertices item (item + 0) (omega arith) r;
-    long = refl;
-    back = refl;
-    added = λ q. nothing_added;
-  }
+  none_left u r =
+      let same : (after : CornersAfter) → ◌≡◌ {A = Result CornersAfter Reason} (Ok (record { tables = t; pushed = u })) (Ok after) → record { tables = t; pushed = u } ≡ after = λ after q. cc in
+      record {
+        fault = passes {A = CornersAfter} _ _ (record { tables = t; pushed = u }) refl refl;
+        vertices = t.vertices;
+        counted = λ after q. ap (λ (a : CornersAfter). a.tables.vertices) (same after q);
+        ready = later w ids b m t.vertices item (item + 0) (omega arith) r;
+        long = refl;
+        back = refl;
+        added = λ after q. rw (← same after q) nothing_added;
+      }
 
-  module _ (w' ids' : List ℕ) (k : Corner) (ks : List Corner) (r : TablesAfter) (d : CornerDone w w' ids ids' b m t item k.vertex k.edge.a.area k.edge.b.area r) where
-    stopped : (n : ℕ) → r.check ≡ Check.Refused n → CornersDone w w' ids ids' b m t item (k ∷ ks) r
+  module _ (w' ids' : List ℕ) (k : Corner) (ks : List Corner) (r : Result Tables Reason) (d : CornerDone w w' ids ids' b m t item k.vertex k.edge.a.area k.edge.b.area r) where
+    stopped : (e : Reason) → r ≡ Err e → CornersDone w w' ids ids' b m t item (k ∷ ks) (Err e)
     unfolding corners_fault corner_fault
-    stopped n en = record {
-      fault = λ place rest. d.fault place rest ∙ ap (λ (f : ℕ). at place f rest) (sym (first_some _ _ (refused_some _ n _ d.fault en).1));
-      ready = later w' ids' b m r.tables.vertices (item + 1) (item + suc (length ks)) (omega arith) d.ready;
+    stopped e er = record {
+      fault = λ place rest. (rw er at (d.fault place rest)) ∙ ap (λ (f : ℕ). at place f rest) (sym (first_some _ _ (refused_some _ _ d.fault e er).1));
+      vertices = d.vertices;
+      counted = λ after q. not_ok refl q;
+      ready = later w' ids' b m d.vertices (item + 1) (item + suc (length ks)) (omega arith) d.ready;
       long = d.long;
       back = drop_more (item + 1) (item + suc (length ks)) (omega arith) (behind_table w' b m) (behind_table w b m) d.back;
-      added = λ q. not_passed en q;
+      added = λ after q. not_ok refl q;
     }
 
-    went_on : r.check ≡ Check.Passed → (w'' ids'' : List ℕ) (s : TablesAfter) → CornersDone w' w'' ids' ids'' b m r.tables (item + 1) ks s → CornersDone w w'' ids ids'' b m t item (k ∷ ks) s
+    went_on : (t' : Tables) → r ≡ Ok t' → (w'' ids'' : List ℕ) (s : Result CornersAfter Reason) → CornersDone w' w'' ids' ids'' b m t' (item + 1) ks s → CornersDone w w'' ids ids'' b m t item (k ∷ ks) s
     unfolding corners_fault corner_fault named distinct_from numbers_from
-    went_on none w'' ids'' s g =
+    went_on t' none w'' ids'' s g =
         let sum : item + 1 + length ks ≡ item + suc (length ks) = omega arith in
         record {
-          fault = λ place rest. g.fault place rest ∙ (rw (d.now_met none, d.now_ids none))
-              ∙ ap (λ (f : ℕ). at place f rest) (sym (first_none _ _ (passed_none _ _ d.fault none) ∙ first_last _));
+          fault = λ place rest. g.fault place rest ∙ (rw (d.now_met t' none, d.now_ids t' none))
+              ∙ ap (λ (f : ℕ). at place f rest) (sym (first_none _ _ (passed_none _ _ d.fault t' none) ∙ first_last _));
+          vertices = g.vertices;
+          counted = g.counted;
           ready = rw sum at g.ready;
           long = g.long ∙ d.long;
           back = (rw sum at g.back) ∙ drop_more (item + 1) (item + suc (length ks)) (omega arith) (behind_table w' b m) (behind_table w b m) d.back;
-          added = λ q.
-              let a = g.added q in
+          added = λ after q.
+              let a = g.added after q in
               record {
-                now_met = a.now_met ∙ (rw (d.now_met none));
-                now_ids = a.now_ids ∙ (rw (d.now_ids none));
-                indices = (rw sum at a.indices) ∙ rw (d.index none, d.now_met none, append_assoc);
+                now_met = a.now_met ∙ (rw (d.now_met t' none));
+                now_ids = a.now_ids ∙ (rw (d.now_ids t' none));
+                indices = (rw sum at a.indices) ∙ rw (d.index t' none, d.now_met t' none, append_assoc);
               };
         }
 
@@ -117,29 +126,32 @@ pub area_of : (s : List ℕ) (k : ℕ) {to j : ℕ} (place i : ℕ) {r : ℕ} �
 area_of s k place i h p q = rw (← p, ← q) h
 
 -- before corner i of a polygon with n vertices at v₀ and k edges at e₀: what is done with the corners that are left is done with all
-pub record Going (s : List ℕ) (bb-min bb-size : Floats) (n k v₀ e₀ b m start : ℕ) (t₀ : Tables) (w₀ ids₀ w ids : List ℕ) (t : Tables) (v e i : ℕ) : Type 0 where
+pub record Going (s : List ℕ) (bb-min bb-size : Floats) (n k v₀ e₀ b m start : ℕ) (t₀ : Tables) (w₀ ids₀ w ids : List ℕ) (t : Tables) (i : ℕ) : Type 0 where
   pub within : i ≤ n
-  pub vertex : v ≡ v₀ + 3 * i
-  pub edge : e ≡ e₀ + 6 * i
   pub ready : TablesReady w ids b m t.vertices (start + i)
   pub long : length w ≡ length w₀
-  pub rest : (w' ids' : List ℕ) (r : TablesAfter) → CornersDone w w' ids ids' b m t (start + i) (corners_of bb-min bb-size (vecs_at s v (n - i)) (edges_at s e (k - i))) r
+  pub rest : (w' ids' : List ℕ) (r : Result CornersAfter Reason)
+      → CornersDone w w' ids ids' b m t (start + i) (corners_of bb-min bb-size (vecs_at s (v₀ + 3 * i) (n - i)) (edges_at s (e₀ + 6 * i) (k - i))) r
       → CornersDone w₀ w' ids₀ ids' b m t₀ start (corners_of bb-min bb-size (vecs_at s v₀ n) (edges_at s e₀ k)) r
 
 module _ (s : List ℕ) (bb-min bb-size : Floats) (n k v₀ e₀ b m start : ℕ) (t₀ : Tables) (w₀ ids₀ : List ℕ) where
-  pub begin : TablesReady w₀ ids₀ b m t₀.vertices start → Going s bb-min bb-size n k v₀ e₀ b m start t₀ w₀ ids₀ w₀ ids₀ t₀ v₀ e₀ 0
+  pub begin : TablesReady w₀ ids₀ b m t₀.vertices start → Going s bb-min bb-size n k v₀ e₀ b m start t₀ w₀ ids₀ w₀ ids₀ t₀ 0
   begin r = record {
     within = omega arith;
-    vertex = omega arith;
-    edge = omega arith;
     ready = rw (add-zero start) r;
     long = refl;
-    rest = λ w' ids' q d. rw (add-zero start, sub-zero n, sub-zero k) at d;
+    rest = λ w' ids' q d. rw (add-zero start, add-zero v₀, add-zero e₀, sub-zero n, sub-zero k) at d;
   }
 
-  module _ (w w' ids ids' : List ℕ) (t : Tables) (v e i x y z : ℕ) (g : Going s bb-min bb-size n k v₀ e₀ b m start t₀ w₀ ids₀ w ids t v e i) (h : i < n)
-      (ex : x ≡ triple_in bb-min bb-size (vec_at s v)) (ey : y ≡ area_or s e i k) (ez : z ≡ area_or s (e + 3) i k)
-      (r : TablesAfter) (d : CornerDone w w' ids ids' b m t (start + i) x y z r) where
+  module _ (w w' ids ids' : List ℕ) (t : Tables) (i x y z : ℕ) (g : Going s bb-min bb-size n k v₀ e₀ b m start t₀ w₀ ids₀ w ids t i) (h : i < n)
+      (ex : x ≡ triple_in bb-min bb-size (vec_at s (v₀ + 3 * i))) (ey : y ≡ area_or s (e₀ + 6 * i) i k) (ez : z ≡ area_or s (e₀ + 6 * i + 3) i k)
+      (r : Result Tables Reason) (d : CornerDone w w' ids ids' b m t (start + i) x y z r) where
+    abbrev v : ℕ
+    v = v₀ + 3 * i
+
+    abbrev e : ℕ
+    e = e₀ + 6 * i
+
     here : Corner
     here = record { vertex = triple_in bb-min bb-size (vec_at s v); edge = edge_or s e i k }
 
@@ -154,23 +166,23 @@ module _ (s : List ℕ) (bb-min bb-size : Floats) (n k v₀ e₀ b m start : ℕ
     unfolding here after
     turn = corners_turn s bb-min bb-size v e i n k h
 
-    pub stop : (j : ℕ) → r.check ≡ Check.Refused j → CornersDone w₀ w' ids₀ ids' b m t₀ start (corners_of bb-min bb-size (vecs_at s v₀ n) (edges_at s e₀ k)) r
-    stop j ej = g.rest w' ids' r (rw turn (stopped w ids b m t (start + i) w' ids' here after r done_here j ej))
+    pub stop : (q : Reason) → r ≡ Err q → CornersDone w₀ w' ids₀ ids' b m t₀ start (corners_of bb-min bb-size (vecs_at s v₀ n) (edges_at s e₀ k)) (Err q)
+    stop q er = g.rest w' ids' (Err q) (rw turn (stopped w ids b m t (start + i) w' ids' here after r done_here q er))
 
-    pub again : r.check ≡ Check.Passed → Going s bb-min bb-size n k v₀ e₀ b m start t₀ w₀ ids₀ w' ids' r.tables (v + 3) (e + 6) (i + 1)
+    pub again : (t' : Tables) → r ≡ Ok t' → Going s bb-min bb-size n k v₀ e₀ b m start t₀ w₀ ids₀ w' ids' t' (i + 1)
     unfolding after
-    again none =
+    again t' none =
         let sum : start + i + 1 ≡ start + (i + 1) = omega arith in
+        let three : v + 3 ≡ v₀ + 3 * (i + 1) = omega arith in
+        let six : e + 6 ≡ e₀ + 6 * (i + 1) = omega arith in
         record {
           within = omega arith;
-          vertex = omega (arith, g.vertex);
-          edge = omega (arith, g.edge);
-          ready = rw sum at d.ready;
+          ready = rw (sum, d.counted t' none) at d.ready;
           long = d.long ∙ g.long;
-          rest = λ w'' ids'' q j. g.rest w'' ids'' q (rw turn (went_on w ids b m t (start + i) w' ids' here after r done_here none w'' ids'' q (rw (← sum) at j)));
+          rest = λ w'' ids'' q j. g.rest w'' ids'' q (rw turn (went_on w ids b m t (start + i) w' ids' here after r done_here t' none w'' ids'' q (rw (← sum, ← three, ← six) at j)));
         }
 
-  pub done : (w ids : List ℕ) (t : Tables) (v e i : ℕ) → Going s bb-min bb-size n k v₀ e₀ b m start t₀ w₀ ids₀ w ids t v e i → n ≤ i
-      → CornersDone w₀ w ids₀ ids b m t₀ start (corners_of bb-min bb-size (vecs_at s v₀ n) (edges_at s e₀ k)) (record { tables = t; check = Check.Passed })
+  pub done : (u : ℕ) (w ids : List ℕ) (t : Tables) (i : ℕ) → Going s bb-min bb-size n k v₀ e₀ b m start t₀ w₀ ids₀ w ids t i → n ≤ i
+      → CornersDone w₀ w ids₀ ids b m t₀ start (corners_of bb-min bb-size (vecs_at s v₀ n) (edges_at s e₀ k)) (Ok (record { tables = t; pushed = u }))
   unfolding corners_of
-  done w ids t v e i g h = g.rest w ids (record { tables = t; check = Check.Passed }) (rw (items_done (vec_at s) (λ x. x + 3) v i n h) (none_left w ids b m t (start + i) g.ready))
+  done u w ids t i g h = g.rest w ids (Ok (record { tables = t; pushed = u })) (rw (items_done (vec_at s) (λ x. x + 3) (v₀ + 3 * i) i n h) (none_left w ids b m t (start + i) u g.ready))

@@ -1,6 +1,6 @@
 -- What each step over the corners leaves in lent memory: work holds the vertex table (b roots of trees, then two words to each of m vertices) and
 -- behind it the corners' numbers; ids holds the areas. Definitions only.
-use Rattle.std.specs.Prelude.{ℕ, zero, suc, ◌+◌, ◌*◌, ◌≤◌, min, ◌≡◌, cond, List, [], ◌∷◌, ◌++◌, length, take, drop, ltb}
+use Rattle.std.specs.Prelude.{ℕ, ◌+◌, ◌*◌, ◌≤◌, min, ◌≡◌, cond, List, [], ◌∷◌, ◌++◌, length, take, drop, ltb, Result, Ok, Err}
 use Rattle.strip.specs.Reading.{word}
 use Rattle.areas.specs.EdgeHalf.{adjacent_none}
 use Rattle.distinct.specs.Distinct.{with_new, index_of, distinct_from}
@@ -8,11 +8,10 @@ use Rattle.distinct.specs.Numbers.{numbers_from}
 use Rattle.write_vertices.specs.Table.{Table, met}
 use Rattle.write_pages.specs.Items.{Corner, triples, named}
 use Rattle.write_pages.specs.Checks.{Verdict, refused, fault_if, first_fault, at, corners_fault}
-use Rattle.write_corner_checks.specs.declared.Check.{Check}
-use Rattle.write_corner_checks.specs.declared.Check.TheVariants as Check
-use Rattle.write_corner_checks.specs.declared.EdgeAreas.{EdgeAreas}
+use Rattle.strip.specs.Reasons.{reason_number}
+use Rattle.strip.specs.declared.Reason.{Reason}
 use Rattle.write_corner_checks.specs.declared.Tables.{Tables}
-use Rattle.write_corner_checks.specs.declared.TablesAfter.{TablesAfter}
+use Rattle.write_corner_checks.specs.declared.CornersAfter.{CornersAfter}
 
 -- the area that stands at a place for a half of edge i, and that of no neighbour where there are only so many edges
 unfoldable pub area_or : (strip : List ℕ) → (place i edges : ℕ) → ℕ
@@ -21,19 +20,23 @@ area_or strip place i edges = cond (ltb i edges) (word strip place) adjacent_non
 -- ---- what a check says
 
 -- each case at a place, and then the rest
-abbrev pub check_then : Check → ℕ → Verdict → Verdict
-check_then Check.Passed place rest = rest
-check_then (Check.Refused number) place rest = refused number place
+abbrev pub check_then : {A : Type 0} → Result A Reason → ℕ → Verdict → Verdict
+check_then (Ok a) place rest = rest
+check_then (Err reason) place rest = refused (reason_number reason) place
 
 -- a check has this fault, 0 for none: wherever it stands and whatever comes after it
-abbrev pub HasFault : Check → ℕ → Type 0
+abbrev pub HasFault : {A : Type 0} → Result A Reason → ℕ → Type 0
 HasFault c fault = (place : ℕ) (rest : Verdict) → check_then c place rest ≡ at place fault rest
 
 -- ---- faults, by the values that a step has. us are the areas so far, ts the triples
 
+-- 15
+abbrev pub area_fault : (us : List ℕ) → (a : ℕ) → ℕ
+area_fault us a = fault_if (ltb 32 (length (with_new us a))) 15
+
 -- 15 for half a, then for half b
 abbrev pub edge_faults : (us : List ℕ) → (a b : ℕ) → List ℕ
-edge_faults us a b = fault_if (ltb 32 (length (with_new us a))) 15 ∷ fault_if (ltb 32 (length (with_new (with_new us a) b))) 15 ∷ []
+edge_faults us a b = area_fault us a ∷ area_fault (with_new us a) b ∷ []
 
 -- 14, then 15
 abbrev pub corner_faults : (ts us : List ℕ) → (x a b : ℕ) → List ℕ
@@ -41,11 +44,17 @@ corner_faults ts us x a b = fault_if (ltb 65536 (length (with_new ts x))) 14 ∷
 
 -- ---- an edge
 
--- ids' is ids, with `len` areas, after the areas a and b of an edge, with the answer r
-pub record EdgeHas (ids ids' : List ℕ) (len a b : ℕ) (r : EdgeAreas) : Type 0 where
-  pub fault : HasFault r.check (first_fault (edge_faults (take len ids) a b))
+-- ids' is ids, with `len` areas, after the area a, with the answer r
+pub record AreaHas (ids ids' : List ℕ) (len a : ℕ) (r : Result ℕ Reason) : Type 0 where
+  pub fault : HasFault r (area_fault (take len ids) a)
   pub long : length ids' ≡ 32
-  pub now_ids : r.check ≡ Check.Passed → take r.len ids' ≡ with_new (with_new (take len ids) a) b
+  pub now_ids : (n : ℕ) → r ≡ Ok n → take n ids' ≡ with_new (take len ids) a
+
+-- the same after the areas a and b of an edge
+pub record EdgeHas (ids ids' : List ℕ) (len a b : ℕ) (r : Result ℕ Reason) : Type 0 where
+  pub fault : HasFault r (first_fault (edge_faults (take len ids) a b))
+  pub long : length ids' ≡ 32
+  pub now_ids : (n : ℕ) → r ≡ Ok n → take n ids' ≡ with_new (with_new (take len ids) a) b
 
 -- ---- corners
 
@@ -67,20 +76,24 @@ pub record Added (w w' ids ids' : List ℕ) (b m : ℕ) (t t' : Tables) (item : 
   pub now_ids : take t'.areas ids' ≡ distinct_from (take t.areas ids) (named ks)
   pub indices : take (item + length ks) (behind_table w' b m) ≡ take item (behind_table w b m) ++ numbers_from (met w b t.vertices) (triples ks)
 
--- after the corner number `item`, with the triple x and the areas y and z
-pub record CornerDone (w w' ids ids' : List ℕ) (b m : ℕ) (t : Tables) (item x y z : ℕ) (r : TablesAfter) : Type 0 where
-  pub fault : HasFault r.check (first_fault (corner_faults (met w b t.vertices) (take t.areas ids) x y z))
-  pub ready : TablesReady w' ids' b m r.tables.vertices (item + 1)
+-- after the corner number `item`, with the triple x and the areas y and z. After a refusal too work holds a table, of `vertices` vertices
+pub record CornerDone (w w' ids ids' : List ℕ) (b m : ℕ) (t : Tables) (item x y z : ℕ) (r : Result Tables Reason) : Type 0 where
+  pub fault : HasFault r (first_fault (corner_faults (met w b t.vertices) (take t.areas ids) x y z))
+  pub vertices : ℕ
+  pub counted : (t' : Tables) → r ≡ Ok t' → vertices ≡ t'.vertices
+  pub ready : TablesReady w' ids' b m vertices (item + 1)
   pub long : length w' ≡ length w
   pub back : drop (item + 1) (behind_table w' b m) ≡ drop (item + 1) (behind_table w b m)
-  pub now_met : r.check ≡ Check.Passed → met w' b r.tables.vertices ≡ with_new (met w b t.vertices) x
-  pub now_ids : r.check ≡ Check.Passed → take r.tables.areas ids' ≡ with_new (with_new (take t.areas ids) y) z
-  pub index : r.check ≡ Check.Passed → take (item + 1) (behind_table w' b m) ≡ take item (behind_table w b m) ++ (index_of (met w b t.vertices) x ∷ [])
+  pub now_met : (t' : Tables) → r ≡ Ok t' → met w' b t'.vertices ≡ with_new (met w b t.vertices) x
+  pub now_ids : (t' : Tables) → r ≡ Ok t' → take t'.areas ids' ≡ with_new (with_new (take t.areas ids) y) z
+  pub index : (t' : Tables) → r ≡ Ok t' → take (item + 1) (behind_table w' b m) ≡ take item (behind_table w b m) ++ (index_of (met w b t.vertices) x ∷ [])
 
 -- after the corners ks, the first of them number `item`
-pub record CornersDone (w w' ids ids' : List ℕ) (b m : ℕ) (t : Tables) (item : ℕ) (ks : List Corner) (r : TablesAfter) : Type 0 where
-  pub fault : HasFault r.check (corners_fault (met w b t.vertices) (take t.areas ids) ks)
-  pub ready : TablesReady w' ids' b m r.tables.vertices (item + length ks)
+pub record CornersDone (w w' ids ids' : List ℕ) (b m : ℕ) (t : Tables) (item : ℕ) (ks : List Corner) (r : Result CornersAfter Reason) : Type 0 where
+  pub fault : HasFault r (corners_fault (met w b t.vertices) (take t.areas ids) ks)
+  pub vertices : ℕ
+  pub counted : (after : CornersAfter) → r ≡ Ok after → vertices ≡ after.tables.vertices
+  pub ready : TablesReady w' ids' b m vertices (item + length ks)
   pub long : length w' ≡ length w
   pub back : drop (item + length ks) (behind_table w' b m) ≡ drop (item + length ks) (behind_table w b m)
-  pub added : r.check ≡ Check.Passed → Added w w' ids ids' b m t r.tables item ks
+  pub added : (after : CornersAfter) → r ≡ Ok after → Added w w' ids ids' b m t after.tables item ks

@@ -2,19 +2,17 @@
 // are made, and the coordinates that are pushed to the border are counted.
 #![tactic(auto)]
 
-ghost use Rattle.std.specs.Prelude.{◌≡◌, ◌+◌, ◌*◌, ◌≤◌, ◌<◌, ◌^◌, length};
+ghost use Rattle.std.specs.Prelude.{◌≡◌, ◌+◌, ◌*◌, ◌≤◌, ◌<◌, ◌^◌, length, IfOk};
 ghost use Rattle.strip.specs.Reading.{vec_at, polygon_of};
 ghost use Rattle.quantise.specs.Short.{outside_count};
 ghost use Rattle.cell_record.specs.Floats.{floats};
 ghost use Rattle.pushed.specs.Pushed.{pushed_in};
 ghost use Rattle.write_pages.specs.Items.{triple_in, corners_in};
-ghost use Rattle.write_corner_checks.specs.Steps.{area_or, EdgeHas, TablesReady, CornerDone, CornersDone};
-ghost use Rattle.write_corner_checks.specs.declared.Check.TheVariants.{Passed};
+ghost use Rattle.write_corner_checks.specs.Steps.{area_or, AreaHas, EdgeHas, TablesReady, CornerDone, CornersDone};
 
-use areas::AreaAnswer;
-use math::vec3::{Vec3, floats_at};
-use strip::Poly;
-use write_vertices::Numbered;
+use math::vec3::floats_at;
+use quantise::short::Frame;
+use strip::{Poly, Reason};
 
 // How many areas and vertices there are.
 #[derive(Clone, Copy)]
@@ -23,32 +21,10 @@ pub struct Tables {
     pub vertices: usize,
 }
 
-// What a check comes to. The place of a refusal is the polygon, which `decide_polygons` has.
-#[derive(Clone, Copy)]
-pub enum Check {
-    Passed,
-    // The number of the refusal.
-    Refused(u32),
-}
-
-// The count of areas after an edge, and whether there was room for both.
-#[derive(Clone, Copy)]
-pub struct EdgeAreas {
-    pub len: usize,
-    pub check: Check,
-}
-
-// The tables after some corners, up to the first that is refused.
-#[derive(Clone, Copy)]
-pub struct TablesAfter {
-    pub tables: Tables,
-    pub check: Check,
-}
-
-// The same of a polygon, and how many coordinates of its vertices are outside.
+// The tables after some corners, and how many coordinates of their vertices are outside.
 #[derive(Clone, Copy)]
 pub struct CornersAfter {
-    pub after: TablesAfter,
+    pub tables: Tables,
     pub pushed: usize,
 }
 
@@ -59,48 +35,40 @@ pub struct Vertex {
     pub outside: usize,
 }
 
-// The areas of both halves of an edge: 15 where one would be a 33rd.
-fn ensure_edge(ids: &mut [u32; 32], len: usize, a: u32, b: u32) -> EdgeAreas
+// An area in the table: how many there are then, or 15 where it would be a 33rd.
+fn ensure_area(ids: &mut [u32; 32], len: usize, id: u32) -> Result<usize, Reason>
     requires { length ids.old ≡ 32 }
-    ensures { EdgeHas ids.old ids.new len a b result }
+    ensures { AreaHas ids.old ids.new len id result }
 {
-    let one = areas::ensure_id(ids, len, a);
-    let at_a = one.at;
-    match at_a {
-        AreaAnswer::At(_) => {
-            let two = areas::ensure_id(ids, one.len, b);
-            let at_b = two.at;
-            match at_b {
-                AreaAnswer::At(_) => EdgeAreas {
-                    len: two.len,
-                    check: Check::Passed,
-                },
-                AreaAnswer::Full => EdgeAreas {
-                    len: two.len,
-                    check: Check::Refused(15),
-                },
-            }
-        }
-        AreaAnswer::Full => EdgeAreas {
-            len: one.len,
-            check: Check::Refused(15),
-        },
+    let entry = areas::ensure_id(ids, len, id);
+    match entry.at {
+        Some(_) => Ok(entry.len),
+        None => Err(Reason::ManyAreas),
     }
 }
 
+// The areas of both halves of an edge: how many there are then, or 15.
+fn ensure_edge(ids: &mut [u32; 32], len: usize, a: u32, b: u32) -> Result<usize, Reason>
+    requires { length ids.old ≡ 32 }
+    ensures { EdgeHas ids.old ids.new len a b result }
+{
+    let one = ensure_area(ids, len, a)?;
+    ensure_area(ids, one, b)
+}
+
 // The vertex whose three words stand at `at`.
-fn vertex_at(strip: &[u32], at: usize, bb_min: Vec3, bb_size: Vec3) -> Vertex
+fn vertex_at(strip: &[u32], at: usize, frame: Frame) -> Vertex
     requires { at + 3 ≤ length strip.now }
-    ensures triple { result.triple ≡ triple_in bb_min bb_size (vec_at strip.now at) }
+    ensures triple { result.triple ≡ triple_in frame.bb_min frame.bb_size (vec_at strip.now at) }
     ensures below { result.triple < 2 ^ 48 }
-    ensures outside { result.outside ≡ outside_count (floats (vec_at strip.now at)) bb_min bb_size }
+    ensures outside { result.outside ≡ outside_count (floats (vec_at strip.now at)) frame.bb_min frame.bb_size }
     ensures bound { result.outside ≤ 3 }
 {
     let v = floats_at(strip, at);
-    let made = quantise::short::quantise(v, bb_min, bb_size);
+    let made = frame.quantise(v);
     let q = made.shorts;
     Vertex {
-        triple: (q.x as u64) + 65536 * (q.y as u64) + 4294967296 * (q.z as u64),
+        triple: u64::from(q.x) + 65536 * u64::from(q.y) + 4294967296 * u64::from(q.z),
         outside: made.outside as usize,
     }
 }
@@ -127,79 +95,49 @@ fn decide_corner(
     triple: u64,
     a: u32,
     b: u32,
-) -> TablesAfter
+) -> Result<Tables, Reason>
     requires { TablesReady work.old ids.old buckets room old.vertices item × (item < room) × (triple < 2 ^ 48) }
     ensures { CornerDone work.old work.new ids.old ids.new buckets room old item triple a b result }
 {
-    let areas = old.areas;
-    let vertices = old.vertices;
-    let known = write_vertex_index::vertex_index(work, buckets, vertices, triple);
-    match known {
-        Numbered::Vertex(number, count) => {
-            let e = ensure_edge(ids, areas, a, b);
-            let tables = Tables {
-                areas: e.len,
-                vertices: count,
-            };
-            let check = e.check;
-            if let Check::Refused(_) = check {
-                return TablesAfter { tables, check };
-            }
-            work[buckets + 2 * room + item] = number as u32;
-            TablesAfter { tables, check }
-        }
-        Numbered::Full => TablesAfter {
-            tables: old,
-            check: Check::Refused(14),
-        },
-    }
+    let Some(known) = write_vertex_index::vertex_index(work, buckets, old.vertices, triple) else {
+        return Err(Reason::ManyVertices);
+    };
+    let areas = ensure_edge(ids, old.areas, a, b)?;
+    work[buckets + 2 * room + item] = known.number as u32;
+    Ok(Tables {
+        areas,
+        vertices: known.count,
+    })
 }
 
 // The corners of a polygon, the first of them number `start`.
 pub fn decide_vertices(
     strip: &[u32],
     p: Poly,
-    bb_min: Vec3,
-    bb_size: Vec3,
+    frame: Frame,
     work: &mut [u32],
     ids: &mut [u32; 32],
     buckets: usize,
     room: usize,
     start: usize,
     old: Tables,
-) -> CornersAfter
+) -> Result<CornersAfter, Reason>
     requires { (p.vertex_at + 3 * p.vertices ≤ length strip.now) × (p.edge_at + 6 * p.edges ≤ length strip.now)
         × (start + p.vertices ≤ room) × TablesReady work.old ids.old buckets room old.vertices start }
     ensures corners { CornersDone work.old work.new ids.old ids.new buckets room old start
-        (corners_in bb_min bb_size (polygon_of strip.now p)) result.after }
-    ensures pushed { result.after.check ≡ Passed → result.pushed ≡ pushed_in bb_min bb_size (polygon_of strip.now p).vertices }
+        (corners_in frame.bb_min frame.bb_size (polygon_of strip.now p)) result }
+    ensures pushed { IfOk result (λ after. after.pushed ≡ pushed_in frame.bb_min frame.bb_size (polygon_of strip.now p).vertices) }
 {
-    let vertices = p.vertices;
-    let edges = p.edges;
-    let mut v = p.vertex_at;
-    let mut e = p.edge_at;
     let mut tables = old;
-    let mut pushed: usize = 0;
-    let mut i: usize = 0;
-    while i < vertices {
-        let vertex = vertex_at(strip, v, bb_min, bb_size);
+    let mut pushed = 0;
+    for i in 0..p.vertices {
+        let vertex = vertex_at(strip, p.vertex_at + 3 * i, frame);
         let triple = vertex.triple;
-        let a = area_at(strip, e, i, edges);
-        let b = area_at(strip, e + 3, i, edges);
-        let after = decide_corner(work, ids, buckets, room, start + i, tables, triple, a, b);
-        tables = after.tables;
-        let check = after.check;
-        if let Check::Refused(_) = check {
-            return CornersAfter { after, pushed };
-        }
+        let e = p.edge_at + 6 * i;
+        let a = area_at(strip, e, i, p.edges);
+        let b = area_at(strip, e + 3, i, p.edges);
+        tables = decide_corner(work, ids, buckets, room, start + i, tables, triple, a, b)?;
         pushed += vertex.outside;
-        v += 3;
-        e += 6;
-        i += 1;
     }
-    let after = TablesAfter {
-        tables,
-        check: Check::Passed,
-    };
-    CornersAfter { after, pushed }
+    Ok(CornersAfter { tables, pushed })
 }

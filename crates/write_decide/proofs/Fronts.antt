@@ -9,6 +9,8 @@ use lib.ListN.{length, take, drop}
 use lib.Seq.{drop-drop}
 use lib.Dec.{ltb}
 use borrow.Author.Tests.{ltb-false}
+use Rattle.std.specs.Prelude.{Result, Ok, Err, IfOk}
+use Rattle.strip.specs.Reasons.{reason_number}
 use Rattle.strip.specs.Cell.{Head}
 use Rattle.strip.specs.Box.{finite_box}
 use Rattle.strip.specs.Reading.{head_at}
@@ -35,10 +37,9 @@ use Rattle.write_pages.specs.Items.{floats, Corner, corners, triples}
 use Rattle.write_pages.specs.Checks.{Verdict, fault_if, first_fault, at}
 use Rattle.write_pages.proofs.Firsts.{passed, at_none}
 use Rattle.write_corner_checks.specs.Steps.{TablesReady}
-use Rattle.write_polygon_checks.specs.Steps.{says, VerdictHas, PolygonsDone}
-use Rattle.write_polygon_checks.specs.declared.Verdict.{Verdict as Said}
-use Rattle.write_polygon_checks.specs.declared.Verdict.TheVariants.{Fine, Refused}
-use Rattle.write_polygon_checks.proofs.Said.{never_both, fine_none}
+use Rattle.write_polygon_checks.specs.Steps.{VerdictHas, PolygonsDone}
+use Rattle.write_corner_checks.proofs.Faults.{not_ok}
+use Rattle.write_polygon_checks.proofs.Said.{fine_none}
 use Rattle.write_decide.specs.Decide.{on_polygons, before_leaves, on_scan, trees, most, indices_at, tables_end, Tabled, WellDone, DecideDone}
 use Rattle.write_corner_checks.specs.declared.Tables.{Tables}
 use Rattle.write_polygon_checks.specs.declared.Decided.{Decided}
@@ -89,67 +90,81 @@ map_vertex : (f : ℕ → ℕ) (ks : List Corner) → map f (triples ks) ≡ map
 map_vertex f [] = refl
 map_vertex f (k ∷ ks) = ap (λ (l : List ℕ). f k.vertex ∷ l) (map_vertex f ks)
 
-module _ (s : List ℕ) (n : Counts) (h : Head) (cell : CellRecord) (same-cell : cell ≡ record_of h) (w wc w' ids ids' : List ℕ) (t : Tables) (d : Decided)
+module _ (s : List ℕ) (n : Counts) (h : Head) (cell : CellRecord) (same-cell : cell ≡ record_of h) (w wc w' ids ids' : List ℕ) (t : Tables) (d : Result Decided Refusal)
     (l14 : 14 ≤ length s) (l4 : 4 * length s ≤ length w) (k : ℕ) (all : trees (length s) ≤ k) (lk : k ≤ length w) (ec : wc ≡ cleared w k) (ev : t.vertices ≡ 0) (ea : take t.areas ids ≡ seeded h.area)
     (p : PolygonsDone (floats h.bb_min) (floats h.bb_size) wc w' ids ids' (trees (length s)) (most (length s)) t 0 0 0 (polygons_at s 14 n.polys) d)
-    (counted : d.verdict ≡ Fine → d.pushed ≡ pushed_in (floats h.bb_min) (floats h.bb_size) (vertices_of (polygons_at s 14 n.polys))) where
-  abbrev answer : Decision
-  answer = record {
-    cell = cell;
-    counts = n;
-    areas = record { ids = ids'; len = d.tables.areas };
-    vertices = d.tables.vertices;
-    corners = d.corners;
-    links = d.links;
-    pushed = d.pushed;
-    verdict = d.verdict;
-  }
-
+    (counted : IfOk d (λ e. e.pushed ≡ pushed_in (floats h.bb_min) (floats h.bb_size) (vertices_of (polygons_at s 14 n.polys)))) where
   empty : met wc (trees (length s)) t.vertices ≡ []
   unfolding met
   empty = rw ev
 
-  tables_done : d.verdict ≡ Fine → Tabled (length s) h (polygons_at s 14 n.polys) w' answer
-  tables_done z =
-      let g = p.added z in
+  abbrev answer : Decided → Decision
+  answer e = record {
+    cell = cell;
+    counts = n;
+    areas = record { ids = ids'; len = e.tables.areas };
+    vertices = e.tables.vertices;
+    corners = e.corners;
+    links = e.links;
+    pushed = e.pushed;
+  }
+
+  tables_done : (e : Decided) → d ≡ Ok e → Tabled (length s) h (polygons_at s 14 n.polys) w' (answer e)
+  tables_done e z =
+      let g = p.added e z in
       let ks = corners (floats h.bb_min) (floats h.bb_size) (polygons_at s 14 n.polys) in
-      let count : d.corners ≡ length ks = p.corner_count z ∙ zero-add _ in
-      let numbers : take d.corners (drop (indices_at (length s)) w') ≡ numbers_from [] (triples ks) = rw (p.corner_count z) (g.indices ∙ rw empty) in
+      let count : e.corners ≡ length ks = p.corner_count e z ∙ zero-add _ in
+      let numbers : take e.corners (drop (indices_at (length s)) w') ≡ numbers_from [] (triples ks) = rw (p.corner_count e z) (g.indices ∙ rw empty) in
       record {
         vertices = g.now_met ∙ rw empty;
         indices = numbers ∙ numbers_at_the_end [] (triples ks) ∙ map_vertex (index_of (distinct_from [] (triples ks))) ks;
         areas = g.now_ids ∙ rw ea;
         corner_count = count;
-        link_count = p.link_count z ∙ zero-add _;
-        pushed_count = counted z;
-        few_vertices = (p.ready z).few;
-        few_corners = p.few z;
-        few_polys = omega (arith, p.many z);
+        link_count = p.link_count e z ∙ zero-add _;
+        pushed_count = rw z at counted;
+        few_vertices = (p.ready e z).few;
+        few_corners = p.few e z;
+        few_polys = omega (arith, p.many e z);
         cell = same-cell;
       }
 
-  pub polygons_done : k ≤ tables_end (length s) → WellDone s h n w w' answer
-  polygons_done few =
-      let b = trees (length s) in
-      let m = most (length s) in
-      let same : drop (b + 2 * m + m) w' ≡ drop (b + 2 * m + m) wc = sym (drop-drop m (b + 2 * m) w') ∙ p.back ∙ drop-drop m (b + 2 * m) wc in
-      record {
-        verdict = λ rest. p.verdict rest ∙ rw (empty, ea);
-        long = p.long ∙ cleared_long s w wc l14 l4 k all lk ec;
-        beyond = same ∙ same_behind s w wc l14 l4 k all lk ec few;
-        counts_are = refl;
-        tabled = λ z. tables_done z;
-      }
+  module _ (few : k ≤ tables_end (length s)) where
+    behind : drop (tables_end (length s)) w' ≡ drop (tables_end (length s)) w
+    behind =
+        let b = trees (length s) in
+        let m = most (length s) in
+        let same : drop (b + 2 * m + m) w' ≡ drop (b + 2 * m + m) wc = sym (drop-drop m (b + 2 * m) w') ∙ p.back ∙ drop-drop m (b + 2 * m) wc in
+        same ∙ same_behind s w wc l14 l4 k all lk ec few
+
+    pub polygons_bad : (q : Refusal) → d ≡ Err q → WellDone s h n w w' (Err q)
+    polygons_bad q bad = record {
+      verdict = λ rest. (rw bad at (p.verdict rest)) ∙ rw (empty, ea);
+      long = p.long ∙ cleared_long s w wc l14 l4 k all lk ec;
+      beyond = behind;
+      counts_are = λ r z. not_ok refl z;
+      tabled = λ r z. not_ok refl z;
+    }
+
+    pub polygons_done : (e : Decided) → d ≡ Ok e → WellDone s h n w w' (Ok (answer e))
+    polygons_done e good =
+        let same : (r : Decision) → ◌≡◌ {A = Result Decision Refusal} (Ok (answer e)) (Ok r) → answer e ≡ r = λ r z. cc in
+        record {
+          verdict = λ rest. (rw good at (p.verdict rest)) ∙ rw (empty, ea);
+          long = p.long ∙ cleared_long s w wc l14 l4 k all lk ec;
+          beyond = behind;
+          counts_are = λ r z. sym (ap (λ (x : Decision). x.counts) (same r z));
+          tabled = λ r z. rw (← same r z) (tables_done e good);
+        }
 
 -- ---- 3
 
-pub not_formed : (s w : List ℕ) (q : Refusal) → scan s ≡ Scanned.fault q.number q.place → (r : Decision) → r.verdict ≡ Refused q → DecideDone s w w r
-not_formed s w q k r e = record {
-  verdict = λ rest. rw (k, e);
+pub not_formed : (s w : List ℕ) (q : Refusal) → scan s ≡ Scanned.fault (reason_number q.reason) q.place → DecideDone s w w (Err q)
+not_formed s w q k = record {
+  verdict = λ rest. rw k;
   long = refl;
   beyond = refl;
-  tabled = λ z. never_both r.verdict q e z;
-  counts_are = λ z. never_both r.verdict q e z;
+  tabled = λ d z. not_ok refl z;
+  counts_are = λ d z. not_ok refl z;
 }
 
 -- ---- 1, 10, 11
@@ -162,29 +177,27 @@ module _ (s w : List ℕ) (n : Counts) (W : Well s n) where
   unfolding before_leaves
   front rest = rw (W.is, poly_count s n.polys)
 
-  module _ (v : Said) (ev : VerdictHas v front_fault) where
+  module _ {A : Type 0} (v : Result A Refusal) (ev : VerdictHas v front_fault) where
     -- 1 passed
-    pub room : v ≡ Fine → 4 * length s ≤ length w
-    room none = omega (arith, ltb-false (length w / 4) (length s) (passed (ltb (length w / 4) (length s)) 0 _ (fine_none v front_fault ev none)))
+    pub room : (a : A) → v ≡ Ok a → 4 * length s ≤ length w
+    room a none = omega (arith, ltb-false (length w / 4) (length s) (passed (ltb (length w / 4) (length s)) 0 _ (fine_none v front_fault ev a none)))
 
-    pub bad_front : (q : Refusal) → v ≡ Refused q → (r : Decision) → r.verdict ≡ Refused q → DecideDone s w w r
-    bad_front q eq r e = record {
-      verdict = λ rest.
-          let after = on_polygons (head_at s 0) (polygons_at s 14 n.polys) rest in
-          rw e (ap (λ (u : Said). says u after) (sym eq) ∙ ev after ∙ sym (front rest));
+    pub bad_front : (q : Refusal) → v ≡ Err q → DecideDone s w w (Err q)
+    bad_front q eq = record {
+      verdict = λ rest. (rw eq at (ev (on_polygons (head_at s 0) (polygons_at s 14 n.polys) rest))) ∙ sym (front rest);
       long = refl;
       beyond = refl;
-      tabled = λ z. never_both r.verdict q e z;
-      counts_are = λ z. never_both r.verdict q e z;
+      tabled = λ d z. not_ok refl z;
+      counts_are = λ d z. not_ok refl z;
     }
 
-    pub good_front : v ≡ Fine → (w' : List ℕ) (r : Decision) → WellDone s (head_at s 0) n w w' r → DecideDone s w w' r
-    good_front none w' r d = record {
-      verdict = λ rest. d.verdict rest ∙ sym (front rest ∙ at_none 0 front_fault _ (fine_none v front_fault ev none));
+    pub good_front : (a : A) → v ≡ Ok a → (w' : List ℕ) (r : Result Decision Refusal) → WellDone s (head_at s 0) n w w' r → DecideDone s w w' r
+    good_front a none w' r d = record {
+      verdict = λ rest. d.verdict rest ∙ sym (front rest ∙ at_none 0 front_fault _ (fine_none v front_fault ev a none));
       long = d.long;
       beyond = drop_more (tables_end (length s)) (2 * length s) (omega (arith, (trees_in (length s) W.long).2)) w' w d.beyond;
-      tabled = λ z c e.
-          rw (cell_is s W c e) (d.tabled z);
-      counts_are = λ z c e.
-          d.counts_are ∙ sym (ap cell_counts (cell_is s W c e) ∙ counts_back s n);
+      tabled = λ q z c e.
+          rw (cell_is s W c e) (d.tabled q z);
+      counts_are = λ q z c e.
+          d.counts_are q z ∙ sym (ap cell_counts (cell_is s W c e) ∙ counts_back s n);
     }

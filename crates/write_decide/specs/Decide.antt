@@ -1,11 +1,12 @@
 -- What the writer decides of a strip before the leaves, and what the work words then hold. Definitions only.
-use Rattle.std.specs.Prelude.{ℕ, ◌+◌, ◌*◌, ◌/◌, ◌≤◌, min, not, ◌≡◌, List, [], ◌∷◌, map, length, take, drop, ltb}
+use Rattle.std.specs.Prelude.{ℕ, ◌+◌, ◌*◌, ◌/◌, ◌≤◌, min, not, ◌≡◌, List, [], ◌∷◌, map, length, take, drop, ltb, Result, Ok}
 use Rattle.strip.specs.Cell.{Cell, Head, NavPoly}
 use Rattle.strip.specs.Box.{finite_box}
 use Rattle.strip.specs.Rows.{polygons_at}
 use Rattle.strip.specs.Scan.{Scanned, ok, fault, scan}
 use Rattle.strip.specs.Laid.{cell_counts}
 use Rattle.strip.specs.declared.Counts.{Counts}
+use Rattle.strip.specs.declared.Refusal.{Refusal}
 use Rattle.cell_record.specs.Record.{record_of}
 use Rattle.pushed.specs.Pushed.{pushed_in, vertices_of}
 use Rattle.distinct.specs.Distinct.{index_of}
@@ -15,7 +16,6 @@ use Rattle.write_vertices.specs.Table.{met}
 use Rattle.write_pages.specs.Items.{floats, corners, vertex_table, area_table, links_of}
 use Rattle.write_pages.specs.Checks.{Verdict, refused, fault_if, first_fault, at, polygons_verdict}
 use Rattle.write_polygon_checks.specs.Steps.{says}
-use Rattle.write_polygon_checks.specs.declared.Verdict.TheVariants.{Fine}
 use Rattle.write_decide.specs.declared.Decision.{Decision}
 use Rattle.write_decide.specs.declared.WorkPlaces.{WorkPlaces}
 
@@ -37,8 +37,8 @@ on_scan f (ok c) = f c
 on_scan f (fault number place) = refused number place
 
 -- what an answer says, before the rest
-abbrev pub decision_then : Decision → Verdict → Verdict
-decision_then r rest = says r.verdict rest
+abbrev pub decision_then : Result Decision Refusal → Verdict → Verdict
+decision_then r rest = says r rest
 
 -- ---- the work, for a strip of W words: W / 3 roots of trees, 65,536 at most; two words to each of W / 3 vertices; W / 3 indices
 
@@ -82,17 +82,17 @@ pub record Tabled (words : ℕ) (h : Head) (ps : List NavPoly) (w : List ℕ) (d
 -- ---- promises
 
 -- of `decide_well`, for the strip s with the head h and the counts n
-pub record WellDone (s : List ℕ) (h : Head) (n : Counts) (w w' : List ℕ) (r : Decision) : Type 0 where
+pub record WellDone (s : List ℕ) (h : Head) (n : Counts) (w w' : List ℕ) (r : Result Decision Refusal) : Type 0 where
   pub verdict : (rest : Verdict) → decision_then r rest ≡ on_polygons h (polygons_at s 14 n.polys) rest
   pub long : length w' ≡ length w
   pub beyond : drop (tables_end (length s)) w' ≡ drop (tables_end (length s)) w
-  pub counts_are : r.counts ≡ n
-  pub tabled : r.verdict ≡ Fine → Tabled (length s) h (polygons_at s 14 n.polys) w' r
+  pub counts_are : (d : Decision) → r ≡ Ok d → d.counts ≡ n
+  pub tabled : (d : Decision) → r ≡ Ok d → Tabled (length s) h (polygons_at s 14 n.polys) w' d
 
 -- of `decide`
-pub record DecideDone (s w w' : List ℕ) (r : Decision) : Type 0 where
+pub record DecideDone (s w w' : List ℕ) (r : Result Decision Refusal) : Type 0 where
   pub verdict : (rest : Verdict) → decision_then r rest ≡ on_scan (before_leaves (length s) (length w) rest) (scan s)
   pub long : length w' ≡ length w
   pub beyond : drop (2 * length s) w' ≡ drop (2 * length s) w
-  pub tabled : r.verdict ≡ Fine → (c : Cell) → scan s ≡ ok c → Tabled (length s) c.head c.polys w' r
-  pub counts_are : r.verdict ≡ Fine → (c : Cell) → scan s ≡ ok c → r.counts ≡ cell_counts c
+  pub tabled : (d : Decision) → r ≡ Ok d → (c : Cell) → scan s ≡ ok c → Tabled (length s) c.head c.polys w' d
+  pub counts_are : (d : Decision) → r ≡ Ok d → (c : Cell) → scan s ≡ ok c → d.counts ≡ cell_counts c

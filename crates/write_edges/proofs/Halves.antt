@@ -52,25 +52,26 @@ words_append ids (k ∷ ks) js = rw (words_append ids ks js)
 
 -- ---- the edges of a polygon with n vertices at v₀ and m edges at e₀. Before edge i: what is left, stored from here, makes the whole
 
-pub record Halving (s : List ℕ) (bb-min bb-size : Floats) (n m v₀ e₀ : ℕ) (ids : List ℕ) (base : ℕ) (w₀ w : List ℕ) (e place i : ℕ) : Type 0 where
+pub record Halving (s : List ℕ) (bb-min bb-size : Floats) (n m v₀ e₀ : ℕ) (ids : List ℕ) (base : ℕ) (w₀ w : List ℕ) (i : ℕ) : Type 0 where
   pub within : i ≤ n
-  pub edge : e ≡ e₀ + 6 * i
-  pub here : place ≡ base + 2 * i
   pub long : length w ≡ length w₀
-  pub rest : put place (edge_words ids (corners_of bb-min bb-size (vecs_at s (v₀ + 3 * i) (n - i)) (edges_at s e (m - i)))) w
+  pub rest : put (base + 2 * i) (edge_words ids (corners_of bb-min bb-size (vecs_at s (v₀ + 3 * i) (n - i)) (edges_at s (e₀ + 6 * i) (m - i)))) w
       ≡ put base (edge_words ids (corners_of bb-min bb-size (vecs_at s v₀ n) (edges_at s e₀ m))) w₀
 
 module _ (s : List ℕ) (bb-min bb-size : Floats) (n m v₀ e₀ : ℕ) (ids : List ℕ) (base : ℕ) (w₀ : List ℕ) where
-  pub halving : Halving s bb-min bb-size n m v₀ e₀ ids base w₀ w₀ e₀ base 0
-  halving = record { within = omega arith; edge = omega arith; here = omega arith; long = refl; rest = rw (sub-zero n, sub-zero m, add-zero v₀) }
+  pub halving : Halving s bb-min bb-size n m v₀ e₀ ids base w₀ w₀ 0
+  halving = record { within = omega arith; long = refl; rest = rw (sub-zero n, sub-zero m, add-zero v₀, add-zero e₀, add-zero base) }
 
-  module _ (w : List ℕ) (e place i : ℕ) (g : Halving s bb-min bb-size n m v₀ e₀ ids base w₀ w e place i) where
-    pub halving_turn : i < n → (x y : ℕ) → x ≡ half_of ids (cond (ltb i m) (half_at s e) no_half) → y ≡ half_of ids (cond (ltb i m) (half_at s (e + 3)) no_half)
-        → Halving s bb-min bb-size n m v₀ e₀ ids base w₀ (set (set w place x) (place + 1) y) (e + 6) (place + 2) (i + 1)
+  module _ (w : List ℕ) (i : ℕ) (g : Halving s bb-min bb-size n m v₀ e₀ ids base w₀ w i) where
+    pub halving_turn : i < n → (x y : ℕ) → x ≡ half_of ids (cond (ltb i m) (half_at s (e₀ + 6 * i)) no_half) → y ≡ half_of ids (cond (ltb i m) (half_at s (e₀ + 6 * i + 3)) no_half)
+        → Halving s bb-min bb-size n m v₀ e₀ ids base w₀ (set (set w (base + 2 * i) x) (base + 2 * i + 1) y) (i + 1)
     unfolding edge_words
     halving_turn h x y ex ey =
+        let e : ℕ = e₀ + 6 * i in
+        let place : ℕ = base + 2 * i in
         let v : v₀ + 3 * (i + 1) ≡ v₀ + 3 * i + 3 = omega arith in
-        let two : place + 2 ≡ suc (suc place) = omega arith in
+        let six : e₀ + 6 * (i + 1) ≡ e₀ + 6 * i + 6 = omega arith in
+        let two : base + 2 * (i + 1) ≡ suc (suc (base + 2 * i)) = omega arith in
         let left : List ℕ = edge_words ids (corners_of bb-min bb-size (vecs_at s (v₀ + 3 * i + 3) (n - (i + 1))) (edges_at s (e + 6) (m - (i + 1)))) in
         let xa : x ≡ half_of ids (edge_or s e i m).a = ex ∙ ap (half_of ids) (sym (half_a (ltb i m) s e)) in
         let yb : y ≡ half_of ids (edge_or s e i m).b = ey ∙ ap (half_of ids) (sym (half_b (ltb i m) s e)) in
@@ -78,15 +79,13 @@ module _ (s : List ℕ) (bb-min bb-size : Floats) (n m v₀ e₀ : ℕ) (ids : L
         sym (put_cons place x (y ∷ left) w ∙ put_cons (suc place) y left (set w place x)) in
         record {
           within = omega arith;
-          edge = omega (arith, g.edge);
-          here = omega (arith, g.here);
           long = (simp length-set) ∙ g.long;
-          rest = (rw (v, two, add-one place) (both ∙ (rw (xa, yb) (ap (λ (ks : List Corner). put place (edge_words ids ks) w) (sym (corners_turn s bb-min bb-size (v₀ + 3 * i) e i n m h)))))) ∙ g.rest;
+          rest = (rw (v, six, two, add-one place) (both ∙ (rw (xa, yb) (ap (λ (ks : List Corner). put place (edge_words ids ks) w) (sym (corners_turn s bb-min bb-size (v₀ + 3 * i) e i n m h)))))) ∙ g.rest;
         }
 
     pub halved : n ≤ i → w ≡ put base (edge_words ids (corners_of bb-min bb-size (vecs_at s v₀ n) (edges_at s e₀ m))) w₀
     unfolding edge_words corners_of
-    halved h = sym (rw (items_done (vec_at s) (λ x. x + 3) (v₀ + 3 * i) i n h) (put_nil place w)) ∙ g.rest
+    halved h = sym (rw (items_done (vec_at s) (λ x. x + 3) (v₀ + 3 * i) i n h) (put_nil (base + 2 * i) w)) ∙ g.rest
 
 -- ---- the edges of n polygons. Before polygon i, at `at`
 

@@ -38,19 +38,14 @@ fn put_run(strip: &[u32], p: Poly, ids: &[u32], len: usize, work: &mut [u32], ba
         × (base + 2 * p.vertices ≤ length work.old) }
     ensures { work.new ≡ put base (edge_words (take len ids.now) (corners_on strip.now (polygon_of strip.now p))) work.old }
 {
-    let vertices = p.vertices;
     let edges = p.edges;
-    let mut e = p.edge_at;
-    let mut place = base;
-    let mut i: usize = 0;
-    while i < vertices {
+    for i in 0..p.vertices {
+        let e = p.edge_at + 6 * i;
         let a = half_item(strip, e, i, edges, ids, len);
         let b = half_item(strip, e + 3, i, edges, ids, len);
+        let place = base + 2 * i;
         work[place] = a;
         work[place + 1] = b;
-        e += 6;
-        place += 2;
-        i += 1;
     }
 }
 
@@ -61,12 +56,10 @@ pub fn put_edges(strip: &[u32], n: usize, ids: &[u32], len: usize, work: &mut [u
 {
     let mut at: usize = 14;
     let mut place = base;
-    let mut i: usize = 0;
-    while i < n {
+    for _i in 0..n {
         let p = strip::poly_at(strip, at);
         put_run(strip, p, ids, len, work, place);
         place += 2 * p.vertices;
         at = p.next;
-        i += 1;
     }
 }

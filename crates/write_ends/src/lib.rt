@@ -98,10 +98,9 @@ fn blocks_end<'a>(
     ensures end { result.end ≡ reached empty (pages_sizes d.vertices d.corners d.counts.polys d.counts.portals d.links (sizes_by boxes.now numbers.now (depth_of content) 0 b)) }
     ensures sectors { result.sectors ≡ sum_of (sizes_by boxes.now numbers.now (depth_of content) 0 b) }
 {
-    let counts = d.counts;
-    let lists = lists_end(d.vertices, d.corners, counts.polys);
+    let lists = lists_end(d.vertices, d.corners, d.counts.polys);
     let sectors = sectors_end(lists, content, b, boxes, numbers);
-    let portals = sectors.alloc_some(PORTAL_SIZE * counts.portals);
+    let portals = sectors.alloc_some(PORTAL_SIZE * d.counts.portals);
     Extent {
         end: portals.alloc_some(2 * d.links),
         sectors: sectors.asked - lists.asked,
@@ -114,18 +113,12 @@ pub fn pages_end(strip: &[u32], d: Decision, work: &[u32]) -> Extent
     ensures end { result.end ≡ reached empty (sizes (cell_at strip.now d.counts)) }
     ensures sectors { result.sectors ≡ byte_count (sectors (cell_at strip.now d.counts)) }
 {
-    let counts = d.counts;
-    let places = write_decide::work_places(strip.len(), counts);
-    let boxes = places.boxes;
-    let leaves = places.leaves;
-    let end = places.end;
-    let cell = d.cell;
-    let b = cell.root_box();
+    let places = write_decide::work_places(strip.len(), d.counts);
     blocks_end(
         d,
-        cell.content_flags,
-        b,
-        &work[boxes..leaves],
-        &work[leaves..end],
+        d.cell.content_flags,
+        d.cell.root_box(),
+        &work[places.boxes..places.leaves],
+        &work[places.leaves..places.end],
     )
 }

@@ -9,7 +9,6 @@ ghost use Rattle.answers.specs.Words.{number_of, answer_words};
 ghost use Rattle.write_entry.specs.Entries.{written_words};
 
 use answers::{accept, refuse};
-use ynv_write::SerializeAnswer;
 
 // The length of the pages in bytes, the points stored, the points dropped and the coordinates pushed to the border.
 pub fn serialize_entry(
@@ -25,7 +24,7 @@ pub fn serialize_entry(
     ensures beyond { drop (2 * length strip.now) work.new ≡ drop (2 * length strip.now) work.old }
 {
     match ynv_write::serialize_ynv(strip, work, pages) {
-        SerializeAnswer::Written(w) => accept(
+        Ok(w) => accept(
             answer,
             &[
                 w.length as u64,
@@ -34,6 +33,6 @@ pub fn serialize_entry(
                 w.pushed as u64,
             ],
         ),
-        SerializeAnswer::Refused(r) => refuse(answer, r),
+        Err(r) => refuse(answer, r),
     }
 }

@@ -24,9 +24,8 @@ fn fill_lists(pages: &mut [u8], strip: &[u32], d: Decision, work: &mut [u32]) ->
     ensures pages { ListsFilled (cell_at strip.now d.counts) pages.old pages.new result }
     ensures work { Left strip.now d.counts work.old work.new }
 {
-    let counts = d.counts;
-    let places = write_decide::work_places(strip.len(), counts);
-    let n = counts.polys;
+    let places = write_decide::work_places(strip.len(), d.counts);
+    let n = d.counts.polys;
     let corners = d.corners;
     let header = Layout::new().alloc(NAVMESH_SIZE);
     let vertices = write_lists::lay_vertices(pages, header, work, places.vertices, d.vertices);
@@ -41,16 +40,13 @@ fn fill_lists(pages: &mut [u8], strip: &[u32], d: Decision, work: &mut [u32]) ->
         work,
         places.vertices,
     );
-    let boxes = places.boxes;
-    let leaves = places.leaves;
-    let cell = d.cell;
     let polygons = write_lists::lay_polygons(
         pages,
         edges,
         strip,
-        cell.area_id,
+        d.cell.area_id,
         n,
-        &work[boxes..leaves],
+        &work[places.boxes..places.leaves],
     );
     ListEnds {
         header,
@@ -65,7 +61,7 @@ fn fill_lists(pages: &mut [u8], strip: &[u32], d: Decision, work: &mut [u32]) ->
 fn area_count(areas: Areas) -> u32
     ensures { result ≡ length (area_ids areas) }
 {
-    fields::least(areas.len, 32) as u32
+    areas.len.min(32) as u32
 }
 
 // How many there are of each; `bytes` are those of the sectors.
@@ -73,18 +69,17 @@ fn totals(d: Decision, points: u32, bytes: u32) -> Totals
     requires { Few d bytes }
     ensures { counts_in result ≡ counts_by d points bytes }
 {
-    let counts = d.counts;
     let items = VERTEX_SIZE * d.vertices
         + (INDEX_SIZE + EDGE_SIZE) * d.corners
-        + POLY_SIZE * counts.polys
-        + PORTAL_SIZE * counts.portals;
+        + POLY_SIZE * d.counts.polys
+        + PORTAL_SIZE * d.counts.portals;
     Totals {
         vertices: d.vertices as u32,
         indices: d.corners as u32,
         areas: area_count(d.areas),
-        polygons: counts.polys as u32,
+        polygons: d.counts.polys as u32,
         points,
-        portals: counts.portals as u32,
+        portals: d.counts.portals as u32,
         links: d.links as u32,
         total: bytes + items as u32,
     }
@@ -101,8 +96,6 @@ pub fn fill(strip: &[u32], d: Decision, bytes: u32, work: &mut [u32], pages: &mu
     let rest = write_rest::fill_rest(pages, strip, d, work, lists.polygons);
     let a = write_rest::addresses(d, lists, rest);
     let n = totals(d, rest.points, bytes);
-    let cell = d.cell;
-    let areas = d.areas;
-    write_header::put_header(pages, cell, a, n, areas);
+    write_header::put_header(pages, d.cell, a, n, d.areas);
     rest.points
 }

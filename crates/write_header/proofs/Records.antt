@@ -1,12 +1,12 @@
 -- The words that the code stores have the bytes of the header's rows. Assumes nothing.
 use Prim.Native.Nat.{ℕ, zero, suc, ◌+◌, ◌*◌, ◌-◌, ◌^◌, ◌≤◌, ◌<◌}
 use mathlib.Core.Path.{◌≡◌, refl, sym, ap, ◌∙◌}
-use mathlib.Core.List.{List, [], ◌∷◌, ◌++◌, append_assoc, append-nil}
+use mathlib.Core.List.{List, [], ◌∷◌, ◌++◌, append_assoc}
 use native.Mathlib.Omega.{arith}
 use native.Mathlib.Nat.{mul-suc}
 use lib.Dec.{lit<}
 use lib.ListN.{length, take}
-use lib.Seq.{take_all, length-take-le}
+use lib.Seq.{length-take-le}
 use Rattle.fields.specs.Bytes.{le_bytes, les}
 use Rattle.fields.specs.Put.{put}
 use Rattle.fields.specs.Rows.{row_bytes}
@@ -69,14 +69,6 @@ padded_bytes (suc m) (x ∷ l) h =
     rw (padded_bytes m l (omega arith), k)
 
 module _ (ids : List ℕ) (len : ℕ) (xs : List ℕ) where
-  -- all 32 of them
-  pub areas_all : (ys : List ℕ) → length ids ≡ 32 → 32 ≤ len → ys ≡ put 152 (les 4 ids) xs → ys ≡ put 152 (les 4 (padded 32 (take len ids))) xs
-  unfolding le_bytes
-  areas_all ys e h q =
-      let whole : take len ids ≡ ids = take_all len ids (omega arith) in
-      let bytes : les 4 (padded 32 ids) ≡ les 4 ids = padded_bytes 32 ids (omega arith) ∙ rw (e) (append-nil (les 4 ids)) in
-      rw (whole, bytes) q
-
   -- the first `len`, and zeros
   pub areas_some : (ys zs : List ℕ) → length ids ≡ 32 → len ≤ 32 → ys ≡ put 152 (les 4 (take len ids)) xs
       → zs ≡ put (152 + 4 * len) (le_bytes (128 - 4 * len) 0) ys → zs ≡ put 152 (les 4 (padded 32 (take len ids))) xs

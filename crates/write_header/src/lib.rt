@@ -47,7 +47,6 @@ const NAN: u32 = 0x7FC0_0000;
 fn put_first(out: &mut [u8], cell: CellRecord, a: Addresses, n: Totals)
     ensures { out.new ≡ put 0 (row_bytes (header_first (head_by cell) (places_in a) (counts_in n))) out.old }
 {
-    let bb_size = cell.bb_size;
     let words = [
         cell.vft,
         1,
@@ -73,9 +72,9 @@ fn put_first(out: &mut [u8], cell: CellRecord, a: Addresses, n: Totals)
         0,
         0,
         NAN, // not the diagonal's 1
-        bits_of_float(bb_size.x),
-        bits_of_float(bb_size.y),
-        bits_of_float(bb_size.z),
+        bits_of_float(cell.bb_size.x),
+        bits_of_float(cell.bb_size.y),
+        bits_of_float(cell.bb_size.z),
         0x7F80_0001,
         a.vertices,
         0,
@@ -92,16 +91,12 @@ fn put_first(out: &mut [u8], cell: CellRecord, a: Addresses, n: Totals)
 }
 
 // The 32 areas at 0x98: zeros behind those that there are.
-fn put_areas(out: &mut [u8], ids: &[u32], len: usize)
-    requires { length ids.now ≡ 32 }
-    ensures { out.new ≡ put 152 (les 4 (padded 32 (take len ids.now))) out.old }
+fn put_areas(out: &mut [u8], areas: Areas)
+    ensures { out.new ≡ put 152 (les 4 (padded 32 (area_ids areas))) out.old }
 {
-    if 32 < len {
-        stores::put_all(out, 152, 4, ids);
-        return;
-    }
-    stores::put_all(out, 152, 4, &ids[..len]);
-    stores::put_le(out, 152 + 4 * len, 128 - 4 * len, 0);
+    let n = areas.len.min(32);
+    stores::put_all(out, 152, 4, &areas.ids[..n]);
+    stores::put_le(out, 152 + 4 * n, 128 - 4 * n, 0);
 }
 
 // The header behind the areas, from 0x118 on.
@@ -139,8 +134,7 @@ fn put_last(out: &mut [u8], cell: CellRecord, a: Addresses, n: Totals)
 pub fn put_header(out: &mut [u8], cell: CellRecord, a: Addresses, n: Totals, areas: Areas)
     ensures { out.new ≡ put 0 (header_bytes (head_by cell) (places_in a) (counts_in n) (area_ids areas)) out.old }
 {
-    let ids = areas.ids;
     put_first(out, cell, a, n);
-    put_areas(out, &ids, areas.len);
+    put_areas(out, areas);
     put_last(out, cell, a, n);
 }

@@ -2,15 +2,16 @@
 use Prim.Native.Nat.{ℕ, zero, suc, ◌+◌, ◌-◌, ◌*◌, ◌/◌, ◌%◌, ◌≤◌, ◌<◌}
 use mathlib.Core.Path.{◌≡◌, refl, sym, ap, ◌∙◌}
 use mathlib.Core.Bool.{Bool, true, false, cond}
-use mathlib.Core.List.{List, [], ◌∷◌}
+use mathlib.Core.List.{List, [], ◌∷◌, ◌++◌}
 use native.Mathlib.Omega.{arith}
 use lib.IntN.{ℤ, pos, negsuc}
 use lib.Signed.{le_z, mag}
 use lib.Dec.{eqb, ltb}
-use lib.ListN.{length, get_or}
+use lib.ListN.{length, get_or, length-append, get_or-append}
+use Rattle.std.proofs.lemmas.List.{get_or-append-add}
 use borrow.Author.Tests.{eq-eqb, ne_eqb, eqb-true, eqb-false, lt-ltb, le-ltb, ltb-true, ltb-false}
 use mir.Syntax.{w16}
-use mir.Val.{SFits, to_z, of_z}
+use mir.Val.{SFits, to_z, of_z, bool_byte}
 use mir.ValLaws.{to_z-of_z}
 use Rattle.quarters.specs.Quarter.{bits16}
 use Rattle.quarters.specs.Int16.{int16}
@@ -26,6 +27,11 @@ use Rattle.write_leaf_counts.specs.Work.{box_at, boxes_at, boxes_in, picked_from
 eqb_swapped : (a b : ℕ) (t : Bool) → eqb a b ≡ t → eqb a b ≡ eqb b a
 eqb_swapped a b true e = e ∙ sym (eq-eqb b a (sym (eqb-true a b e)))
 eqb_swapped a b false e = e ∙ sym (ne_eqb b a (λ q. eqb-false a b e (sym q)))
+
+-- a test as a number
+pub byte_is : (b : Bool) → ◌≡◌ {A = ℕ} (bool_byte b) (cond b 1 0)
+byte_is true = refl
+byte_is false = refl
 
 pub keep_one : (b : Bool) → cond b 1 0 ≤ 1
 keep_one true = omega arith
@@ -91,12 +97,9 @@ module _ (w : List ℕ) (k : ℕ) where
       let f : i + suc m ≡ i + 1 + m = omega arith in
       rw (e, f) (omega (arith, count_parts (i + 1) m n))
 
-  -- from i to j of n
-  pub count_next : (i j n : ℕ) → i ≤ j → j ≤ n → count_in w k i (n - i) ≡ count_in w k i (j - i) + count_in w k j (n - j)
-  count_next i j n h g =
-      let e : count_in w k i (n - i) ≡ count_in w k i (j - i + (n - j)) = ap (count_in w k i) (omega arith) in
-      let f : count_in w k (i + (j - i)) (n - j) ≡ count_in w k j (n - j) = ap (λ (m : ℕ). count_in w k m (n - j)) (omega arith) in
-      omega (arith, count_parts i (j - i) (n - j))
+  pub count_none : (n : ℕ) → n ≡ 0 → count_in w k 0 n ≡ 0
+  unfolding count_in
+  count_none n e = rw e
 
   pub count_few : (i n : ℕ) → count_in w k i n ≤ n
   unfolding count_in
@@ -108,6 +111,23 @@ module _ (w : List ℕ) (k : ℕ) where
   unfolding count_in picked_from
   count_picked i [] = refl
   count_picked i (t ∷ ts) = rw (count_picked (i + 1) ts, keep_length (eqb (get_or w i 0) k) t (picked_from w k (i + 1) ts))
+
+-- of a part, and of what is behind it
+module _ (k : ℕ) where
+  count_front : (xs ys : List ℕ) (i n : ℕ) → i + n ≤ length xs → count_in (xs ++ ys) k i n ≡ count_in xs k i n
+  unfolding count_in
+  count_front xs ys i zero h = refl
+  count_front xs ys i (suc n) h = rw (get_or-append xs ys 0 i (omega arith), count_front xs ys (i + 1) n (omega arith))
+
+  count_back : (xs ys : List ℕ) (i j n : ℕ) → j ≡ length xs + i → count_in (xs ++ ys) k j n ≡ count_in ys k i n
+  unfolding count_in
+  count_back xs ys i j zero e = refl
+  count_back xs ys i j (suc n) e = rw (e, get_or-append-add xs ys i 0, count_back xs ys (i + 1) (length xs + i + 1) n (omega arith))
+
+  pub count_append : (xs ys : List ℕ) → count_in (xs ++ ys) k 0 (length (xs ++ ys)) ≡ count_in xs k 0 (length xs) + count_in ys k 0 (length ys)
+  count_append xs ys =
+      let whole = count_parts (xs ++ ys) k 0 (length xs) (length ys) in
+      rw (length-append xs ys) (omega (arith, whole, count_front xs ys 0 (length xs) (omega arith), count_back xs ys 0 (0 + length xs) (length ys) (omega arith)))
 
 -- ---- no leaf has more than the cell
 

@@ -24,10 +24,7 @@ fn axis_meets(leaf_min: i16, leaf_max: i16, sides: u32) -> bool
 {
     let min = i16_of(sides);
     let max = i16_of(sides / 65536);
-    if leaf_min <= max {
-        return min <= leaf_max;
-    }
-    false
+    leaf_min <= max && min <= leaf_max
 }
 
 // Whether the polygon whose quarter box stands at `at` meets the leaf with the quarter box q.
@@ -35,32 +32,16 @@ pub fn meets_at(boxes: &[u32], at: usize, q: QuarterBox) -> bool
     requires { at + 3 ≤ length boxes.now }
     ensures { result ≡ meets q (box_at boxes.now at) }
 {
-    if axis_meets(q.x_min, q.x_max, boxes[at]) {
-        return axis_meets(q.y_min, q.y_max, boxes[at + 1]);
-    }
-    false
-}
-
-fn one_if(test: bool) -> u32
-    ensures value { result ≡ cond test 1 0 }
-    ensures bound { result ≤ 1 }
-{
-    if test {
-        return 1;
-    }
-    0
+    axis_meets(q.x_min, q.x_max, boxes[at]) && axis_meets(q.y_min, q.y_max, boxes[at + 1])
 }
 
 // How many polygons meet the leaf with the quarter box q.
 fn count_ids(boxes: &[u32], q: QuarterBox) -> usize
     ensures { result ≡ length (leaf_ids q 0 (boxes_in boxes.now)) }
 {
-    let polys = boxes.len() / 3;
     let mut n = 0;
-    let mut i = 0;
-    while i < polys {
-        n = n + one_if(meets_at(boxes, 3 * i, q)) as usize;
-        i += 1;
+    for i in 0..boxes.len() / 3 {
+        n += usize::from(meets_at(boxes, 3 * i, q));
     }
     n
 }
@@ -75,31 +56,16 @@ pub fn leaf_ids(boxes: &[u32], b: Aabb) -> usize
     count_ids(boxes, quarter_box(b.min, b.max))
 }
 
-// How many points of numbers `from` to `to` have the leaf k: few enough for 32 bits, in which several are counted at a time.
-fn count_part(leaf_numbers: &[u32], k: u32, from: usize, to: usize) -> u32
-    requires { (from ≤ to) × (to ≤ from + 65536) × (to ≤ length leaf_numbers.now) }
-    ensures { result ≡ count_in leaf_numbers.now k from (to - from) }
+// How many points of a part have the leaf k: few enough for 32 bits, in which several are counted at a time.
+fn count_part(part: &[u32], k: u32) -> u32
+    requires { length part.now ≤ 65536 }
+    ensures { result ≡ count_in part.now k 0 (length part.now) }
 {
     let mut n = 0;
-    let mut i = from;
-    while i < to {
-        n = n + one_if(leaf_numbers[i] == k);
-        i += 1;
+    for leaf in part {
+        n += u32::from(*leaf == k);
     }
     n
-}
-
-// Where a part ends that begins at `from`.
-fn part_end(from: usize, end: usize) -> usize
-    requires { from < end }
-    ensures progress { from < result }
-    ensures size { result ≤ from + 65536 }
-    ensures bound { result ≤ end }
-{
-    if end - from < 65536 {
-        return end;
-    }
-    from + 65536
 }
 
 // How many points have the leaf k.
@@ -107,11 +73,8 @@ pub fn count_points(leaf_numbers: &[u32], k: u32) -> usize
     ensures { result ≡ count_in leaf_numbers.now k 0 (length leaf_numbers.now) }
 {
     let mut n = 0;
-    let mut i = 0;
-    while i < leaf_numbers.len() {
-        let next = part_end(i, leaf_numbers.len());
-        n = n + count_part(leaf_numbers, k, i, next) as usize;
-        i = next;
+    for part in leaf_numbers.chunks(65536) {
+        n += count_part(part, k) as usize;
     }
     n
 }

@@ -15,18 +15,18 @@ ghost use Rattle.write_pages.specs.Sectors.{leaf_ids, quarters, data_row, point_
 ghost use Rattle.write_leaf_counts.specs.Work.{boxes_in, picked_from};
 
 use fields::sizes::{POINT_SIZE, SECTOR_DATA_SIZE};
-use math::vec3::{Vec3, floats_at};
+use math::vec3::floats_at;
+use quantise::short::Frame;
 use quarters::bounds::Aabb;
 use quarters::quarter::{QuarterBox, quarter_box};
 use write_blocks::Layout;
 use write_leaf_counts::meets_at;
 
-// The points of a cell: where their records begin in the strip, and the box in which their shorts are measured, bb_min and bb_size.
+// The points of a cell: where their records begin in the strip, and the box in which their shorts are measured.
 #[derive(Clone, Copy)]
 pub struct Points {
     pub at: usize,
-    pub bb_min: Vec3,
-    pub bb_size: Vec3,
+    pub frame: Frame,
 }
 
 // The block of a leaf's data.
@@ -57,30 +57,17 @@ pub fn lay_data(
     l.alloc(SECTOR_DATA_SIZE)
 }
 
-// The number of a polygon from p on, where the test passed. The answer is the place behind it.
-fn put_id_if(out: &mut [u8], p: usize, test: bool, id: usize) -> usize
-    requires { p < 2 ^ 32 }
-    ensures next { result ≡ p + 2 * cond test 1 0 }
-    ensures content { out.new ≡ put p (les 2 (cond test (id ∷ []) [])) out.old }
-{
-    if test {
-        stores::put_le(out, p, 2, id as u64);
-        return p + 2;
-    }
-    p
-}
-
 // The numbers of the polygons that meet the leaf with the quarter box q.
 fn put_ids(out: &mut [u8], at: usize, boxes: &[u32], q: QuarterBox)
     requires { at + 2 * length (leaf_ids q 0 (boxes_in boxes.now)) < 2 ^ 32 }
     ensures { out.new ≡ put at (les 2 (leaf_ids q 0 (boxes_in boxes.now))) out.old }
 {
-    let polys = boxes.len() / 3;
     let mut p = at;
-    let mut i = 0;
-    while i < polys {
-        p = put_id_if(out, p, meets_at(boxes, 3 * i, q), i);
-        i += 1;
+    for i in 0..boxes.len() / 3 {
+        if meets_at(boxes, 3 * i, q) {
+            stores::put_le(out, p, 2, i as u64);
+            p += 2;
+        }
     }
 }
 
@@ -99,36 +86,14 @@ pub fn lay_ids(out: &mut [u8], l: Layout, boxes: &[u32], b: Aabb, n: usize) -> L
 }
 
 // The point whose record stands at `at`: shorts, angle, kind.
-fn put_point(out: &mut [u8], p: usize, strip: &[u32], at: usize, bb_min: Vec3, bb_size: Vec3)
+fn put_point(out: &mut [u8], p: usize, strip: &[u32], at: usize, frame: Frame)
     requires { at + 4 ≤ length strip.now }
-    ensures { out.new ≡ put p (row_bytes (point_row bb_min bb_size (point_at strip.now at))) out.old }
+    ensures { out.new ≡ put p (row_bytes (point_row frame.bb_min frame.bb_size (point_at strip.now at))) out.old }
 {
-    let position = floats_at(strip, at + 1);
-    let q = quantise::short::shorts_of(position, bb_min, bb_size);
+    let q = frame.shorts_of(floats_at(strip, at + 1));
     let bytes = (strip[at] % 65536) as u16;
     let words = [fields::pair(q.x, q.y), fields::pair(q.z, bytes)];
     stores::put_all(out, p, 4, &words);
-}
-
-// The same, where the test passed. The answer is the place behind it.
-fn put_point_if(
-    out: &mut [u8],
-    p: usize,
-    test: bool,
-    strip: &[u32],
-    at: usize,
-    bb_min: Vec3,
-    bb_size: Vec3,
-) -> usize
-    requires { (p < 2 ^ 32) × (at + 4 ≤ length strip.now) }
-    ensures next { result ≡ p + point_size * cond test 1 0 }
-    ensures content { out.new ≡ put p (cat (point_items bb_min bb_size (cond test (point_at strip.now at ∷ []) []))) out.old }
-{
-    if test {
-        put_point(out, p, strip, at, bb_min, bb_size);
-        return p + POINT_SIZE;
-    }
-    p
 }
 
 // The points that have the leaf k.
@@ -142,17 +107,14 @@ fn put_points<'a>(
 )
     requires { (points.at + 4 * length leaf_numbers.now ≤ length strip.now)
         × (at + point_size * length (picked_from leaf_numbers.now k 0 (points_at strip.now points.at (length leaf_numbers.now))) < 2 ^ 32) }
-    ensures { out.new ≡ put at (cat (point_items points.bb_min points.bb_size (picked_from leaf_numbers.now k 0 (points_at strip.now points.at (length leaf_numbers.now))))) out.old }
+    ensures { out.new ≡ put at (cat (point_items points.frame.bb_min points.frame.bb_size (picked_from leaf_numbers.now k 0 (points_at strip.now points.at (length leaf_numbers.now))))) out.old }
 {
-    let bb_min = points.bb_min;
-    let bb_size = points.bb_size;
-    let mut place = points.at;
     let mut p = at;
-    let mut i = 0;
-    while i < leaf_numbers.len() {
-        p = put_point_if(out, p, leaf_numbers[i] == k, strip, place, bb_min, bb_size);
-        place += 4;
-        i += 1;
+    for (i, leaf) in leaf_numbers.iter().enumerate() {
+        if *leaf == k {
+            put_point(out, p, strip, points.at + 4 * i, points.frame);
+            p += POINT_SIZE;
+        }
     }
 }
 
@@ -168,7 +130,7 @@ pub fn lay_points<'a>(
 ) -> Layout
     requires { (points.at + 4 * length leaf_numbers.now ≤ length strip.now)
         × (n ≡ length (picked_from leaf_numbers.now k 0 (points_at strip.now points.at (length leaf_numbers.now)))) × (n ≤ 2048) × (end_of l.at (size_of (point_size * n)) < 2 ^ 28) }
-    ensures { Laid l (block_of (cat (point_items points.bb_min points.bb_size (picked_from leaf_numbers.now k 0 (points_at strip.now points.at (length leaf_numbers.now)))))) result out.old out.new }
+    ensures { Laid l (block_of (cat (point_items points.frame.bb_min points.frame.bb_size (picked_from leaf_numbers.now k 0 (points_at strip.now points.at (length leaf_numbers.now)))))) result out.old out.new }
 {
     if n == 0 {
         return l;

@@ -13,7 +13,6 @@ use Rattle.fields.proofs.Bytes.{le_address, le_pair, zero_words}
 use Rattle.quarters.specs.Quarter.{quarter_floor, quarter_ceil, bits16}
 use Rattle.quarters.specs.declared.bounds.Aabb.{Aabb}
 use Rattle.quarters.proofs.Quarters.{side_read}
-use Rattle.write_pages.specs.Items.{floats}
 use Rattle.write_pages.specs.Sectors.{nan_word, sector_row}
 
 -- an axis of a quarter box, as a word and as two fields

@@ -30,17 +30,15 @@ pub struct SectorCursor {
 pub fn put_sector(out: &mut [u8], at: usize, b: Aabb, data: u32, s0: u32, s1: u32, s2: u32, s3: u32)
     ensures { out.new ≡ put at (row_bytes (sector_row b «data» s0 s1 s2 s3)) out.old }
 {
-    let min = b.min;
-    let max = b.max;
-    let q = quarter_box(min, max);
+    let q = quarter_box(b.min, b.max);
     let words = [
-        bits_of_float(min.x),
-        bits_of_float(min.y),
-        bits_of_float(min.z),
+        bits_of_float(b.min.x),
+        bits_of_float(b.min.y),
+        bits_of_float(b.min.z),
         NAN,
-        bits_of_float(max.x),
-        bits_of_float(max.y),
-        bits_of_float(max.z),
+        bits_of_float(b.max.x),
+        bits_of_float(b.max.y),
+        bits_of_float(b.max.z),
         NAN,
         quarter_pair(q.x_min, q.x_max),
         quarter_pair(q.y_min, q.y_max),
@@ -74,25 +72,22 @@ pub fn write_leaf<'a>(
 ) -> SectorCursor
     requires leaf_bound { (cursor.leaf + 1 < 2 ^ 32) × (points.at + 4 * length leaf_numbers.now ≤ length strip.now) }
     requires tree_room { TreeRoom (tree_in boxes.now leaf_numbers.now strip.now points.at 0 cursor.leaf b) cursor.layout.at cursor.first }
-    ensures { Wrote points.bb_min points.bb_size (tree_in boxes.now leaf_numbers.now strip.now points.at 0 cursor.leaf b) 1 cursor result out.old out.new }
+    ensures { Wrote points.frame.bb_min points.frame.bb_size (tree_in boxes.now leaf_numbers.now strip.now points.at 0 cursor.leaf b) 1 cursor result out.old out.new }
 {
-    let leaf = cursor.leaf;
-    let first = cursor.first;
-    let l = cursor.layout;
     let m = leaf_ids(boxes, b);
-    let n = count_points(leaf_numbers, leaf);
-    let at = write_blocks::pad(out, l, SECTOR_SIZE);
-    let l1 = l.alloc(SECTOR_SIZE);
+    let n = count_points(leaf_numbers, cursor.leaf);
+    let at = write_blocks::pad(out, cursor.layout, SECTOR_SIZE);
+    let l1 = cursor.layout.alloc(SECTOR_SIZE);
     let l2 = lay_ids(out, l1, boxes, b, m);
-    let l3 = lay_points(out, l2, leaf_numbers, strip, points, leaf, n);
+    let l3 = lay_points(out, l2, leaf_numbers, strip, points, cursor.leaf, n);
     let ids_at = address_of(l1, 2 * m);
     let points_at = address_of(l2, POINT_SIZE * n);
-    let l4 = lay_data(out, l3, first, ids_at, points_at, m as u16, n as u16);
+    let l4 = lay_data(out, l3, cursor.first, ids_at, points_at, m as u16, n as u16);
     let data_at = address_of(l3, SECTOR_DATA_SIZE);
     put_sector(out, at, b, data_at, 0, 0, 0, 0);
     SectorCursor {
         layout: l4,
-        leaf: leaf + 1,
-        first: first + n as u32,
+        leaf: cursor.leaf + 1,
+        first: cursor.first + n as u32,
     }
 }

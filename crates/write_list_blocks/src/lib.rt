@@ -1,19 +1,20 @@
 // The blocks of a list: its header, part table, the items' parts and the offsets; where they end, and what stands in those that hold no items.
 #![tactic(auto)]
 
-ghost use Rattle.std.specs.Prelude.{◌≡◌, [], ◌∷◌, ◌+◌, ◌*◌, ◌^◌, ◌≤◌, ◌<◌};
+ghost use Rattle.std.specs.Prelude.{◌≡◌, [], ◌∷◌, ◌+◌, ◌*◌, ◌^◌, ◌≤◌, ◌<◌, length};
+ghost use Rattle.std.specs.Iterator.{YieldsFirst, item_count};
 ghost use Rattle.fields.specs.Bytes.{les};
 ghost use Rattle.fields.specs.Put.{put};
 ghost use Rattle.fields.specs.Rows.{row_bytes};
 ghost use Rattle.fields.specs.Sizes.{list_part_size, list_size};
 ghost use Rattle.write_blocks.specs.Layout.{behind, end_of, address};
-ghost use Rattle.write_blocks.specs.Laid.{reached, Laid};
-ghost use Rattle.write_blocks.specs.Lists.{part_size, per_part, part_count, part_counts, firsts, sizes, part_sizes, offset_sizes, list_sizes, table_at, list_row, part_row, table_bytes, front_blocks, offset_blocks};
+ghost use Rattle.write_blocks.specs.Laid.{reached, sum_of, Laid};
+ghost use Rattle.write_blocks.specs.Lists.{per_part, part_count, part_counts, firsts, sizes, part_sizes, offset_sizes, list_sizes, table_at, list_row, part_row, table_bytes, front_blocks, offset_blocks};
 ghost use Rattle.write_blocks.specs.ListRoom.{ListRoom};
+ghost use Rattle.write_list_blocks.specs.Parts.{counts_left, split};
 
-use fields::least;
 use fields::sizes::{LIST_PART_SIZE, LIST_SIZE};
-use write_blocks::{Layout, SYSTEM_BASE, address_of, pad};
+use write_blocks::{Layout, address, address_of, pad};
 
 // A part's items take at most a page.
 pub const PART_SIZE: usize = 16384;
@@ -29,22 +30,57 @@ pub fn part_count(w: usize, n: usize) -> usize
     if per == 0 {
         return 0;
     }
-    n / per + (n % per + (per - 1)) / per
+    n.div_ceil(per)
 }
 
-// The layout behind the items of k parts, `per` to a part, of n items of w bytes.
-fn parts_end(l: Layout, w: usize, per: usize, k: usize, n: usize) -> Layout
-    requires { (w * per ≤ part_size) × (end_of l.at (sizes w (part_counts k per n)) < 2 ^ 28) }
-    ensures { result ≡ reached l (sizes w (part_counts k per n)) }
+// The parts of a list, one after the other: how many items each has, which is `per`, and in the last what is left.
+#[derive(Clone, Copy)]
+pub struct Parts {
+    count: usize,
+    per: usize,
+    items: usize,
+}
+
+impl Parts {
+    // Those of n items of w bytes.
+    pub fn new(w: usize, n: usize) -> Self
+        requires { 1 ≤ w }
+        ensures { result ≡ split w n }
+    {
+        Self {
+            count: part_count(w, n),
+            per: PART_SIZE / w,
+            items: n,
+        }
+    }
+}
+
+impl Iterator for Parts {
+    type Item = usize;
+
+    ghost next_gives = { YieldsFirst counts_left };
+
+    ghost remaining = { item_count counts_left };
+
+    fn next(&mut self) -> Option<usize> {
+        if self.count == 0 {
+            return None;
+        }
+        let m = self.per.min(self.items);
+        self.count -= 1;
+        self.items -= m;
+        Some(m)
+    }
+}
+
+// The layout behind the items of the parts, w bytes to an item.
+fn parts_end(l: Layout, w: usize, parts: Parts) -> Layout
+    requires { end_of l.at (sizes w (counts_left parts)) < 2 ^ 28 }
+    ensures { result ≡ reached l (sizes w (counts_left parts)) }
 {
     let mut next = l;
-    let mut left = n;
-    let mut i = 0;
-    while i < k {
-        let m = least(per, left);
+    for m in parts {
         next = next.alloc(w * m);
-        left -= m;
-        i += 1;
     }
     next
 }
@@ -54,45 +90,35 @@ fn put_part(out: &mut [u8], at: usize, start: usize, m: usize)
     requires { (start < 2 ^ 28) × (m < 2 ^ 32) }
     ensures { out.new ≡ put at (row_bytes (part_row start m)) out.old }
 {
-    let words = [(SYSTEM_BASE + start) as u32, 0, m as u32, 0];
+    let words = [address(start), 0, m as u32, 0];
     stores::put_all(out, at, 4, &words);
 }
 
-// The part table of k parts whose items are laid out from l on.
-fn put_table(out: &mut [u8], at: usize, l: Layout, w: usize, per: usize, k: usize, n: usize)
-    requires { (w * per ≤ part_size) × (n < 2 ^ 32) × (end_of l.at (sizes w (part_counts k per n)) < 2 ^ 28) × (at + list_part_size * k < 2 ^ 28) }
-    ensures { out.new ≡ put at (table_bytes w l.at (part_counts k per n)) out.old }
+// The part table of the parts, whose items are laid out from l on.
+fn put_table(out: &mut [u8], at: usize, l: Layout, w: usize, parts: Parts)
+    requires { (sum_of (counts_left parts) < 2 ^ 32) × (end_of l.at (sizes w (counts_left parts)) < 2 ^ 28) × (at + list_part_size * length (counts_left parts) < 2 ^ 28) }
+    ensures { out.new ≡ put at (table_bytes w l.at (counts_left parts)) out.old }
 {
     let mut entry = at;
     let mut next = l;
-    let mut left = n;
-    let mut i = 0;
-    while i < k {
-        let m = least(per, left);
+    for m in parts {
         put_part(out, entry, next.start(w * m), m);
         next = next.alloc(w * m);
         entry += LIST_PART_SIZE;
-        left -= m;
-        i += 1;
     }
 }
 
 // Each part's first item number.
-fn put_offsets(out: &mut [u8], at: usize, per: usize, k: usize, n: usize)
-    requires { at + 4 * k < 2 ^ 28 }
-    ensures { out.new ≡ put at (les 4 (firsts 0 (part_counts k per n))) out.old }
+fn put_offsets(out: &mut [u8], at: usize, parts: Parts)
+    requires { (sum_of (counts_left parts) < 2 ^ 32) × (at + 4 * length (counts_left parts) < 2 ^ 28) }
+    ensures { out.new ≡ put at (les 4 (firsts 0 (counts_left parts))) out.old }
 {
     let mut entry = at;
     let mut first = 0;
-    let mut left = n;
-    let mut i = 0;
-    while i < k {
-        let m = least(per, left);
+    for m in parts {
         stores::put_le(out, entry, 4, first as u64);
         entry += 4;
         first += m;
-        left -= m;
-        i += 1;
     }
 }
 
@@ -110,47 +136,57 @@ fn lay_list_header(
     ensures { Laid l (row_bytes (list_row vft n (address table) offsets k) ∷ []) result out.old out.new }
 {
     let start = pad(out, l, LIST_SIZE);
-    let table_word = (SYSTEM_BASE + table) as u32;
     let words = [
-        vft, 1, n as u32, 0, table_word, 0, offsets, 0, k as u32, 0, 0, 0,
+        vft,
+        1,
+        n as u32,
+        0,
+        address(table),
+        0,
+        offsets,
+        0,
+        k as u32,
+        0,
+        0,
+        0,
     ];
     stores::put_all(out, start, 4, &words);
     l.alloc(LIST_SIZE)
 }
 
 // A part table, and behind it the parts' items.
-fn lay_table(out: &mut [u8], l: Layout, w: usize, per: usize, k: usize, n: usize) -> Layout
-    requires { (w * per ≤ part_size) × (n < 2 ^ 32) × (end_of (behind l.at (list_part_size * k)) (sizes w (part_counts k per n)) < 2 ^ 28) }
-    ensures { Laid l (table_bytes w (behind l.at (list_part_size * k)) (part_counts k per n) ∷ []) result out.old out.new }
+fn lay_table(out: &mut [u8], l: Layout, w: usize, parts: Parts) -> Layout
+    requires { (sum_of (counts_left parts) < 2 ^ 32) × (end_of (behind l.at (list_part_size * parts.count)) (sizes w (counts_left parts)) < 2 ^ 28) }
+    ensures { Laid l (table_bytes w (behind l.at (list_part_size * parts.count)) (counts_left parts) ∷ []) result out.old out.new }
 {
-    let start = pad(out, l, LIST_PART_SIZE * k);
-    let next = l.alloc(LIST_PART_SIZE * k);
-    put_table(out, start, next, w, per, k, n);
+    let size = LIST_PART_SIZE * parts.count;
+    let start = pad(out, l, size);
+    let next = l.alloc(size);
+    put_table(out, start, next, w, parts);
     next
 }
 
-// Where the pieces of a list stand: how many parts it has, where its part table starts, and the layout behind its items.
+// Where the pieces of a list stand: its parts, where their table starts, and the layout behind the items.
 #[derive(Clone, Copy)]
 struct Places {
-    parts: usize,
+    parts: Parts,
     table: usize,
     items: Layout,
 }
 
 fn list_places(l: Layout, w: usize, n: usize) -> Places
     requires { ListRoom l.at w n (list_sizes w n) }
-    ensures parts { result.parts ≡ part_count w n }
+    ensures parts { result.parts ≡ split w n }
     ensures table { result.table ≡ table_at l.at (part_count w n) }
     ensures items { result.items ≡ reached l (list_size ∷ list_part_size * part_count w n ∷ part_sizes w n) }
 {
-    let k = part_count(w, n);
+    let parts = Parts::new(w, n);
     let header = l.alloc(LIST_SIZE);
-    let table = header.start(LIST_PART_SIZE * k);
-    let items = parts_end(header.alloc(LIST_PART_SIZE * k), w, PART_SIZE / w, k, n);
+    let size = LIST_PART_SIZE * parts.count;
     Places {
-        parts: k,
-        table: table,
-        items: items,
+        parts,
+        table: header.start(size),
+        items: parts_end(header.alloc(size), w, parts),
     }
 }
 
@@ -160,7 +196,7 @@ pub fn list_end(l: Layout, w: usize, n: usize) -> Layout
     ensures { result ≡ reached l (list_sizes w n) }
 {
     let p = list_places(l, w, n);
-    p.items.alloc_some(4 * p.parts)
+    p.items.alloc_some(4 * p.parts.count)
 }
 
 // What stands before the items of a list: its header and its part table.
@@ -169,9 +205,9 @@ pub fn lay_list_front(out: &mut [u8], l: Layout, vft: u32, w: usize, n: usize) -
     ensures { Laid l (front_blocks l.at vft w n) result out.old out.new }
 {
     let p = list_places(l, w, n);
-    let offsets = address_of(p.items, 4 * p.parts);
-    let next = lay_list_header(out, l, vft, n, p.table, offsets, p.parts);
-    lay_table(out, next, w, PART_SIZE / w, p.parts, n)
+    let offsets = address_of(p.items, 4 * p.parts.count);
+    let next = lay_list_header(out, l, vft, n, p.table, offsets, p.parts.count);
+    lay_table(out, next, w, p.parts)
 }
 
 // What stands behind the items of a list: the offsets, if it has a part.
@@ -179,11 +215,12 @@ pub fn lay_offsets(out: &mut [u8], l: Layout, w: usize, n: usize) -> Layout
     requires { ListRoom l.at w n (offset_sizes (part_count w n)) }
     ensures { Laid l (offset_blocks (part_counts (part_count w n) (per_part w) n)) result out.old out.new }
 {
-    let k = part_count(w, n);
-    if k == 0 {
+    let parts = Parts::new(w, n);
+    if parts.count == 0 {
         return l;
     }
-    let start = pad(out, l, 4 * k);
-    put_offsets(out, start, PART_SIZE / w, k, n);
-    l.alloc(4 * k)
+    let size = 4 * parts.count;
+    let start = pad(out, l, size);
+    put_offsets(out, start, parts);
+    l.alloc(size)
 }

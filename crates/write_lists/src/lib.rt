@@ -25,16 +25,15 @@ use fields::sizes::{
     POLY_SIZE, VERTEX_SIZE,
 };
 use write_blocks::Layout;
-use write_list_blocks::PART_SIZE;
+use write_list_blocks::Parts;
 
-// An item of w bytes: `whole` words from `from` on, and what is left of it from the next word.
-fn put_item(words: &[u32], from: usize, whole: usize, w: usize, out: &mut [u8], at: usize)
-    requires { (from + whole < length words.now) × (4 * whole ≤ w) × (at + w < 2 ^ 28) }
-    ensures { out.new ≡ put at (item_of whole w (drop from words.now)) out.old }
+// An item of w bytes: the first `whole` of its words, and what is left of it from the next word.
+fn put_item(item: &[u32], whole: usize, w: usize, out: &mut [u8], at: usize)
+    requires { (whole < length item.now) × (4 * whole ≤ w) × (at + w < 2 ^ 28) }
+    ensures { out.new ≡ put at (item_of whole w item.now) out.old }
 {
-    let mid = from + whole;
-    stores::put_all(out, at, 4, &words[from..mid]);
-    stores::put_le(out, at + 4 * whole, w - 4 * whole, words[mid] as u64);
+    stores::put_all(out, at, 4, &item[..whole]);
+    stores::put_le(out, at + 4 * whole, w - 4 * whole, u64::from(item[whole]));
 }
 
 // The items of a part, m of them.
@@ -50,14 +49,12 @@ fn put_items(
     requires { (from + (whole + 1) * m ≤ length words.now) × (4 * whole ≤ w) × (at + w * m < 2 ^ 28) }
     ensures { out.new ≡ put at (cat (items_in whole w m (drop from words.now))) out.old }
 {
-    let mut item = from;
+    let size = whole + 1;
+    let end = from + size * m;
     let mut place = at;
-    let mut left = m;
-    while 0 < left {
-        put_item(words, item, whole, w, out, place);
-        item += whole + 1;
+    for item in words[from..end].chunks_exact(size) {
+        put_item(item, whole, w, out, place);
         place += w;
-        left -= 1;
     }
 }
 
@@ -92,18 +89,11 @@ fn lay_items(
     requires { (base + (whole + 1) * n ≤ length words.now) × (4 * whole ≤ w) × ListRoom l.at w n (part_sizes w n) }
     ensures { Laid l (parts_of w n (items_in whole w n (drop base words.now))) result out.old out.new }
 {
-    let per = PART_SIZE / w;
-    let k = write_list_blocks::part_count(w, n);
     let mut next = l;
     let mut from = base;
-    let mut left = n;
-    let mut i = 0;
-    while i < k {
-        let m = fields::least(per, left);
+    for m in Parts::new(w, n) {
         next = lay_part(out, next, words, from, m, whole, w);
         from += (whole + 1) * m;
-        left -= m;
-        i += 1;
     }
     next
 }
@@ -159,8 +149,7 @@ pub fn lay_edges(
     ensures laid { Laid l (list_blocks l.at list_vft_edges edge_size (edge_items (area_ids areas) (corners_at strip.now n))) result out.old out.new }
     ensures made { work.new ≡ put base (edge_words (area_ids areas) (corners_at strip.now n)) work.old }
 {
-    let ids = areas.ids;
-    write_edges::put_edges(strip, n, &ids, areas.len, work, base);
+    write_edges::put_edges(strip, n, &areas.ids, areas.len, work, base);
     write_list(out, l, LIST_VFT_EDGES, work, base, corners, 1, EDGE_SIZE)
 }
 

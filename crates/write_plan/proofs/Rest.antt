@@ -9,6 +9,8 @@ use lib.Seq.{get_or-append-add}
 use Rattle.fields.specs.Put.{put}
 use Rattle.fields.proofs.Puts.{put_next}
 use Rattle.quarters.specs.declared.bounds.Aabb.{Aabb}
+use Rattle.std.specs.Prelude.{Result}
+use Rattle.strip.specs.declared.Refusal.{Refusal}
 use Rattle.strip.specs.Cell.{NavPoly, NavPoint}
 use Rattle.strip.specs.Reading.{word, poly_at, point_at, head_at}
 use Rattle.strip.specs.Rows.{after, polygons_at, after_polygons, points_at}
@@ -22,7 +24,6 @@ use Rattle.write_pages.specs.Sectors.{Sector, leaf_of, leaves, depth_of, root_bo
 use Rattle.write_pages.specs.Checks.{leaves_verdict}
 use Rattle.write_leaf_counts.specs.Work.{tree_by, BoxesHeld, LeavesHeld}
 use Rattle.write_leaf_checks.specs.FirstRefused.{FirstRefused}
-use Rattle.write_leaf_checks.specs.declared.LeafCheck.{LeafCheck}
 use Rattle.write_leaf_counts.proofs.Held.{tree_held}
 use Rattle.write_decide.specs.Decide.{work_places}
 use Rattle.write_decide.specs.declared.WorkPlaces.{WorkPlaces}
@@ -126,7 +127,7 @@ module _ (s w : List ℕ) (n : Counts) (held : WorkHeld s n w) (p : WorkPlaces) 
       let size : length box_part ≡ 3 * length ps = rw box_part_lem (length_boxes ps) in
       ap (λ (c : Aabb). tree_by box_part leaf_part ts (depth_of (head_at s 0).content) 0 c) root ∙ tree_held (head_at s 0) ps ts box_part leaf_part size boxes-are leaves-are
 
-  pub leaf_told : (b : Aabb) (d : ℕ) (r : LeafCheck) → b ≡ root_box (head_at s 0) → d ≡ depth_of (word s 1)
+  pub leaf_told : (b : Aabb) (d : ℕ) (r : Result (Unit {0}) Refusal) → b ≡ root_box (head_at s 0) → d ≡ depth_of (word s 1)
       → ((ts : List NavPoint) → length ts ≡ length leaf_part → FirstRefused r 0 (leaf_counts (tree_by box_part leaf_part ts d 0 b)))
       → FirstRefused r 0 (leaf_counts (tree_of (head_at s 0) (polygons_at s 14 n.polys) (points_in s n)))
   leaf_told b d r root deep tells rest =

@@ -64,63 +64,64 @@ unfolding box_words
 length_box q = refl
 
 -- before polygon i, at `at`: what is left, stored from here, makes the whole
-pub record Boxing (s : List ℕ) (n base : ℕ) (w₀ w : List ℕ) (at place i : ℕ) : Type 0 where
+pub record Boxing (s : List ℕ) (n base : ℕ) (w₀ w : List ℕ) (at i : ℕ) : Type 0 where
   pub within : i ≤ n
   pub inside : after_polygons s at (n - i) ≤ length s
-  pub here : place ≡ base + 3 * i
   pub long : length w ≡ length w₀
-  pub left : put place (boxes (polygons_at s at (n - i))) w ≡ put base (boxes (polygons_at s 14 n)) w₀
+  pub left : put (base + 3 * i) (boxes (polygons_at s at (n - i))) w ≡ put base (boxes (polygons_at s 14 n)) w₀
 
 module _ (s : List ℕ) (n base : ℕ) (w₀ : List ℕ) where
-  pub boxing_start : after_polygons s 14 n ≤ length s → Boxing s n base w₀ w₀ 14 base 0
-  boxing_start h = record { within = omega arith; inside = rw (sub-zero n) h; here = omega arith; long = refl; left = rw (sub-zero n) }
+  pub boxing_start : after_polygons s 14 n ≤ length s → Boxing s n base w₀ w₀ 14 0
+  boxing_start h = record { within = omega arith; inside = rw (sub-zero n) h; long = refl; left = rw (sub-zero n, add-zero base) }
 
-  module _ (w : List ℕ) (at place i : ℕ) (g : Boxing s n base w₀ w at place i) where
+  module _ (w : List ℕ) (at i : ℕ) (g : Boxing s n base w₀ w at i) where
     module _ (h : i < n) (p : Poly) (e : p ≡ poly_at s at) where
       pub box_next : p.next ≤ length s
       box_next = next_inside s at i n (length s) h g.inside p e
 
-      pub boxing_turn : (w' : List ℕ) → w' ≡ put place (box_words (box_of (polygon_of s p))) w → Boxing s n base w₀ w' p.next (place + 3) (i + 1)
+      pub boxing_turn : (w' : List ℕ) → w' ≡ put (base + 3 * i) (box_words (box_of (polygon_of s p))) w → Boxing s n base w₀ w' p.next (i + 1)
       unfolding gather
-      boxing_turn w' ew = record {
-        within = omega arith;
-        inside = omega (arith, after_polygon s at i n h p e, g.inside);
-        here = omega (arith, g.here);
-        long = rw ew (length_put place (box_words (box_of (polygon_of s p))) w) ∙ g.long;
-        left = rw ew (put_next 3 place (box_words (box_of (polygon_of s p))) (boxes (polygons_at s p.next (n - (i + 1)))) w (length_box (box_of (polygon_of s p))))
-            ∙ ap (λ (ps : List NavPoly). put place (boxes ps) w) (sym (polygons_turn s at i n h p e)) ∙ g.left;
-      }
+      boxing_turn w' ew =
+          let place : ℕ = base + 3 * i in
+          let on : base + 3 * (i + 1) ≡ place + 3 = omega arith in
+          record {
+            within = omega arith;
+            inside = omega (arith, after_polygon s at i n h p e, g.inside);
+            long = rw ew (length_put place (box_words (box_of (polygon_of s p))) w) ∙ g.long;
+            left = rw (on, ew) (put_next 3 place (box_words (box_of (polygon_of s p))) (boxes (polygons_at s p.next (n - (i + 1)))) w (length_box (box_of (polygon_of s p))))
+                ∙ ap (λ (ps : List NavPoly). put place (boxes ps) w) (sym (polygons_turn s at i n h p e)) ∙ g.left;
+          }
 
     pub boxing_done : n ≤ i → w ≡ put base (boxes (polygons_at s 14 n)) w₀
     unfolding gather
-    boxing_done h = sym (put_nil place w) ∙ ap (λ (ps : List NavPoly). put place (boxes ps) w) (sym (items_done (polygon_at s) (λ x. (poly_at s x).next) at i n h)) ∙ g.left
+    boxing_done h = sym (put_nil (base + 3 * i) w) ∙ ap (λ (ps : List NavPoly). put (base + 3 * i) (boxes ps) w) (sym (items_done (polygon_at s) (λ x. (poly_at s x).next) at i n h)) ∙ g.left
 
 -- ---- points
 
--- before point i, at `at`
-pub record Leafing (s : List ℕ) (bs : List Aabb) (first n base : ℕ) (w₀ w : List ℕ) (at i : ℕ) : Type 0 where
+-- before point i
+pub record Leafing (s : List ℕ) (bs : List Aabb) (first n base : ℕ) (w₀ w : List ℕ) (i : ℕ) : Type 0 where
   pub within : i ≤ n
-  pub here : at ≡ first + 4 * i
   pub long : length w ≡ length w₀
-  pub left : put (base + i) (leaf_words bs (points_at s at (n - i))) w ≡ put base (leaf_words bs (points_at s first n)) w₀
+  pub left : put (base + i) (leaf_words bs (points_at s (first + 4 * i) (n - i))) w ≡ put base (leaf_words bs (points_at s first n)) w₀
 
 module _ (s : List ℕ) (bs : List Aabb) (first n base : ℕ) (w₀ : List ℕ) where
-  pub leafing_start : Leafing s bs first n base w₀ w₀ first 0
-  leafing_start = record { within = omega arith; here = omega arith; long = refl; left = rw (sub-zero n, add-zero base) }
+  pub leafing_start : Leafing s bs first n base w₀ w₀ 0
+  leafing_start = record { within = omega arith; long = refl; left = rw (sub-zero n, add-zero base, add-zero first) }
 
-  module _ (w : List ℕ) (at i : ℕ) (g : Leafing s bs first n base w₀ w at i) where
-    pub leafing_turn : i < n → (k : ℕ) → k ≡ leaf_of bs (floats (vec_at s (at + 1))) → Leafing s bs first n base w₀ (set w (base + i) k) (at + 4) (i + 1)
+  module _ (w : List ℕ) (i : ℕ) (g : Leafing s bs first n base w₀ w i) where
+    pub leafing_turn : i < n → (k : ℕ) → k ≡ leaf_of bs (floats (vec_at s (first + 4 * i + 1))) → Leafing s bs first n base w₀ (set w (base + i) k) (i + 1)
     unfolding leaf_words point_at
     leafing_turn h k ek =
+        let at : ℕ = first + 4 * i in
         let sum : base + (i + 1) ≡ suc (base + i) = omega arith in
+        let on : first + 4 * (i + 1) ≡ at + 4 = omega arith in
         record {
           within = omega arith;
-          here = omega (arith, g.here);
           long = rw (← put_one (base + i) k w) (length_put (base + i) (k ∷ []) w) ∙ g.long;
-          left = rw (sum, ek) (sym (put_cons (base + i) (leaf_of bs (floats (vec_at s (at + 1)))) (leaf_words bs (points_at s (at + 4) (n - (i + 1)))) w))
+          left = rw (sum, on, ek) (sym (put_cons (base + i) (leaf_of bs (floats (vec_at s (at + 1)))) (leaf_words bs (points_at s (at + 4) (n - (i + 1)))) w))
               ∙ ap (λ (ts : List NavPoint). put (base + i) (leaf_words bs ts) w) (sym (items_turn (point_at s) (λ x. x + 4) at i n h)) ∙ g.left;
         }
 
     pub leafing_done : n ≤ i → w ≡ put base (leaf_words bs (points_at s first n)) w₀
     unfolding leaf_words
-    leafing_done h = sym (put_nil (base + i) w) ∙ ap (λ (ts : List NavPoint). put (base + i) (leaf_words bs ts) w) (sym (items_done (point_at s) (λ x. x + 4) at i n h)) ∙ g.left
+    leafing_done h = sym (put_nil (base + i) w) ∙ ap (λ (ts : List NavPoint). put (base + i) (leaf_words bs ts) w) (sym (items_done (point_at s) (λ x. x + 4) (first + 4 * i) i n h)) ∙ g.left

@@ -5,13 +5,14 @@ use mathlib.Core.Path.{◌≡◌, refl}
 use mathlib.Core.List.{List, [], ◌∷◌}
 use lib.ListN.{length}
 use lib.Dec.{ltb}
+use Rattle.std.specs.Prelude.{Result, Ok}
+use Rattle.strip.specs.declared.Refusal.{Refusal}
 use Rattle.strip.specs.Cell.{Cell}
 use Rattle.strip.specs.Scan.{Scanned, ok, fault, scan}
 use Rattle.write_pages.specs.Pages.{links, pages}
 use Rattle.write_pages.specs.Checks.{Verdict, fine, refused, fault_if, first_fault, at, cell_verdict}
-use Rattle.write_decide.specs.Decide.{before_leaves, on_scan, decision_then}
-use Rattle.write_polygon_checks.specs.declared.Verdict.TheVariants.{Fine}
-use Rattle.write_decide.specs.declared.Decision.{Decision}
+use Rattle.write_decide.specs.Decide.{before_leaves, on_scan}
+use Rattle.write_polygon_checks.specs.Steps.{says}
 use Rattle.write_plan.specs.Plan.{after_polygon_checks}
 
 last_apart : (a b e : ℕ) (v : Verdict) → at 0 (first_fault (a ∷ b ∷ e ∷ [])) v ≡ at 0 (first_fault (a ∷ b ∷ [])) (at 0 e v)
@@ -28,8 +29,8 @@ whole_verdict words work out c =
     rw (last_apart (fault_if (ltb 585 (length c.portals)) 19) (fault_if (ltb 8192 (length (links c))) 20) (fault_if (ltb out (length (pages c))) 2) fine)
 
 -- an answer without a refusal is of a well-formed strip
-pub scanned_cell : (s : List ℕ) (d : Decision) (f : Cell → Verdict) → decision_then d fine ≡ on_scan f (scan s) → d.verdict ≡ Fine → (c : Cell) × (scan s ≡ ok c)
-scanned_cell s d f said z = by (scan s) refl
+pub scanned_cell : {A : Type 0} (s : List ℕ) (r : Result A Refusal) (f : Cell → Verdict) → says r fine ≡ on_scan f (scan s) → (a : A) → r ≡ Ok a → (c : Cell) × (scan s ≡ ok c)
+scanned_cell s r f said a z = by (scan s) refl
   where
     by : (x : Scanned) → scan s ≡ x → (c : Cell) × (scan s ≡ ok c)
     by (ok c) e = (c, e)

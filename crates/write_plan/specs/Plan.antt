@@ -1,5 +1,5 @@
 -- What the writer's first pass leaves in work behind the tables: three words to a polygon's quarter box, one to a point's leaf. Definitions only.
-use Rattle.std.specs.Prelude.{ℕ, ◌+◌, ◌*◌, ◌≤◌, ◌≡◌, List, [], ◌∷◌, ◌++◌, map, length, take, drop, ltb, ℤ}
+use Rattle.std.specs.Prelude.{ℕ, ◌+◌, ◌*◌, ◌≤◌, ◌≡◌, List, [], ◌∷◌, ◌++◌, map, length, take, drop, ltb, ℤ, Result, Ok}
 use Rattle.quarters.specs.Quarter.{bits16}
 use Rattle.quarters.specs.declared.quarter.QuarterBox.{QuarterBox}
 use Rattle.quarters.specs.declared.bounds.Aabb.{Aabb}
@@ -9,13 +9,12 @@ use Rattle.strip.specs.Rows.{polygons_at, points_at}
 use Rattle.strip.specs.Scan.{ok, scan}
 use Rattle.strip.specs.Laid.{cell_counts, first_point}
 use Rattle.strip.specs.declared.Counts.{Counts}
+use Rattle.strip.specs.declared.Refusal.{Refusal}
 use Rattle.write_pages.specs.Items.{floats, box_of, gather}
 use Rattle.write_pages.specs.Sectors.{leaf_of, leaves, depth_of, root_box, leaf_counts}
 use Rattle.write_pages.specs.Pages.{links, sectors}
 use Rattle.write_pages.specs.Checks.{Verdict, fault_if, first_fault, at, leaves_verdict}
 use Rattle.write_decide.specs.Decide.{before_leaves, on_scan, decision_then, work_places, Tabled}
-use Rattle.write_polygon_checks.specs.declared.Verdict.{Verdict as Said}
-use Rattle.write_polygon_checks.specs.declared.Verdict.TheVariants.{Fine}
 use Rattle.write_decide.specs.declared.Decision.{Decision}
 
 -- two sides in one word, the min below
@@ -55,24 +54,11 @@ unfoldable pub after_polygon_checks : Verdict → Cell → Verdict
 after_polygon_checks rest c =
     leaves_verdict 0 (leaf_counts (sectors c)) (at 0 (first_fault (fault_if (ltb 585 (length c.portals)) 19 ∷ fault_if (ltb 8192 (length (links c))) 20 ∷ [])) rest)
 
--- the decision with another verdict
-abbrev pub judged : Decision → Said → Decision
-judged d v = record {
-  cell = d.cell;
-  counts = d.counts;
-  areas = d.areas;
-  vertices = d.vertices;
-  corners = d.corners;
-  links = d.links;
-  pushed = d.pushed;
-  verdict = v;
-}
-
 -- what `plan` promises
-pub record Planned (s w w' : List ℕ) (r : Decision) : Type 0 where
+pub record Planned (s w w' : List ℕ) (r : Result Decision Refusal) : Type 0 where
   pub verdict : (rest : Verdict) → decision_then r rest ≡ on_scan (λ c. before_leaves (length s) (length w) (after_polygon_checks rest c) c) (scan s)
   pub long : length w' ≡ length w
   pub beyond : drop (2 * length s) w' ≡ drop (2 * length s) w
-  pub tabled : r.verdict ≡ Fine → (c : Cell) → scan s ≡ ok c → Tabled (length s) c.head c.polys w' r
-  pub held : r.verdict ≡ Fine → WorkHeld s r.counts w'
-  pub counts_are : r.verdict ≡ Fine → (c : Cell) → scan s ≡ ok c → r.counts ≡ cell_counts c
+  pub tabled : (d : Decision) → r ≡ Ok d → (c : Cell) → scan s ≡ ok c → Tabled (length s) c.head c.polys w' d
+  pub held : (d : Decision) → r ≡ Ok d → WorkHeld s d.counts w'
+  pub counts_are : (d : Decision) → r ≡ Ok d → (c : Cell) → scan s ≡ ok c → d.counts ≡ cell_counts c

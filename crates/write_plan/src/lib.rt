@@ -13,16 +13,14 @@ ghost use Rattle.cell_record.specs.Record.{record_of};
 ghost use Rattle.write_pages.specs.Items.{box_of};
 ghost use Rattle.write_pages.specs.Sectors.{leaves, depth_of, leaf_counts, tree_of};
 ghost use Rattle.write_leaf_checks.specs.FirstRefused.{FirstRefused};
-ghost use Rattle.write_plan.specs.Plan.{box_words, boxes, leaf_words, points_in, rest_words, WorkHeld, judged, Planned};
+ghost use Rattle.write_plan.specs.Plan.{box_words, boxes, leaf_words, points_in, rest_words, WorkHeld, Planned};
 
 use cell_record::CellRecord;
 use math::vec3::floats_at;
 use quarters::bounds::Aabb;
-use strip::{Counts, Poly, Refusal};
+use strip::{Counts, Poly, Reason, Refusal};
 use write_decide::Decision;
-use write_leaf_checks::LeafCheck;
 use write_leaf_counts::quarter_pair;
-use write_polygon_checks::Verdict;
 
 // A polygon's quarter box, in three words from `at` on.
 fn put_box(strip: &[u32], p: Poly, work: &mut [u32], at: usize)
@@ -40,15 +38,11 @@ fn put_boxes(strip: &[u32], n: usize, work: &mut [u32], base: usize)
     requires { (after_polygons strip.now 14 n ≤ length strip.now) × (base + 3 * n ≤ length work.old) }
     ensures { work.new ≡ put base (boxes (polygons_at strip.now 14 n)) work.old }
 {
-    let mut at: usize = 14;
-    let mut place = base;
-    let mut i: usize = 0;
-    while i < n {
+    let mut at = 14;
+    for i in 0..n {
         let p = strip::poly_at(strip, at);
-        put_box(strip, p, work, place);
+        put_box(strip, p, work, base + 3 * i);
         at = p.next;
-        place += 3;
-        i += 1;
     }
 }
 
@@ -67,13 +61,9 @@ fn put_leaves(
 {
     let depth = write_quadtree::boxes::depth_of(content);
     let lines = write_quadtree::boxes::lines_of(b);
-    let mut at = first;
-    let mut i: usize = 0;
-    while i < n {
-        let p = floats_at(strip, at + 1);
+    for i in 0..n {
+        let p = floats_at(strip, first + 4 * i + 1);
         work[base + i] = write_quadtree::boxes::leaf_of(depth, b, lines, p);
-        at += 4;
-        i += 1;
     }
 }
 
@@ -100,7 +90,12 @@ fn put_rest(strip: &[u32], cell: CellRecord, counts: Counts, work: &mut [u32])
 }
 
 // 17 and 18, by the words behind the tables.
-fn check_leaves(strip: &[u32], cell: CellRecord, counts: Counts, work: &[u32]) -> LeafCheck
+fn check_leaves(
+    strip: &[u32],
+    cell: CellRecord,
+    counts: Counts,
+    work: &[u32],
+) -> Result<(), Refusal>
     requires { (cell ≡ record_of (head_at strip.now 0)) × WorkHeld strip.now counts work.now }
     ensures { FirstRefused result 0 (leaf_counts (tree_of (head_at strip.now 0) (polygons_at strip.now 14 counts.polys) (points_in strip.now counts))) }
 {
@@ -114,63 +109,26 @@ fn check_leaves(strip: &[u32], cell: CellRecord, counts: Counts, work: &[u32]) -
 }
 
 // 19 and 20.
-fn count_verdict(portals: usize, links: usize) -> Verdict
+fn count_verdict(portals: usize, links: usize) -> Result<(), Refusal>
     ensures { VerdictHas result (first_fault (fault_if (ltb 585 portals) 19 ∷ fault_if (ltb 8192 links) 20 ∷ [])) }
 {
     if 585 < portals {
-        return Verdict::Refused(Refusal {
-            number: 19,
-            place: 0,
-        });
+        return Err(Refusal::from(Reason::ManyPortals));
     }
     if 8192 < links {
-        return Verdict::Refused(Refusal {
-            number: 20,
-            place: 0,
-        });
+        return Err(Refusal::from(Reason::ManyLinks));
     }
-    Verdict::Fine
-}
-
-// The decision with another verdict.
-fn with_verdict(d: Decision, verdict: Verdict) -> Decision
-    ensures { result ≡ judged d verdict }
-{
-    let cell = d.cell;
-    let counts = d.counts;
-    let areas = d.areas;
-    Decision {
-        cell,
-        counts,
-        areas,
-        vertices: d.vertices,
-        corners: d.corners,
-        links: d.links,
-        pushed: d.pushed,
-        verdict,
-    }
+    Ok(())
 }
 
 // All decisions before a byte is stored, but for 2: 3, 1, 10, 11, by polygon 12 to 16, by leaf 17 and 18, 19, 20. Of `work` no word behind the
 // first 2 W is changed, for a strip of W words.
-pub fn plan(strip: &[u32], work: &mut [u32]) -> Decision
+pub fn plan(strip: &[u32], work: &mut [u32]) -> Result<Decision, Refusal>
     ensures { Planned strip.now work.old work.new result }
 {
-    let d = write_decide::decide(strip, work);
-    let verdict = d.verdict;
-    match verdict {
-        Verdict::Fine => {
-            let cell = d.cell;
-            let counts = d.counts;
-            put_rest(strip, cell, counts, work);
-            match check_leaves(strip, cell, counts, work) {
-                LeafCheck::Refused(r) => with_verdict(d, Verdict::Refused(r)),
-                LeafCheck::Passed => {
-                    let last = count_verdict(counts.portals, d.links);
-                    with_verdict(d, last)
-                }
-            }
-        }
-        Verdict::Refused(_) => d,
-    }
+    let d = write_decide::decide(strip, work)?;
+    put_rest(strip, d.cell, d.counts, work);
+    check_leaves(strip, d.cell, d.counts, work)?;
+    count_verdict(d.counts.portals, d.links)?;
+    Ok(d)
 }

@@ -9,6 +9,10 @@ use lib.ListN.{length, take, drop, length-append}
 use lib.Dec.{ltb}
 use borrow.Author.Tests.{lt-ltb, le-ltb, ltb-false}
 use Rattle.math.specs.declared.vec3.Vec3.{Vec3 as Floats}
+use Rattle.std.specs.Prelude.{Result, Ok, Err}
+use Rattle.strip.specs.declared.Reason.{Reason}
+use Rattle.strip.specs.declared.Reason.TheVariants.{ManyLinksOfPolygon}
+use Rattle.strip.specs.declared.Refusal.{Refusal}
 use Rattle.strip.specs.Cell.{NavPoly}
 use Rattle.strip.specs.Reading.{poly_at, polygon_of, polygon_at}
 use Rattle.strip.specs.Rows.{polygons_at, after_polygons}
@@ -27,13 +31,10 @@ use Rattle.write_pages.proofs.Accepted.{or_false, triples_append, named_append}
 use Rattle.write_pages.proofs.Firsts.{passed, first_none, first_some, first_last, first_two, at_none}
 use Rattle.write_corner_checks.specs.Steps.{HasFault, TablesReady, Added, CornersDone, behind_table}
 use Rattle.write_polygon_checks.specs.Steps.{run_fault, PolygonDone, PolygonsDone}
-use Rattle.write_corner_checks.specs.declared.Check.{Check}
 use Rattle.write_corner_checks.specs.declared.Tables.{Tables}
-use Rattle.write_corner_checks.specs.declared.TablesAfter.{TablesAfter}
+use Rattle.write_corner_checks.specs.declared.CornersAfter.{CornersAfter}
 use Rattle.write_polygon_checks.specs.declared.Decided.{Decided}
-use Rattle.write_polygon_checks.specs.declared.Verdict.TheVariants.{Fine, Refused}
-use Rattle.write_corner_checks.proofs.Faults.{not_passed, passes, passed_none, refuses, refused_some}
-use Rattle.write_polygon_checks.proofs.Said.{never_both}
+use Rattle.write_corner_checks.proofs.Faults.{not_ok, passes, passed_none, refuses, refused_some}
 use Rattle.write_corner_checks.proofs.Corners.{nothing_added}
 
 -- ---- lists in a row
@@ -57,22 +58,22 @@ module _ (bb-min bb-size : Floats) (w ids : List ℕ) (b m : ℕ) (t : Tables) (
   unfolding polygon_fault
   in_order = first_two _ _ _
 
-  module _ (f : Check) (ef : HasFault f (run_fault (length q.vertices) start)) where
+  module _ {A : Type 0} (f : Result A Reason) (ef : HasFault f (run_fault (length q.vertices) start)) where
     -- nothing was touched
-    pub bad_run : (n : ℕ) → f ≡ Check.Refused n → PolygonDone bb-min bb-size w w ids ids b m t start q (record { tables = t; check = f })
-    bad_run n ne = record {
-      fault = λ place rest. ef place rest ∙ ap (λ (k : ℕ). at place k rest) (sym (in_order ∙ first_some _ _ (refused_some f n _ ef ne).1));
+    pub bad_run : (e : Reason) → f ≡ Err e → PolygonDone bb-min bb-size w w ids ids b m t start q (Err e)
+    bad_run e er = record {
+      fault = λ place rest. (rw er at (ef place rest)) ∙ ap (λ (k : ℕ). at place k rest) (sym (in_order ∙ first_some _ _ (refused_some f _ ef e er).1));
       long = refl;
       back = refl;
-      ready = λ z. not_passed ne z;
-      least = λ z. not_passed ne z;
-      added = λ z. not_passed ne z;
+      ready = λ d z. not_ok refl z;
+      least = λ d z. not_ok refl z;
+      added = λ d z. not_ok refl z;
     }
 
-    module _ (good : f ≡ Check.Passed) (room : start + length q.vertices ≤ m) (w' ids' : List ℕ) (r : TablesAfter) (d : CornersDone w w' ids ids' b m t start (corners_in bb-min bb-size q) r) where
+    module _ (a : A) (good : f ≡ Ok a) (room : start + length q.vertices ≤ m) (w' ids' : List ℕ) (r : Result CornersAfter Reason) (d : CornersDone w w' ids ids' b m t start (corners_in bb-min bb-size q) r) where
       from_corners : polygon_fault bb-min bb-size (met w b t.vertices) (take t.areas ids) start q
           ≡ first_fault (corners_fault (met w b t.vertices) (take t.areas ids) (corners_in bb-min bb-size q) ∷ fault_if (ltb 7 (length q.links)) 16 ∷ [])
-      from_corners = in_order ∙ first_none _ _ (passed_none f _ ef good)
+      from_corners = in_order ∙ first_none _ _ (passed_none f _ ef a good)
 
       long_enough : start + length (corners_in bb-min bb-size q) ≡ start + length q.vertices
       long_enough = omega (arith, length_corners bb-min bb-size q.vertices q.edges)
@@ -80,93 +81,95 @@ module _ (bb-min bb-size : Floats) (w ids : List ℕ) (b m : ℕ) (t : Tables) (
       rest_same : drop m (behind_table w' b m) ≡ drop m (behind_table w b m)
       rest_same = drop_more (start + length (corners_in bb-min bb-size q)) m (omega (arith, long_enough)) (behind_table w' b m) (behind_table w b m) d.back
 
-      pub bad_corner : (n : ℕ) → r.check ≡ Check.Refused n → PolygonDone bb-min bb-size w w' ids ids' b m t start q r
-      bad_corner n ne = record {
-        fault = λ place rest. d.fault place rest ∙ ap (λ (k : ℕ). at place k rest) (sym (from_corners ∙ first_some _ _ (refused_some _ n _ d.fault ne).1));
+      pub bad_corner : (e : Reason) → r ≡ Err e → PolygonDone bb-min bb-size w w' ids ids' b m t start q (Err e)
+      bad_corner e er = record {
+        fault = λ place rest. (rw er at (d.fault place rest)) ∙ ap (λ (k : ℕ). at place k rest) (sym (from_corners ∙ first_some _ _ (refused_some _ _ d.fault e er).1));
         long = d.long;
         back = rest_same;
-        ready = λ z. not_passed ne z;
-        least = λ z. not_passed ne z;
-        added = λ z. not_passed ne z;
+        ready = λ d' z. not_ok refl z;
+        least = λ d' z. not_ok refl z;
+        added = λ d' z. not_ok refl z;
       }
 
-      module _ (none : r.check ≡ Check.Passed) where
+      module _ (after : CornersAfter) (none : r ≡ Ok after) where
         -- only 16 is left
         only_links : polygon_fault bb-min bb-size (met w b t.vertices) (take t.areas ids) start q ≡ fault_if (ltb 7 (length q.links)) 16
-        only_links = from_corners ∙ first_none _ _ (passed_none _ _ d.fault none) ∙ first_last _
+        only_links = from_corners ∙ first_none _ _ (passed_none _ _ d.fault after none) ∙ first_last _
 
-        pub many_links : (n : ℕ) → n ≡ 16 → 7 < length q.links → PolygonDone bb-min bb-size w w' ids ids' b m t start q (record { tables = r.tables; check = Check.Refused n })
-        many_links n en h = record {
-          fault = refuses _ n _ refl (only_links ∙ rw (lt-ltb 7 (length q.links) h) (sym en)) (λ z. omega arith);
+        pub many_links : 7 < length q.links → PolygonDone bb-min bb-size w w' ids ids' b m t start q (Err ManyLinksOfPolygon)
+        many_links h = record {
+          fault = refuses {A = CornersAfter} _ _ ManyLinksOfPolygon refl (only_links ∙ rw (lt-ltb 7 (length q.links) h)) (λ z. omega arith);
           long = d.long;
           back = rest_same;
-          ready = λ z. not_passed refl z;
-          least = λ z. not_passed refl z;
-          added = λ z. not_passed refl z;
+          ready = λ d' z. not_ok refl z;
+          least = λ d' z. not_ok refl z;
+          added = λ d' z. not_ok refl z;
         }
 
-        pub polygon_fine : length q.links ≤ 7 → PolygonDone bb-min bb-size w w' ids ids' b m t start q r
+        pub polygon_fine : length q.links ≤ 7 → PolygonDone bb-min bb-size w w' ids ids' b m t start q (Ok after)
         polygon_fine h = record {
-          fault = passes _ _ none (only_links ∙ rw (le-ltb 7 (length q.links) h));
+          fault = passes _ _ after refl (only_links ∙ rw (le-ltb 7 (length q.links) h));
           long = d.long;
           back = rest_same;
-          ready = λ z. rw long_enough at d.ready;
-          least = λ z. ltb-false (length q.vertices) 3 (or_false _ _ (passed (ltb (length q.vertices) 3 || ltb 2047 (length q.vertices)) 11 _ (passed_none f _ ef good))).0;
-          added = λ z. d.added z;
+          ready = λ d' z. rw (long_enough, d.counted d' (none ∙ z)) at d.ready;
+          least = λ d' z. ltb-false (length q.vertices) 3 (or_false _ _ (passed (ltb (length q.vertices) 3 || ltb 2047 (length q.vertices)) 11 _ (passed_none f _ ef a good))).0;
+          added = λ d' z. d.added d' (none ∙ z);
         }
 
 -- ---- all polygons
 
 module _ (bb-min bb-size : Floats) (w ids : List ℕ) (b m : ℕ) (t : Tables) (start k l : ℕ) where
   none_left : (u : ℕ) → TablesReady w ids b m t.vertices start → start ≤ m
-      → PolygonsDone bb-min bb-size w w ids ids b m t start k l [] (record { tables = t; corners = start; links = l; pushed = u; verdict = Fine })
+      → PolygonsDone bb-min bb-size w w ids ids b m t start k l [] (Ok (record { tables = t; corners = start; links = l; pushed = u }))
   unfolding polygons_verdict gather
-  none_left u r h = record {
-    verdict = λ rest. refl;
-    long = refl;
-    back = refl;
-    ready = λ z. r;
-    few = λ z. h;
-    many = λ z. omega arith;
-    corner_count = λ z. sym (add-zero start);
-    link_count = λ z. sym (add-zero l);
-    added = λ z. nothing_added w ids b m t start;
-  }
+  none_left u r h =
+      let e : Decided = record { tables = t; corners = start; links = l; pushed = u } in
+      let same : (d : Decided) → ◌≡◌ {A = Result Decided Refusal} (Ok e) (Ok d) → e ≡ d = λ d z. cc in
+      record {
+        verdict = λ rest. refl;
+        long = refl;
+        back = refl;
+        ready = λ d z. rw (← same d z) r;
+        few = λ d z. rw (← same d z) h;
+        many = λ d z. rw (← same d z) (omega arith);
+        corner_count = λ d z. rw (← same d z) (sym (add-zero start));
+        link_count = λ d z. rw (← same d z) (sym (add-zero l));
+        added = λ d z. rw (← same d z) (nothing_added w ids b m t start);
+      }
 
-  module _ (w' ids' : List ℕ) (p : NavPoly) (ps : List NavPoly) (r : TablesAfter) (d : PolygonDone bb-min bb-size w w' ids ids' b m t start p r) where
-    stopped : (u n : ℕ) → r.check ≡ Check.Refused n
-        → PolygonsDone bb-min bb-size w w' ids ids' b m t start k l (p ∷ ps) (record { tables = r.tables; corners = start; links = l; pushed = u; verdict = Refused (record { number = n; place = k }) })
+  module _ (w' ids' : List ℕ) (p : NavPoly) (ps : List NavPoly) (r : Result CornersAfter Reason) (d : PolygonDone bb-min bb-size w w' ids ids' b m t start p r) where
+    stopped : (e : Reason) → r ≡ Err e → PolygonsDone bb-min bb-size w w' ids ids' b m t start k l (p ∷ ps) (Err (record { reason = e; place = k }))
     unfolding polygons_verdict
-    stopped u n en = record {
-      verdict = λ rest. rw en at (d.fault k (polygons_verdict bb-min bb-size (distinct_from (met w b t.vertices) (triples (corners_in bb-min bb-size p))) (distinct_from (take t.areas ids) (named (corners_in bb-min bb-size p))) (start + length p.vertices) (k + 1) ps rest));
+    stopped e er = record {
+      verdict = λ rest. rw er at (d.fault k (polygons_verdict bb-min bb-size (distinct_from (met w b t.vertices) (triples (corners_in bb-min bb-size p))) (distinct_from (take t.areas ids) (named (corners_in bb-min bb-size p))) (start + length p.vertices) (k + 1) ps rest));
       long = d.long;
       back = d.back;
-      ready = λ z. never_both _ _ refl z;
-      few = λ z. never_both _ _ refl z;
-      many = λ z. never_both _ _ refl z;
-      corner_count = λ z. never_both _ _ refl z;
-      link_count = λ z. never_both _ _ refl z;
-      added = λ z. never_both _ _ refl z;
+      ready = λ q z. not_ok refl z;
+      few = λ q z. not_ok refl z;
+      many = λ q z. not_ok refl z;
+      corner_count = λ q z. not_ok refl z;
+      link_count = λ q z. not_ok refl z;
+      added = λ q z. not_ok refl z;
     }
 
-    went_on : r.check ≡ Check.Passed → (w'' ids'' : List ℕ) (q : Decided)
-        → PolygonsDone bb-min bb-size w' w'' ids' ids'' b m r.tables (start + length p.vertices) (k + 1) (l + length p.links) ps q
+    went_on : (after : CornersAfter) → r ≡ Ok after → (w'' ids'' : List ℕ) (q : Result Decided Refusal)
+        → PolygonsDone bb-min bb-size w' w'' ids' ids'' b m after.tables (start + length p.vertices) (k + 1) (l + length p.links) ps q
         → PolygonsDone bb-min bb-size w w'' ids ids'' b m t start k l (p ∷ ps) q
     unfolding polygons_verdict gather
-    went_on none w'' ids'' q g =
-        let h = d.added none in
+    went_on after none w'' ids'' q g =
+        let h = d.added after none in
         let count : start + length (corners_in bb-min bb-size p) ≡ start + length p.vertices = omega (arith, length_corners bb-min bb-size p.vertices p.edges) in
         record {
-          verdict = λ rest. g.verdict rest ∙ (rw (h.now_met, h.now_ids)) ∙ sym (at_none k _ _ (passed_none _ _ d.fault none));
+          verdict = λ rest. g.verdict rest ∙ (rw (h.now_met, h.now_ids)) ∙ sym (at_none k _ _ (passed_none _ _ d.fault after none));
           long = g.long ∙ d.long;
           back = g.back ∙ d.back;
           ready = g.ready;
           few = g.few;
-          many = λ z. omega (arith, g.many z, d.least none);
-          corner_count = λ z. omega (arith, g.corner_count z, count, length-append (corners_in bb-min bb-size p) (corners bb-min bb-size ps));
-          link_count = λ z. omega (arith, g.link_count z, length-append p.links (links_of ps));
-          added = λ z.
-              added_append w w' w'' ids ids' ids'' b m t r.tables q.tables start (corners_in bb-min bb-size p) (corners bb-min bb-size ps) h (rw (← count) at (g.added z));
+          many = λ e z. omega (arith, g.many e z, d.least after none);
+          corner_count = λ e z. omega (arith, g.corner_count e z, count, length-append (corners_in bb-min bb-size p) (corners bb-min bb-size ps));
+          link_count = λ e z. omega (arith, g.link_count e z, length-append p.links (links_of ps));
+          added = λ e z.
+              added_append w w' w'' ids ids' ids'' b m t after.tables e.tables start (corners_in bb-min bb-size p) (corners bb-min bb-size ps) h (rw (← count) at (g.added e z));
         }
 
 -- before polygon i, at `at`: what is done with the polygons that are left is done with all
@@ -177,7 +180,7 @@ pub record Onward (s : List ℕ) (bb-min bb-size : Floats) (n b m : ℕ) (t₀ :
   pub links : l ≤ at
   pub ready : TablesReady w ids b m t.vertices start
   pub long : length w ≡ length w₀
-  pub rest : (w' ids' : List ℕ) (r : Decided) → PolygonsDone bb-min bb-size w w' ids ids' b m t start i l (polygons_at s at (n - i)) r
+  pub rest : (w' ids' : List ℕ) (r : Result Decided Refusal) → PolygonsDone bb-min bb-size w w' ids ids' b m t start i l (polygons_at s at (n - i)) r
       → PolygonsDone bb-min bb-size w₀ w' ids₀ ids' b m t₀ 0 0 0 (polygons_at s 14 n) r
 
 module _ (s : List ℕ) (bb-min bb-size : Floats) (n b m : ℕ) (t₀ : Tables) (w₀ ids₀ : List ℕ) where
@@ -196,29 +199,29 @@ module _ (s : List ℕ) (bb-min bb-size : Floats) (n b m : ℕ) (t₀ : Tables) 
     pub next_in : p.next ≤ length s
     next_in = next_inside s at i n (length s) h g.inside p e
 
-    module _ (w' ids' : List ℕ) (r : TablesAfter) (d : PolygonDone bb-min bb-size w w' ids ids' b m t start (polygon_of s p) r) where
-      pub stop : (u j : ℕ) → r.check ≡ Check.Refused j
-          → PolygonsDone bb-min bb-size w₀ w' ids₀ ids' b m t₀ 0 0 0 (polygons_at s 14 n) (record { tables = r.tables; corners = start; links = l; pushed = u; verdict = Refused (record { number = j; place = i }) })
-      stop u j ej = g.rest w' ids' _ (rw (polygons_turn s at i n h p e) (stopped bb-min bb-size w ids b m t start i l w' ids' (polygon_of s p) _ r d u j ej))
+    module _ (w' ids' : List ℕ) (r : Result CornersAfter Reason) (d : PolygonDone bb-min bb-size w w' ids ids' b m t start (polygon_of s p) r) where
+      pub stop : (q : Reason) → r ≡ Err q
+          → PolygonsDone bb-min bb-size w₀ w' ids₀ ids' b m t₀ 0 0 0 (polygons_at s 14 n) (Err (record { reason = q; place = i }))
+      stop q er = g.rest w' ids' _ (rw (polygons_turn s at i n h p e) (stopped bb-min bb-size w ids b m t start i l w' ids' (polygon_of s p) _ r d q er))
 
-      pub again : r.check ≡ Check.Passed → Onward s bb-min bb-size n b m t₀ w₀ ids₀ w' ids' r.tables p.next (start + p.vertices) (l + p.links) (i + 1)
+      pub again : (after : CornersAfter) → r ≡ Ok after → Onward s bb-min bb-size n b m t₀ w₀ ids₀ w' ids' after.tables p.next (start + p.vertices) (l + p.links) (i + 1)
       unfolding polygon_of
-      again none =
+      again after none =
           let q = parts s at p e in
           record {
             within = omega arith;
             inside = omega (arith, after_polygon s at i n h p e, g.inside);
             ahead = omega (arith, g.ahead, q);
             links = omega (arith, g.links, q);
-            ready = rw (vertex_count_lem s p) at (d.ready none);
+            ready = rw (vertex_count_lem s p) at (d.ready after none);
             long = d.long ∙ g.long;
             rest = λ w'' ids'' o k.
                 g.rest w'' ids'' o
-                (rw (polygons_turn s at i n h p e) (went_on bb-min bb-size w ids b m t start i l w' ids' (polygon_of s p) _ r d none w'' ids'' o (rw (← vertex_count_lem s p, ← link_count s p) at k)));
+                (rw (polygons_turn s at i n h p e) (went_on bb-min bb-size w ids b m t start i l w' ids' (polygon_of s p) _ r d after none w'' ids'' o (rw (← vertex_count_lem s p, ← link_count s p) at k)));
           }
 
   pub done : (w ids : List ℕ) (t : Tables) (at start l u i : ℕ) → Onward s bb-min bb-size n b m t₀ w₀ ids₀ w ids t at start l i → n ≤ i → length s ≤ 3 * m + 2
-      → PolygonsDone bb-min bb-size w₀ w ids₀ ids b m t₀ 0 0 0 (polygons_at s 14 n) (record { tables = t; corners = start; links = l; pushed = u; verdict = Fine })
+      → PolygonsDone bb-min bb-size w₀ w ids₀ ids b m t₀ 0 0 0 (polygons_at s 14 n) (Ok (record { tables = t; corners = start; links = l; pushed = u }))
   done w ids t at start l u i g h fit =
       let few : start ≤ m = omega (arith, g.ahead, g.inside, after_ge (n - i) s at) in
       g.rest w ids _ (rw (items_done (polygon_at s) (λ x. (poly_at s x).next) at i n h) (none_left bb-min bb-size w ids b m t start i l u g.ready few))

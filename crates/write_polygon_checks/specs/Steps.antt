@@ -1,17 +1,17 @@
 -- What each step over the polygons leaves in lent memory, and what its verdict says. Work w, areas ids and their counts are those of the corners' steps.
 -- Definitions only.
-use Rattle.std.specs.Prelude.{ℕ, ◌+◌, ◌*◌, ◌≤◌, ◌≡◌, ◌||◌, List, [], ◌∷◌, length, take, drop, ltb}
+use Rattle.std.specs.Prelude.{ℕ, ◌+◌, ◌*◌, ◌≤◌, ◌≡◌, ◌||◌, List, [], ◌∷◌, length, take, drop, ltb, Result, Ok, Err}
 use Rattle.math.specs.declared.vec3.Vec3.{Vec3 as Floats}
 use Rattle.strip.specs.Cell.{NavPoly}
 use Rattle.write_vertices.specs.Table.{met}
 use Rattle.write_pages.specs.Items.{corners_in, corners, links_of}
 use Rattle.write_pages.specs.Checks.{Verdict, refused, fault_if, first_fault, at, polygon_fault, polygons_verdict}
-use Rattle.write_corner_checks.specs.declared.Check.TheVariants as Check
+use Rattle.strip.specs.Reasons.{reason_number}
+use Rattle.strip.specs.declared.Reason.{Reason}
+use Rattle.strip.specs.declared.Refusal.{Refusal}
+use Rattle.write_corner_checks.specs.declared.CornersAfter.{CornersAfter}
 use Rattle.write_corner_checks.specs.declared.Tables.{Tables}
-use Rattle.write_corner_checks.specs.declared.TablesAfter.{TablesAfter}
 use Rattle.write_corner_checks.specs.Steps.{HasFault, behind_table, TablesReady, Added}
-use Rattle.write_polygon_checks.specs.declared.Verdict.{Verdict as Said}
-use Rattle.write_polygon_checks.specs.declared.Verdict.TheVariants.{Fine, Refused}
 use Rattle.write_polygon_checks.specs.declared.Decided.{Decided}
 
 -- 12, 13
@@ -21,31 +21,31 @@ run_fault vertices start = first_fault (fault_if (ltb vertices 3 || ltb 2047 ver
 -- ---- polygons
 
 -- after the polygon p, whose first corner is number `start`. No word behind the m indices is changed
-pub record PolygonDone (bb-min bb-size : Floats) (w w' ids ids' : List ℕ) (b m : ℕ) (t : Tables) (start : ℕ) (p : NavPoly) (r : TablesAfter) : Type 0 where
-  pub fault : HasFault r.check (polygon_fault bb-min bb-size (met w b t.vertices) (take t.areas ids) start p)
+pub record PolygonDone (bb-min bb-size : Floats) (w w' ids ids' : List ℕ) (b m : ℕ) (t : Tables) (start : ℕ) (p : NavPoly) (r : Result CornersAfter Reason) : Type 0 where
+  pub fault : HasFault r (polygon_fault bb-min bb-size (met w b t.vertices) (take t.areas ids) start p)
   pub long : length w' ≡ length w
   pub back : drop m (behind_table w' b m) ≡ drop m (behind_table w b m)
-  pub ready : r.check ≡ Check.Passed → TablesReady w' ids' b m r.tables.vertices (start + length p.vertices)
-  pub least : r.check ≡ Check.Passed → 3 ≤ length p.vertices
-  pub added : r.check ≡ Check.Passed → Added w w' ids ids' b m t r.tables start (corners_in bb-min bb-size p)
+  pub ready : (after : CornersAfter) → r ≡ Ok after → TablesReady w' ids' b m after.tables.vertices (start + length p.vertices)
+  pub least : (after : CornersAfter) → r ≡ Ok after → 3 ≤ length p.vertices
+  pub added : (after : CornersAfter) → r ≡ Ok after → Added w w' ids ids' b m t after.tables start (corners_in bb-min bb-size p)
 
--- what each case of a verdict says, and then the rest
-abbrev pub says : Said → Verdict → Verdict
-says Fine rest = rest
-says (Refused r) rest = refused r.number r.place
+-- what an answer says, and then the rest
+abbrev pub says : {A : Type 0} → Result A Refusal → Verdict → Verdict
+says (Ok a) rest = rest
+says (Err r) rest = refused (reason_number r.reason) r.place
 
--- a verdict has this fault at the place 0, 0 for none: whatever comes after it
-abbrev pub VerdictHas : Said → ℕ → Type 0
+-- an answer has this fault at the place 0, 0 for none: whatever comes after it
+abbrev pub VerdictHas : {A : Type 0} → Result A Refusal → ℕ → Type 0
 VerdictHas v fault = (rest : Verdict) → says v rest ≡ at 0 fault rest
 
 -- after the polygons ps, the first of them number k, with `start` corners and l links before it
-pub record PolygonsDone (bb-min bb-size : Floats) (w w' ids ids' : List ℕ) (b m : ℕ) (t : Tables) (start k l : ℕ) (ps : List NavPoly) (r : Decided) : Type 0 where
-  pub verdict : (rest : Verdict) → says r.verdict rest ≡ polygons_verdict bb-min bb-size (met w b t.vertices) (take t.areas ids) start k ps rest
+pub record PolygonsDone (bb-min bb-size : Floats) (w w' ids ids' : List ℕ) (b m : ℕ) (t : Tables) (start k l : ℕ) (ps : List NavPoly) (r : Result Decided Refusal) : Type 0 where
+  pub verdict : (rest : Verdict) → says r rest ≡ polygons_verdict bb-min bb-size (met w b t.vertices) (take t.areas ids) start k ps rest
   pub long : length w' ≡ length w
   pub back : drop m (behind_table w' b m) ≡ drop m (behind_table w b m)
-  pub ready : r.verdict ≡ Fine → TablesReady w' ids' b m r.tables.vertices r.corners
-  pub few : r.verdict ≡ Fine → r.corners ≤ m
-  pub many : r.verdict ≡ Fine → start + 3 * length ps ≤ r.corners
-  pub corner_count : r.verdict ≡ Fine → r.corners ≡ start + length (corners bb-min bb-size ps)
-  pub link_count : r.verdict ≡ Fine → r.links ≡ l + length (links_of ps)
-  pub added : r.verdict ≡ Fine → Added w w' ids ids' b m t r.tables start (corners bb-min bb-size ps)
+  pub ready : (d : Decided) → r ≡ Ok d → TablesReady w' ids' b m d.tables.vertices d.corners
+  pub few : (d : Decided) → r ≡ Ok d → d.corners ≤ m
+  pub many : (d : Decided) → r ≡ Ok d → start + 3 * length ps ≤ d.corners
+  pub corner_count : (d : Decided) → r ≡ Ok d → d.corners ≡ start + length (corners bb-min bb-size ps)
+  pub link_count : (d : Decided) → r ≡ Ok d → d.links ≡ l + length (links_of ps)
+  pub added : (d : Decided) → r ≡ Ok d → Added w w' ids ids' b m t d.tables start (corners bb-min bb-size ps)

@@ -18,6 +18,7 @@ ghost use Rattle.write_polygons.specs.Records.{start, following, past, records_a
 use fields::sizes::POLY_SIZE;
 use strip::Poly;
 use write_blocks::Layout;
+use write_list_blocks::Parts;
 
 // As many records take at most a page.
 const POLYS_PER_PART: usize = 341;
@@ -122,14 +123,12 @@ fn put_records(
 {
     let mut next = c;
     let mut to = place;
-    let mut left = m;
-    while 0 < left {
+    for _ in 0..m {
         let p = strip::poly_at(strip, next.at);
         let after = behind_polygon(next, p);
         put_polygon(strip, p, own, next, sides, out, to);
         next = after;
         to += POLY_SIZE;
-        left -= 1;
     }
     next
 }
@@ -157,9 +156,8 @@ fn lay_part(
 {
     let place = write_blocks::pad(out, l, POLY_SIZE * m);
     let next = put_records(strip, own, c, m, sides, out, place);
-    let layout = l.alloc(POLY_SIZE * m);
     Part {
-        layout: layout,
+        layout: l.alloc(POLY_SIZE * m),
         cursor: next,
     }
 }
@@ -176,7 +174,6 @@ pub fn lay_records(
     requires { Standing strip.now sides.now start n × ListRoom l.at poly_size n (part_sizes poly_size n) }
     ensures { Laid l (parts_of poly_size n (records_at own strip.now start n)) result out.old out.new }
 {
-    let k = write_list_blocks::part_count(POLY_SIZE, n);
     let mut layout = l;
     let mut next = PolyCursor {
         at: 14,
@@ -184,15 +181,10 @@ pub fn lay_records(
         start: 0,
         links: 0,
     };
-    let mut left = n;
-    let mut i = 0;
-    while i < k {
-        let m = fields::least(POLYS_PER_PART, left);
+    for m in Parts::new(POLY_SIZE, n) {
         let part = lay_part(out, layout, strip, own, next, m, sides);
         layout = part.layout;
         next = part.cursor;
-        left -= m;
-        i += 1;
     }
     layout
 }

@@ -25,37 +25,21 @@ use Rattle.write_pages.proofs.Sizes.{length_portals}
 
 -- ---- portals
 
--- before portal i, whose record is at `at`
-pub record Portaling (bb-min bb-size : Floats) (s : List ℕ) (first n start : ℕ) (out₀ out : List ℕ) (to at i : ℕ) : Type 0 where
-  pub within : i ≤ n
-  pub here : at ≡ first + 11 * i
-  pub there : to ≡ start + 28 * i
-  pub long : length out ≡ length out₀
-  pub left : put to (cat (portal_items bb-min bb-size (portals_at s at (n - i)))) out ≡ put start (cat (portal_items bb-min bb-size (portals_at s first n))) out₀
+module _ (bb-min bb-size : Floats) (s : List ℕ) (to at i n : ℕ) where
+  -- portal i, whose record is at `at`, and the rest
+  pub portal_turn : i < n → (out out' : List ℕ) → out' ≡ put to (row_bytes (portal_row bb-min bb-size (nav_portal_at s at))) out
+      → put (to + 28) (cat (portal_items bb-min bb-size (portals_at s (at + 11) (n - (i + 1))))) out' ≡ put to (cat (portal_items bb-min bb-size (portals_at s at (n - i)))) out
+  unfolding portal_items cat
+  portal_turn h out out' e =
+      let row = row_bytes (portal_row bb-min bb-size (nav_portal_at s at)) in
+      rw e (put_next 28 to row (cat (portal_items bb-min bb-size (portals_at s (at + 11) (n - (i + 1))))) out (length_rows (portal_row bb-min bb-size (nav_portal_at s at))))
+      ∙ ap (λ (ps : List NavPortal). put to (cat (portal_items bb-min bb-size ps)) out) (sym (items_turn (nav_portal_at s) (λ x. x + 11) at i n h))
 
-module _ (bb-min bb-size : Floats) (s : List ℕ) (first n start : ℕ) (out₀ : List ℕ) where
-  pub portaling_start : Portaling bb-min bb-size s first n start out₀ out₀ start first 0
-  portaling_start = record { within = omega arith; here = omega arith; there = omega arith; long = refl; left = rw (sub-zero n) }
-
-  module _ (out : List ℕ) (to at i : ℕ) (g : Portaling bb-min bb-size s first n start out₀ out to at i) where
-    pub portaling_turn : i < n → (out' : List ℕ) → out' ≡ put to (row_bytes (portal_row bb-min bb-size (nav_portal_at s at))) out
-        → Portaling bb-min bb-size s first n start out₀ out' (to + 28) (at + 11) (i + 1)
-    unfolding portal_items cat
-    portaling_turn h out' e =
-        let row = row_bytes (portal_row bb-min bb-size (nav_portal_at s at)) in
-        record {
-          within = omega arith;
-          here = omega (arith, g.here);
-          there = omega (arith, g.there);
-          long = rw e (length_put to row out) ∙ g.long;
-          left = rw e (put_next 28 to row (cat (portal_items bb-min bb-size (portals_at s (at + 11) (n - (i + 1))))) out (length_rows (portal_row bb-min bb-size (nav_portal_at s at))))
-              ∙ ap (λ (ps : List NavPortal). put to (cat (portal_items bb-min bb-size ps)) out) (sym (items_turn (nav_portal_at s) (λ x. x + 11) at i n h)) ∙ g.left;
-        }
-
-    pub portaling_done : n ≤ i → out ≡ put start (cat (portal_items bb-min bb-size (portals_at s first n))) out₀
-    unfolding portal_items cat
-    portaling_done h =
-        sym (put_nil to out) ∙ ap (λ (ps : List NavPortal). put to (cat (portal_items bb-min bb-size ps)) out) (sym (items_done (nav_portal_at s) (λ x. x + 11) at i n h)) ∙ g.left
+  -- behind the last one
+  pub portals_done : n ≤ i → (out : List ℕ) → out ≡ put to (cat (portal_items bb-min bb-size (portals_at s at (n - i)))) out
+  unfolding portal_items cat
+  portals_done h out =
+      sym (put_nil to out) ∙ ap (λ (ps : List NavPortal). put to (cat (portal_items bb-min bb-size ps)) out) (sym (items_done (nav_portal_at s) (λ x. x + 11) at i n h))
 
 pub portals_long : (bb-min bb-size : Floats) (s : List ℕ) (first n : ℕ) → length (cat (portal_items bb-min bb-size (portals_at s first n))) ≡ 28 * n
 portals_long bb-min bb-size s first n = length_portals bb-min bb-size (portals_at s first n) ∙ ap (λ (k : ℕ). 28 * k) (items_length (nav_portal_at s) (λ x. x + 11) n first)

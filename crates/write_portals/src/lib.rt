@@ -15,7 +15,8 @@ ghost use Rattle.write_blocks.specs.Optional.{block_of, size_of};
 ghost use Rattle.write_pages.specs.Pages.{portal_row, portal_items};
 
 use fields::sizes::PORTAL_SIZE;
-use math::vec3::{Vec3, floats_at};
+use math::vec3::floats_at;
+use quantise::short::Frame;
 use write_blocks::Layout;
 
 // A portal's areas in one word: area_from (14 bits), area_to (14), area_unk (4). Both areas stand in w.
@@ -26,23 +27,23 @@ fn portal_areas(w: u32, unk: u32) -> u32
 }
 
 // A portal, 28 bytes, from its record at `at`.
-fn put_portal(out: &mut [u8], to: usize, strip: &[u32], at: usize, bb_min: Vec3, bb_size: Vec3)
+fn put_portal(out: &mut [u8], to: usize, strip: &[u32], at: usize, frame: Frame)
     requires { at + 11 ≤ length strip.now }
-    ensures { out.new ≡ put to (row_bytes (portal_row bb_min bb_size (nav_portal_at strip.now at))) out.old }
+    ensures { out.new ≡ put to (row_bytes (portal_row frame.bb_min frame.bb_size (nav_portal_at strip.now at))) out.old }
 {
-    let a = quantise::short::shorts_of(floats_at(strip, at + 2), bb_min, bb_size);
-    let b = quantise::short::shorts_of(floats_at(strip, at + 5), bb_min, bb_size);
+    let a = frame.shorts_of(floats_at(strip, at + 2));
+    let b = frame.shorts_of(floats_at(strip, at + 5));
     let polys = strip[at + 8];
     let areas = portal_areas(strip[at + 9], strip[at + 10]);
     let words = [
         strip[at],
         strip[at + 1],
-        a.x as u32,
-        a.y as u32,
-        a.z as u32,
-        b.x as u32,
-        b.y as u32,
-        b.z as u32,
+        u32::from(a.x),
+        u32::from(a.y),
+        u32::from(a.z),
+        u32::from(b.x),
+        u32::from(b.y),
+        u32::from(b.z),
         polys,
         polys,
         polys / 0x1_0000,
@@ -54,26 +55,12 @@ fn put_portal(out: &mut [u8], to: usize, strip: &[u32], at: usize, bb_min: Vec3,
 }
 
 // n portals, from the record at `first` on.
-fn put_portals(
-    out: &mut [u8],
-    start: usize,
-    strip: &[u32],
-    first: usize,
-    n: usize,
-    bb_min: Vec3,
-    bb_size: Vec3,
-)
+fn put_portals(out: &mut [u8], start: usize, strip: &[u32], first: usize, n: usize, frame: Frame)
     requires { (first + 11 * n ≤ length strip.now) × (start + portal_size * n < 2 ^ 28) }
-    ensures { out.new ≡ put start (cat (portal_items bb_min bb_size (portals_at strip.now first n))) out.old }
+    ensures { out.new ≡ put start (cat (portal_items frame.bb_min frame.bb_size (portals_at strip.now first n))) out.old }
 {
-    let mut to = start;
-    let mut at = first;
-    let mut i: usize = 0;
-    while i < n {
-        put_portal(out, to, strip, at, bb_min, bb_size);
-        to += PORTAL_SIZE;
-        at += 11;
-        i += 1;
+    for i in 0..n {
+        put_portal(out, start + PORTAL_SIZE * i, strip, first + 11 * i, frame);
     }
 }
 
@@ -84,17 +71,16 @@ pub fn lay_portals(
     strip: &[u32],
     first: usize,
     n: usize,
-    bb_min: Vec3,
-    bb_size: Vec3,
+    frame: Frame,
 ) -> Layout
     requires { (first + 11 * n ≤ length strip.now) × (end_of l.at (size_of (portal_size * n)) < 2 ^ 28) }
-    ensures { Laid l (block_of (cat (portal_items bb_min bb_size (portals_at strip.now first n)))) result out.old out.new }
+    ensures { Laid l (block_of (cat (portal_items frame.bb_min frame.bb_size (portals_at strip.now first n)))) result out.old out.new }
 {
     if n == 0 {
         return l;
     }
     let start = write_blocks::pad(out, l, PORTAL_SIZE * n);
-    put_portals(out, start, strip, first, n, bb_min, bb_size);
+    put_portals(out, start, strip, first, n, frame);
     l.alloc(PORTAL_SIZE * n)
 }
 
@@ -104,16 +90,12 @@ fn put_links(out: &mut [u8], start: usize, strip: &[u32], n: usize)
     ensures { out.new ≡ put start (les 2 (links_of (polygons_at strip.now 14 n))) out.old }
 {
     let mut to = start;
-    let mut at: usize = 14;
-    let mut i: usize = 0;
-    while i < n {
+    let mut at = 14;
+    for _ in 0..n {
         let p = strip::poly_at(strip, at);
-        let first = p.link_at;
-        let end = p.vertex_at;
-        stores::put_all(out, to, 2, &strip[first..end]);
+        stores::put_all(out, to, 2, &strip[p.link_at..p.vertex_at]);
         to += 2 * p.links;
         at = p.next;
-        i += 1;
     }
 }
 

@@ -1,17 +1,8 @@
--- The depth of a cell's tree, and how many leaves it has. Assumes nothing.
+-- How many leaves a cell's tree has. Assumes nothing.
 use Prim.Native.Nat.{ℕ, zero, suc, ◌*◌, ◌%◌, ◌^◌, ◌≤◌}
-use mathlib.Core.Path.{◌≡◌, refl, ap}
+use mathlib.Core.Path.{◌≡◌, refl}
 use native.Mathlib.Omega.{arith}
 use lib.Dec.{lit≤}
-use Rattle.write_pages.specs.Sectors.{depth_by}
-
--- the depth, by the content bit
-pub depth_two : (n : ℕ) → n ≡ 0 → depth_by n ≡ 2
-depth_two n e = ap depth_by e
-
-pub depth_none : (n : ℕ) → (n ≡ 0 → ⊥) → depth_by n ≡ 0
-depth_none zero h = absurd (h refl)
-depth_none (suc n) h = refl
 
 -- how many leaves there are
 pub leaves_wide : (d : ℕ) → d ≤ 2 → (1 * 2 ^ (2 * d) % 2 ^ 32 ≡ 4 ^ d) × (1 * 2 ^ (2 * d) % 2 ^ 32 ≤ 16)

@@ -26,7 +26,7 @@ pub fn centre_of(b: Aabb) -> Vec3
     }
 }
 
-// The four subs of a box, in writing order.
+// The four subs of a box, in writing order. (An array would be no plainer: each has a definition and a clause of its own, and no loop goes over them.)
 #[derive(Clone, Copy)]
 pub struct Subs {
     pub s0: Aabb,
@@ -42,39 +42,19 @@ pub fn split(b: Aabb) -> Subs
     ensures s3 { result.s3 ≡ sub3 b }
 {
     let c = centre_of(b);
-    let min = b.min;
-    let max = b.max;
-    let min1 = Vec3 {
-        x: c.x,
-        y: min.y,
-        z: 0.0,
-    };
-    let max1 = Vec3 {
-        x: max.x,
-        y: c.y,
-        z: 0.0,
-    };
-    let min3 = Vec3 {
-        x: min.x,
-        y: c.y,
-        z: 0.0,
-    };
-    let max3 = Vec3 {
-        x: c.x,
-        y: max.y,
-        z: 0.0,
-    };
-    let s0 = Aabb { min: c, max };
-    let s1 = Aabb {
-        min: min1,
-        max: max1,
-    };
-    let s2 = Aabb { min, max: c };
-    let s3 = Aabb {
-        min: min3,
-        max: max3,
-    };
-    Subs { s0, s1, s2, s3 }
+    let Aabb { min, max } = b;
+    Subs {
+        s0: Aabb { min: c, max },
+        s1: Aabb {
+            min: Vec3::new(c.x, min.y, 0.0),
+            max: Vec3::new(max.x, c.y, 0.0),
+        },
+        s2: Aabb { min, max: c },
+        s3: Aabb {
+            min: Vec3::new(min.x, c.y, 0.0),
+            max: Vec3::new(c.x, max.y, 0.0),
+        },
+    }
 }
 
 // How often a cell's box splits, by its content flags: twice, and a vehicle's not at all.
@@ -84,9 +64,10 @@ pub fn depth_of(content: u32) -> u32
     ensures even { result % 2 ≡ 0 }
 {
     if content / CONTENT_VEHICLE % 2 == 0 {
-        return 2;
+        2
+    } else {
+        0
     }
-    0
 }
 
 // How many leaves a box has that splits so often.
@@ -101,20 +82,14 @@ pub fn leaf_count(depth: u32) -> u32
 fn is_between(lo: f32, x: f32, hi: f32) -> bool
     ensures { result ≡ between lo x hi }
 {
-    if lo <= x {
-        return x <= hi;
-    }
-    false
+    lo <= x && x <= hi
 }
 
 // Whether p is inside the box in x and y, borders included.
 fn is_inside(b: Aabb, p: Vec3) -> bool
     ensures { result ≡ inside b p }
 {
-    if is_between(b.min.x, p.x, b.max.x) {
-        return is_between(b.min.y, p.y, b.max.y);
-    }
-    false
+    is_between(b.min.x, p.x, b.max.x) && is_between(b.min.y, p.y, b.max.y)
 }
 
 // The sides of the 16 leaves of a box on one axis, from its min to its max.
@@ -138,13 +113,11 @@ fn axis_lines(lo: f32, hi: f32) -> AxisLines
     ensures { result ≡ axis_lines lo hi }
 {
     let mid = middle_of(lo, hi);
-    let a1 = middle_of(lo, mid);
-    let a3 = middle_of(mid, hi);
     AxisLines {
         a0: lo,
-        a1,
+        a1: middle_of(lo, mid),
         a2: mid,
-        a3,
+        a3: middle_of(mid, hi),
         a4: hi,
     }
 }
@@ -152,9 +125,10 @@ fn axis_lines(lo: f32, hi: f32) -> AxisLines
 pub fn lines_of(b: Aabb) -> Lines
     ensures { result ≡ lines_of b }
 {
-    let x = axis_lines(b.min.x, b.max.x);
-    let y = axis_lines(b.min.y, b.max.y);
-    Lines { x, y }
+    Lines {
+        x: axis_lines(b.min.x, b.max.x),
+        y: axis_lines(b.min.y, b.max.y),
+    }
 }
 
 // Which of an axis's four ranges a number is in, borders included.
@@ -169,29 +143,28 @@ pub struct Ranges {
 fn ranges_of(a: AxisLines, x: f32) -> Ranges
     ensures { result ≡ ranges_of a x }
 {
-    let r0 = is_between(a.a0, x, a.a1);
-    let r1 = is_between(a.a1, x, a.a2);
-    let r2 = is_between(a.a2, x, a.a3);
-    let r3 = is_between(a.a3, x, a.a4);
-    Ranges { r0, r1, r2, r3 }
+    Ranges {
+        r0: is_between(a.a0, x, a.a1),
+        r1: is_between(a.a1, x, a.a2),
+        r2: is_between(a.a2, x, a.a3),
+        r3: is_between(a.a3, x, a.a4),
+    }
 }
 
 // The first of two subs with one range of x that a point is inside, by whether it is in that range and in theirs of y; 2 where it is in neither. Beside them in x
 // it needs no look at y.
+#[tactic(auto, unfolding(crate::specs::Lines::first_of))]
 fn side_of(x: bool, y_first: bool, y_second: bool) -> u32
     ensures side { result ≡ first_of ((x && y_first) ∷ (x && y_second) ∷ []) }
     ensures bound { result ≤ 2 }
 {
-    if x {
-        if y_first {
-            return 0;
-        }
-        if y_second {
-            return 1;
-        }
-        return 2;
+    if x && y_first {
+        0
+    } else if x && y_second {
+        1
+    } else {
+        2
     }
-    2
 }
 
 // The first of a sector's four subs that a point is inside, which is in the lower range of an axis, in the upper one, in both or in none; 4 where it
@@ -230,10 +203,7 @@ fn leaf_in(x: Ranges, y: Ranges) -> u32
 fn leaf_alone(b: Aabb, p: Vec3) -> u32
     ensures { result ≡ leaf_of (leaves 0 b) p }
 {
-    if is_inside(b, p) {
-        return 0;
-    }
-    1
+    if is_inside(b, p) { 0 } else { 1 }
 }
 
 // The leaf that takes a point of a cell with this depth and this box, whose leaves have these sides: the first in writing order that the point is
@@ -245,7 +215,5 @@ pub fn leaf_of(depth: u32, b: Aabb, l: Lines, p: Vec3) -> u32
     if depth == 0 {
         return leaf_alone(b, p);
     }
-    let x = l.x;
-    let y = l.y;
-    leaf_in(ranges_of(x, p.x), ranges_of(y, p.y))
+    leaf_in(ranges_of(l.x, p.x), ranges_of(l.y, p.y))
 }

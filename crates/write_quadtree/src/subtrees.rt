@@ -28,31 +28,27 @@ pub fn divide(t: Subtree) -> Subtrees
 {
     let depth = t.depth - 1;
     let width = leaf_count(depth);
-    let leaf = t.leaf;
-    let leaf1 = leaf + width;
-    let leaf2 = leaf + 2 * width;
-    let leaf3 = leaf + 3 * width;
     let subs = split(t.b);
-    let b0 = subs.s0;
-    let b1 = subs.s1;
-    let b2 = subs.s2;
-    let b3 = subs.s3;
     Subtrees {
-        s0: Subtree { b: b0, depth, leaf },
-        s1: Subtree {
-            b: b1,
+        s0: Subtree {
+            b: subs.s0,
             depth,
-            leaf: leaf1,
+            leaf: t.leaf,
+        },
+        s1: Subtree {
+            b: subs.s1,
+            depth,
+            leaf: t.leaf + width,
         },
         s2: Subtree {
-            b: b2,
+            b: subs.s2,
             depth,
-            leaf: leaf2,
+            leaf: t.leaf + 2 * width,
         },
         s3: Subtree {
-            b: b3,
+            b: subs.s3,
             depth,
-            leaf: leaf3,
+            leaf: t.leaf + 3 * width,
         },
     }
 }

@@ -8,13 +8,13 @@
 
 ghost use Rattle.std.specs.Prelude.{◌≡◌, true, ◌+◌, ◌≤◌, eqb, length};
 ghost use Rattle.fields.specs.Bytes.{le_at};
-ghost use Rattle.strip.specs.Outcome.{values};
-ghost use Rattle.ynv_write.specs.Serialize.{paper};
+ghost use Rattle.strip.specs.Outcome.{values, paper};
 ghost use Rattle.write_replay.specs.Agreement.{expected, expected_length, checksum, SameBytes, Untouched, PagesAgree, record_of, WriteRecordInside};
 
 use fields::u32_le;
 use replay::{end_of, padded, refusal_agrees};
-use ynv_write::{SerializeAnswer, Written};
+use strip::Refusal;
+use ynv_write::Written;
 
 // Where the runs of a record begin, the bytes expected begin and end, and the next record begins.
 #[derive(Clone, Copy)]
@@ -54,6 +54,7 @@ fn values_agree(list: &[u8], at: usize, w: Written) -> bool
     requires { at + 60 ≤ length list.now }
     ensures { result ≡ true → values w ≡ expected list.now at }
 {
+    // not one `&&` more: the last test is the answer, and what it says is then at hand
     if u32_le(list, at + 12) == 0
         && word_is(list, at + 16, w.length)
         && word_is(list, at + 20, w.stored)
@@ -65,15 +66,13 @@ fn values_agree(list: &[u8], at: usize, w: Written) -> bool
 }
 
 // Whether an answer is what the record says.
-pub fn answer_agrees(list: &[u8], at: usize, a: SerializeAnswer) -> bool
+pub fn answer_agrees(list: &[u8], at: usize, a: Result<Written, Refusal>) -> bool
     requires { at + 60 ≤ length list.now }
     ensures { result ≡ true → paper a ≡ expected list.now at }
 {
     match a {
-        SerializeAnswer::Written(w) => values_agree(list, at, w),
-        SerializeAnswer::Refused(r) => {
-            refusal_agrees(r, u32_le(list, at + 12), u32_le(list, at + 16))
-        }
+        Ok(w) => values_agree(list, at, w),
+        Err(r) => { refusal_agrees(r, u32_le(list, at + 12), u32_le(list, at + 16)) }
     }
 }
 
@@ -93,10 +92,8 @@ fn checksum(bytes: &[u8]) -> u64
     ensures { result ≡ checksum bytes.now }
 {
     let mut sum: u64 = 0;
-    let mut k = 0;
-    while k < bytes.len() {
-        sum = (sum * 2654435761 + (bytes[k] as u64) + 1) % 4294967291;
-        k += 1;
+    for byte in bytes {
+        sum = (sum * 2654435761 + u64::from(*byte) + 1) % 4294967291;
     }
     sum
 }
@@ -108,12 +105,10 @@ fn bytes_agree(expected: &[u8], pages: &[u8]) -> bool
     if pages.len() < expected.len() {
         return false;
     }
-    let mut k = 0;
-    while k < expected.len() {
+    for k in 0..expected.len() {
         if pages[k] != expected[k] {
             return false;
         }
-        k += 1;
     }
     true
 }
@@ -123,12 +118,10 @@ fn stays_from(pages: &[u8], from: usize) -> bool
     requires { from ≤ length pages.now }
     ensures { result ≡ true → Untouched from pages.now }
 {
-    let mut k = from;
-    while k < pages.len() {
+    for k in from..pages.len() {
         if pages[k] != 0xD1 {
             return false;
         }
-        k += 1;
     }
     true
 }
@@ -140,12 +133,9 @@ pub fn pages_agree<'a>(list: &'a [u8], at: usize, r: Record, pages: &'a [u8]) ->
 {
     let bytes = r.bytes;
     let bytes_end = r.bytes_end;
-    let filled = fields::least(told_length(list, at), pages.len());
-    if checksum(&pages[..filled]) != u32_le(list, at + 48) as u64 {
+    let filled = told_length(list, at).min(pages.len());
+    if checksum(&pages[..filled]) != u64::from(u32_le(list, at + 48)) {
         return false;
     }
-    if bytes_agree(&list[bytes..bytes_end], pages) {
-        return stays_from(pages, filled);
-    }
-    false
+    bytes_agree(&list[bytes..bytes_end], pages) && stays_from(pages, filled)
 }

@@ -52,16 +52,9 @@ fn fill_sectors<'a>(
     ensures { SectorsFilled (cell_at strip.now n) l pages.old pages.new result }
 {
     let places = write_decide::work_places(strip.len(), n);
-    let boxes = places.boxes;
-    let leaves = places.leaves;
-    let end = places.end;
-    let b = cell.root_box();
-    let bb_min = cell.bb_min;
-    let bb_size = cell.bb_size;
     let points = Points {
         at: first_point(strip, n),
-        bb_min,
-        bb_size,
+        frame: cell.frame(),
     };
     let cursor = SectorCursor {
         layout: l,
@@ -72,10 +65,10 @@ fn fill_sectors<'a>(
     write_sectors::write_sector(
         pages,
         cursor,
-        b,
+        cell.root_box(),
         depth,
-        &work[boxes..leaves],
-        &work[leaves..end],
+        &work[places.boxes..places.leaves],
+        &work[places.leaves..places.end],
         strip,
         points,
     )
@@ -94,25 +87,18 @@ pub fn fill_rest<'a>(
         × (d.cell ≡ record_of (head_at strip.now 0)) }
     ensures { RestFilled (cell_at strip.now d.counts) l pages.old pages.new result }
 {
-    let counts = d.counts;
-    let cell = d.cell;
-    let bb_min = cell.bb_min;
-    let bb_size = cell.bb_size;
-    let cursor = fill_sectors(pages, strip, cell, counts, work, l);
-    let sectors = cursor.layout;
-    let first = first_portal(strip, counts);
+    let cursor = fill_sectors(pages, strip, d.cell, d.counts, work, l);
     let portals = write_portals::lay_portals(
         pages,
-        sectors,
+        cursor.layout,
         strip,
-        first,
-        counts.portals,
-        bb_min,
-        bb_size,
+        first_portal(strip, d.counts),
+        d.counts.portals,
+        d.cell.frame(),
     );
-    let links = write_portals::lay_links(pages, portals, strip, counts.polys, d.links);
+    let links = write_portals::lay_links(pages, portals, strip, d.counts.polys, d.links);
     RestEnds {
-        sectors,
+        sectors: cursor.layout,
         portals,
         links,
         points: cursor.first,
@@ -124,14 +110,13 @@ pub fn addresses(d: Decision, lists: ListEnds, rest: RestEnds) -> Addresses
     requires { Near lists rest d.counts.portals d.links }
     ensures { places_in result ≡ places_by lists rest d.counts.portals d.links }
 {
-    let counts = d.counts;
     Addresses {
         vertices: write_blocks::address_of(lists.header, LIST_SIZE),
         indices: write_blocks::address_of(lists.vertices, LIST_SIZE),
         edges: write_blocks::address_of(lists.indices, LIST_SIZE),
         polygons: write_blocks::address_of(lists.edges, LIST_SIZE),
         root: write_blocks::address_of(lists.polygons, SECTOR_SIZE),
-        portals: write_blocks::address_of(rest.sectors, PORTAL_SIZE * counts.portals),
+        portals: write_blocks::address_of(rest.sectors, PORTAL_SIZE * d.counts.portals),
         links: write_blocks::address_of(rest.portals, 2 * d.links),
     }
 }

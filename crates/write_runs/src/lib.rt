@@ -28,10 +28,8 @@ fn fill_run(words: &[u8], grows: usize, count: usize, strip: &mut [u32], from: u
     requires { (4 ≤ length words.now) × (count < 2 ^ 32) × (from + count ≤ length strip.old) }
     ensures { strip.new ≡ put from (run_words words.now grows count) strip.old }
 {
-    let mut k = 0;
-    while k < count {
+    for k in 0..count {
         strip[from + k] = run_word(words, grows, k);
-        k += 1;
     }
 }
 
@@ -60,7 +58,7 @@ fn run_at(runs: &[u8], at: usize, room: usize) -> Run
     Run {
         words,
         end,
-        count: fields::least(u32_le(runs, at) as usize, room),
+        count: (u32_le(runs, at) as usize).min(room),
     }
 }
 
@@ -90,6 +88,7 @@ pub fn make_strip(runs: &[u8], strip: &mut [u32]) -> usize
 {
     let mut at = 0;
     let mut made = 0;
+    // a `while`: only the run says where the next one begins
     while 12 <= runs.len() - at {
         let r = run_at(runs, at, strip.len() - made);
         put_run(runs, at, r, strip, made);

@@ -40,20 +40,18 @@ pub fn write_sector<'a>(
 ) -> SectorCursor
     requires depth_bound { (cursor.leaf + 4 ^ depth < 2 ^ 32) × (points.at + 4 * length leaf_numbers.now ≤ length strip.now) }
     requires tree_room { TreeRoom (tree_in boxes.now leaf_numbers.now strip.now points.at depth cursor.leaf b) cursor.layout.at cursor.first }
-    ensures { Wrote points.bb_min points.bb_size (tree_in boxes.now leaf_numbers.now strip.now points.at depth cursor.leaf b) (4 ^ depth) cursor result out.old out.new }
+    ensures { Wrote points.frame.bb_min points.frame.bb_size (tree_in boxes.now leaf_numbers.now strip.now points.at depth cursor.leaf b) (4 ^ depth) cursor result out.old out.new }
 {
     if depth == 0 {
         return write_leaf(out, cursor, b, boxes, leaf_numbers, strip, points);
     }
     let d = depth - 1;
     let subs = write_quadtree::boxes::split(b);
-    let l = cursor.layout;
-    let at = write_blocks::pad(out, l, SECTOR_SIZE);
-    let l0 = l.alloc(SECTOR_SIZE);
+    let at = write_blocks::pad(out, cursor.layout, SECTOR_SIZE);
+    let l0 = cursor.layout.alloc(SECTOR_SIZE);
     let p0 = SectorCursor {
         layout: l0,
-        leaf: cursor.leaf,
-        first: cursor.first,
+        ..cursor
     };
     let p1 = write_sector(out, p0, subs.s0, d, boxes, leaf_numbers, strip, points);
     let p2 = write_sector(out, p1, subs.s1, d, boxes, leaf_numbers, strip, points);

@@ -3,17 +3,17 @@
 #![tactic(auto)]
 
 ghost use Rattle.std.specs.Prelude.{◌≡◌, true, ◌+◌, ◌≤◌, ◌<◌, length, IfOk};
-ghost use Rattle.strip.specs.Outcome.{shown};
-ghost use Rattle.ynv_write.specs.Serialize.{paper};
+ghost use Rattle.strip.specs.Outcome.{shown, paper};
 ghost use Rattle.replay.specs.Tallies.{Tallied, Step};
 ghost use Rattle.write_replay.specs.Agreement.{untouched_bytes, outcome_of, pages_of, Agrees, Asked, TallyOf, WriteRecordInside};
 
 use fields::u32_le;
-use replay::{Tally, asked, print, print_first, print_number, print_tally, read_full, tallied};
+use replay::{Tally, asked, print_first, print_number, print_tally, read_full, tallied};
 use std::io;
+use strip::Refusal;
 use write_replay::{Record, answer_agrees, pages_agree, record_at};
 use write_runs::make_strip;
-use ynv_write::SerializeAnswer;
+use ynv_write::Written;
 
 // What the pages hold before a record's strip is written into them.
 fn untouched() -> [u8; 1400000]
@@ -37,14 +37,14 @@ fn strip_room() -> [u32; 214000]
 }
 
 // Writes a strip into as much of the pages, and with as much work, as the record says.
-fn write_record(list: &[u8], at: usize, strip: &[u32], pages: &mut [u8]) -> SerializeAnswer
+fn write_record(list: &[u8], at: usize, strip: &[u32], pages: &mut [u8]) -> Result<Written, Refusal>
     requires { at + 60 ≤ length list.now }
     ensures answer { paper result ≡ shown (outcome_of list.now at strip.now (length pages.old)) }
     ensures pages { pages.new ≡ pages_of list.now at strip.now pages.old }
 {
     let mut work = work_room();
-    let words = fields::least(u32_le(list, at + 4) as usize, 856000);
-    let room = fields::least(u32_le(list, at + 8) as usize, pages.len());
+    let words = (u32_le(list, at + 4) as usize).min(856000);
+    let room = (u32_le(list, at + 8) as usize).min(pages.len());
     ynv_write::serialize_ynv(strip, &mut work[..words], &mut pages[..room])
 }
 
@@ -87,6 +87,7 @@ fn tally_of(list: &[u8], low: u32, high: u32) -> Tally
         first: list.len(),
     };
     let mut at = 0;
+    // a `while`: only the record says where the next one begins
     while 60 <= list.len() - at {
         if u32_le(list, at) != 8 {
             return t;
@@ -114,10 +115,8 @@ fn report_number(rt: &impl Print, list: &[u8], n: u32) -> io::Result<()> {
 }
 
 fn report_numbers(rt: &impl Print, list: &[u8], low: u32, high: u32) -> io::Result<()> {
-    let mut n = low;
-    while n < high {
+    for n in low..high {
         report_number(rt, list, n)?;
-        n += 1;
     }
     Ok(())
 }
@@ -125,7 +124,7 @@ fn report_numbers(rt: &impl Print, list: &[u8], low: u32, high: u32) -> io::Resu
 fn report_all(rt: &impl Print, list: &[u8]) -> io::Result<()> {
     report_numbers(rt, list, 0, 4)?;
     report_numbers(rt, list, 10, 21)?;
-    print(rt, b"all ")?;
+    print!(rt; "all ")?;
     let first = report(rt, list, 0, 4294967295)?;
     print_first(rt, first, list.len(), b"byte")
 }

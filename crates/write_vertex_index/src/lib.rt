@@ -4,20 +4,14 @@
 ghost use Rattle.std.specs.Prelude.{◌≡◌, ◌+◌, ◌*◌, ◌/◌, ◌≤◌, ◌<◌, ◌^◌, length};
 ghost use Rattle.write_vertices.specs.Table.{half, half_word_at, cleared, linked_with, added, TableRoom, LookedUp};
 
-use write_vertices::{FoundVertex, Numbered, find};
+use write_vertices::{Numbered, find};
 
 // Makes `table` one of no vertex: its first `buckets` words are 0, as far as it has them.
 pub fn clear(table: &mut [u32], buckets: usize)
     ensures { table.new ≡ cleared table.old buckets }
 {
-    let mut i = 0;
-    while i < buckets {
-        if table.len() <= i {
-            return;
-        }
-        table[i] = 0;
-        i += 1;
-    }
+    let n = buckets.min(table.len());
+    table[..n].fill(0);
 }
 
 // The word with a link in a half that was 0.
@@ -44,22 +38,26 @@ fn add(table: &mut [u32], buckets: usize, count: usize, triple: u64, place: usiz
     table[place / 2] = word;
 }
 
-// The number of a triple: that of the first equal one, or the next number, which the triple then has.
+// The number of a triple: that of the first equal one, or the next number, which the triple then has; none where it would be a 65,537th.
 // No test could show that the words hold a table, so a caller has to keep `Table`, from `clear` on.
-pub fn vertex_index(table: &mut [u32], buckets: usize, count: usize, triple: u64) -> Numbered
+pub fn vertex_index(
+    table: &mut [u32],
+    buckets: usize,
+    count: usize,
+    triple: u64,
+) -> Option<Numbered>
     requires { TableRoom table.old buckets count triple }
     ensures { LookedUp table.old table.new buckets count triple result }
 {
-    let known = find(table, buckets, count, triple);
-    match known {
-        FoundVertex::At(i) => Numbered::Vertex(i, count),
-        FoundVertex::End(place) => {
-            if count < 65536 {
-                add(table, buckets, count, triple, place);
-                Numbered::Vertex(count, count + 1)
-            } else {
-                Numbered::Full
-            }
+    match find(table, buckets, count, triple) {
+        Ok(number) => Some(Numbered { number, count }),
+        Err(place) if count < 65536 => {
+            add(table, buckets, count, triple, place);
+            Some(Numbered {
+                number: count,
+                count: count + 1,
+            })
         }
+        Err(_) => None,
     }
 }

@@ -6,6 +6,10 @@ use mathlib.Core.Bool.{true}
 use mathlib.Core.List.{List, [], ◌++◌}
 use lib.ListN.{length, get_or, set, drop}
 use lib.Dec.{leb}
+use Rattle.std.specs.Prelude.{Option, Some, None, Result, Ok, Err}
+use Rattle.strip.specs.Outcome.{paper}
+use Rattle.strip.specs.declared.Reason.TheVariants.{ManyVertices}
+use Rattle.strip.specs.declared.Refusal.{Refusal}
 use Rattle.distinct.specs.Distinct.{index_of, with_new, distinct_from}
 use Rattle.distinct.specs.Numbers.{numbers_from}
 use Rattle.distinct.proofs.Laws.{index_most, length_with}
@@ -13,18 +17,15 @@ use Rattle.distinct.proofs.Left.{Left, drop_more, left_start, left_turn, left_ov
 use Rattle.write_vertices.specs.Vertices.{count_after}
 use Rattle.write_vertices.specs.Table.{triple_at, met, cleared, Table, LookedUp}
 use Rattle.write_vertices.specs.declared.Numbered.{Numbered}
-use Rattle.write_vertices.specs.declared.Numbered.TheVariants.{Vertex, Full}
 use Rattle.write_vertices.proofs.Triples.{length_met, met_at}
 use Rattle.write_vertices.proofs.Lookup.{vertex_in, full_in, count_le}
 use Rattle.write_vertices.proofs.Clearing.{table_cleared, drop_cleared}
-use Rattle.write_vertex_numbers.specs.Numbers.{all_paper, answer_all}
-use Rattle.write_vertex_numbers.specs.declared.All.{All}
-use Rattle.write_vertex_numbers.specs.declared.All.TheVariants.{Count, Over}
+use Rattle.write_vertex_numbers.specs.Numbers.{answer_all}
 
 -- the answer r for the m triples xs, with the table from t to t' and the numbers from o to o'
-pub record AllNumbered (xs : List ℕ) (m b : ℕ) (t t' o o' : List ℕ) (r : All) : Type 0 where
-  pub answer : all_paper r ≡ answer_all xs
-  pub numbered : (n : ℕ) → r ≡ Count n → (met t' b n ≡ distinct_from [] xs) × (o' ≡ numbers_from [] xs ++ drop m o)
+pub record AllNumbered (xs : List ℕ) (m b : ℕ) (t t' o o' : List ℕ) (r : Result ℕ Refusal) : Type 0 where
+  pub answer : paper r ≡ answer_all xs
+  pub numbered : (n : ℕ) → r ≡ Ok n → (met t' b n ≡ distinct_from [] xs) × (o' ≡ numbers_from [] xs ++ drop m o)
   pub rest : drop (b + 2 * m) t' ≡ drop (b + 2 * m) t
   pub kept : drop m o' ≡ drop m o
 
@@ -54,14 +55,14 @@ start xs m b t₀ t o h narrow l e = record {
 }
 
 -- the triple x at i was looked up, with the answer r
-pub record Step (xs : List ℕ) (m b : ℕ) (t₀ o₀ t o : List ℕ) (n i x : ℕ) (t' : List ℕ) (r : Numbered) : Type 0 where
+pub record Step (xs : List ℕ) (m b : ℕ) (t₀ o₀ t o : List ℕ) (n i x : ℕ) (t' : List ℕ) (r : Option Numbered) : Type 0 where
   pub going : Going xs m b t₀ o₀ t o n i
   pub size : length xs ≡ m
   pub more : i < m
   pub key : x ≡ get_or xs i 0
   pub looked : LookedUp t t' b n x r
 
-module _ {xs : List ℕ} {m b : ℕ} {t₀ o₀ t o : List ℕ} {n i x : ℕ} {t' : List ℕ} {r : Numbered} (s : Step xs m b t₀ o₀ t o n i x t' r) where
+module _ {xs : List ℕ} {m b : ℕ} {t₀ o₀ t o : List ℕ} {n i x : ℕ} {t' : List ℕ} {r : Option Numbered} (s : Step xs m b t₀ o₀ t o n i x t' r) where
   inside : i < length xs
   inside = omega (arith, s.size, s.more)
 
@@ -71,26 +72,26 @@ module _ {xs : List ℕ} {m b : ℕ} {t₀ o₀ t o : List ℕ} {n i x : ℕ} {t
       drop_more (b + 2 * count_after r n) (b + 2 * m) (omega (arith, s.going.few, s.more)) t' t s.looked.rest ∙ s.going.rest
 
   -- x has a number: what holds before the next triple
-  module _ {k n' : ℕ} (er : r ≡ Vertex k n') where
-    is_in : (leb (length (with_new (met t b n) x)) 65536 ≡ true) × (k ≡ index_of (met t b n) x) × (n' ≡ length (with_new (met t b n) x))
-    is_in = vertex_in _ _ _ _ _ er (s.looked.answer 0)
+  module _ {v : Numbered} (er : r ≡ Some v) where
+    is_in : (leb (length (with_new (met t b n) x)) 65536 ≡ true) × (v.number ≡ index_of (met t b n) x) × (v.count ≡ length (with_new (met t b n) x))
+    is_in = vertex_in _ _ _ v er (s.looked.answer 0)
 
     -- the number fits a word
-    pub number_le : k ≤ 65536
+    pub number_le : v.number ≤ 65536
     number_le = omega (arith, is_in.1, index_most (met t b n) x, length_met t b n, s.going.table.few)
 
-    pub turn : m ≤ length o₀ → Going xs m b t₀ o₀ t' (set o i k) n' (i + 1)
+    pub turn : m ≤ length o₀ → Going xs m b t₀ o₀ t' (set o i v.number) v.count (i + 1)
     turn lo = record {
-      left = left_turn 65536 [] xs o₀ (met t b n) o i x s.going.left inside s.key k (met t' b n') (omega (arith, s.size)) is_in.0 is_in.1
-          (ap (λ (q : Numbered). met t' b (count_after q n)) (sym er) ∙ s.looked.now_met ∙ rw is_in.0);
+      left = left_turn 65536 [] xs o₀ (met t b n) o i x s.going.left inside s.key v.number (met t' b v.count) (omega (arith, s.size)) is_in.0 is_in.1
+          (ap (λ (q : Option Numbered). met t' b (count_after q n)) (sym er) ∙ s.looked.now_met ∙ rw is_in.0);
       few = omega (arith, is_in.2, length_with (met t b n) x, length_met t b n, s.going.few);
-      table = subst (λ (q : Numbered). Table t' b (count_after q n)) er s.looked.table;
+      table = subst (λ (q : Option Numbered). Table t' b (count_after q n)) er s.looked.table;
       table_long = s.looked.long ∙ s.going.table_long;
       rest = rest_more;
     }
 
   -- x is a 65,537th
-  pub over : r ≡ Full → AllNumbered xs m b t₀ t' o₀ o (Over i)
+  pub over : r ≡ None → AllNumbered xs m b t₀ t' o₀ o (Err (record { reason = ManyVertices; place = i }))
   over er = record {
     answer = rw (left_over 65536 [] xs o₀ (met t b n) o i x s.going.left inside s.key (full_in (leb (length (with_new (met t b n) x)) 65536) _ _ er (s.looked.answer 0)));
     numbered = λ n' e. let z : ◌≡◌ {A = ℕ} 0 1 = cc in absurd (omega arith);
@@ -99,7 +100,7 @@ module _ {xs : List ℕ} {m b : ℕ} {t₀ o₀ t o : List ℕ} {n i x : ℕ} {t
   }
 
 -- nothing is left
-pub done : (xs : List ℕ) (m b : ℕ) (t₀ o₀ t o : List ℕ) (n i : ℕ) → length xs ≡ m → m ≤ i → Going xs m b t₀ o₀ t o n i → AllNumbered xs m b t₀ t o₀ o (Count n)
+pub done : (xs : List ℕ) (m b : ℕ) (t₀ o₀ t o : List ℕ) (n i : ℕ) → length xs ≡ m → m ≤ i → Going xs m b t₀ o₀ t o n i → AllNumbered xs m b t₀ t o₀ o (Ok n)
 done xs m b t₀ o₀ t o n i lx ge g =
     let e : i ≡ m = omega (arith, g.left.within) in
     let end : i ≡ length xs = omega arith in
@@ -114,5 +115,5 @@ done xs m b t₀ o₀ t o n i lx ge g =
     }
 
 -- the words past the table are those from before it was cleared
-pub uncleared : {xs : List ℕ} {m b : ℕ} (t₀ t : List ℕ) {t' o o' : List ℕ} {r : All} → b ≤ length t₀ → t ≡ cleared t₀ b → AllNumbered xs m b t t' o o' r → AllNumbered xs m b t₀ t' o o' r
+pub uncleared : {xs : List ℕ} {m b : ℕ} (t₀ t : List ℕ) {t' o o' : List ℕ} {r : Result ℕ Refusal} → b ≤ length t₀ → t ≡ cleared t₀ b → AllNumbered xs m b t t' o o' r → AllNumbered xs m b t₀ t' o o' r
 uncleared {m = m} {b = b} t₀ t l e a = record { answer = a.answer; numbered = a.numbered; rest = a.rest ∙ rw e (drop_cleared t₀ b l m); kept = a.kept }

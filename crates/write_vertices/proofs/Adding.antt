@@ -11,7 +11,7 @@ use lib.Seq.{get_or-set_same, get_or-set_other, drop-set-lt}
 use Rattle.write_vertices.proofs.Triples.{met_ext}
 use Rattle.write_vertices.proofs.Links.{low_at, high_at, linked_own, linked_other, child_is, Apart, apart}
 use Rattle.write_vertices.proofs.Ways.{way_link, way_kept, ahead_kept}
-use Rattle.write_vertices.specs.Table.{triple, triple_at, met, half, half_word_at, child_of, root_of, linked_with, added, Ahead, Link, root, child, Table, Ends, TableRoom}
+use Rattle.write_vertices.specs.Table.{triple, triple_at, met, half_word_at, child_of, root_of, linked_with, added, Ahead, Link, root, child, Table, Ends, TableRoom}
 
 -- t after the first and after the second of the three stores
 abbrev first : List ℕ → ℕ → ℕ → ℕ → List ℕ

@@ -1,38 +1,24 @@
--- A turn of `clear`: storing the zeros that are left, from here on, makes the whole. And what it leaves is a table of no vertex.
-use Prim.Native.Nat.{ℕ, zero, suc, ◌+◌, ◌*◌, ◌-◌, ◌/◌, ◌≤◌, ◌<◌, ◌^◌}
+-- The first words of a table filled with zeros: what `clear` leaves, and that it is a table of no vertex.
+use Prim.Native.Nat.{ℕ, zero, suc, ◌+◌, ◌*◌, ◌/◌, ◌≤◌, ◌<◌, ◌^◌, min}
 use native.Mathlib.Omega.{arith}
-use native.Mathlib.Numerals.{add-one}
-use mathlib.Core.Path.{◌≡◌, ap, sym, ◌∙◌}
-use mathlib.Core.List.{List, ◌++◌}
-use lib.ListN.{length, get_or, set, drop, length-replicate, get_or-replicate, get_or-append}
+use mathlib.Core.Path.{◌≡◌, ap, ◌∙◌}
+use mathlib.Core.List.{List, [], ◌∷◌, ◌++◌}
+use lib.ListN.{length, get_or, drop, length-replicate, get_or-replicate, get_or-append}
 use lib.Seq.{drop_at}
-use Rattle.fields.specs.Bytes.{zeros}
+use Rattle.fields.specs.Bytes.{over, zeros}
 use Rattle.fields.specs.Put.{put}
-use Rattle.fields.proofs.Puts.{length_put, put_whole, put_nil, put_cons, past_end}
+use Rattle.fields.proofs.Puts.{length_put, put_whole}
 use Rattle.distinct.proofs.Left.{drop_more}
 use Rattle.write_vertices.specs.Table.{half_word_at, Link, root, child, cleared, Table}
 use Rattle.write_vertices.proofs.Links.{half_zero}
 
-module _ (t₀ : List ℕ) (b : ℕ) where
-  -- before the word at i
-  abbrev pub Clearing : List ℕ → ℕ → Type 0
-  Clearing t i = put i (zeros (b - i)) t ≡ cleared t₀ b
-
-  pub clearing_start : Clearing t₀ 0
-  unfolding put cleared
-  clearing_start = let e : b - 0 ≡ b = omega arith in ap (λ (n : ℕ). put 0 (zeros n) t₀) e
-
-  pub clearing_turn : (t : List ℕ) (i : ℕ) → i < b → Clearing t i → Clearing (set t i 0) (i + 1)
-  clearing_turn t i h g =
-      let e : suc (b - suc i) ≡ b - i = omega arith in
-      rw (add-one i) (sym (put_cons i 0 (zeros (b - suc i)) t) ∙ ap (λ (n : ℕ). put i (zeros n) t) e ∙ g)
-
-  -- none is left, or the words end here
-  pub clearing_done : (t : List ℕ) (i : ℕ) → b ≤ i → Clearing t i → t ≡ cleared t₀ b
-  clearing_done t i h g = let e : b - i ≡ 0 = omega arith in sym (put_nil i t) ∙ ap (λ (n : ℕ). put i (zeros n) t) (sym e) ∙ g
-
-  pub clearing_end : (t : List ℕ) (i : ℕ) → length t ≤ i → Clearing t i → t ≡ cleared t₀ b
-  clearing_end t i h g = sym (past_end i (zeros (b - i)) t h) ∙ g
+-- zeros as far as there are words, and what stands behind them
+pub cleared_parts : (b : ℕ) (t : List ℕ) (n : ℕ) → n ≡ min b (length t) → zeros n ++ drop n t ≡ cleared t b
+unfolding cleared over
+cleared_parts zero t n e = let z : n ≡ 0 = omega arith in rw z
+cleared_parts (suc b) [] n e = let z : n ≡ 0 = omega arith in rw z
+cleared_parts (suc b) (x ∷ t) zero e = absurd (omega arith)
+cleared_parts (suc b) (x ∷ t) (suc n) e = ap (λ (l : List ℕ). 0 ∷ l) (cleared_parts b t n (omega arith))
 
 -- a table of no vertex
 module _ (t : List ℕ) (b : ℕ) (l : b ≤ length t) where

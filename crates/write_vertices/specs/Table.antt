@@ -3,12 +3,10 @@
 -- child, is half a word: 1 + the vertex, or 0 where there is none. Vertex 65,535 has no link that leads to it: of a full table a walk looks at it last.
 -- Word k below b holds the root of tree k (low) and the right child of vertex k (high); a left child stands above its vertex's z.
 -- Definitions only.
-use Rattle.std.specs.Prelude.{ℕ, zero, suc, ◌+◌, ◌*◌, ◌-◌, ◌/◌, ◌%◌, ◌≤◌, ◌<◌, ◌^◌, cond, ◌≡◌, List, [], ◌∷◌, ◌++◌, length, get_or, drop, set, ltb}
+use Rattle.std.specs.Prelude.{ℕ, zero, suc, ◌+◌, ◌*◌, ◌-◌, ◌/◌, ◌%◌, ◌≤◌, ◌<◌, ◌^◌, cond, ◌≡◌, List, [], ◌∷◌, ◌++◌, length, get_or, drop, set, ltb, Option, Result, Ok, Err}
 use Rattle.fields.specs.Bytes.{over, zeros}
 use Rattle.distinct.specs.Numbers.{up_to}
 use Rattle.write_vertices.specs.Vertices.{paper, number_of, count_after}
-use Rattle.write_vertices.specs.declared.FoundVertex.{FoundVertex}
-use Rattle.write_vertices.specs.declared.FoundVertex.TheVariants.{At, End}
 use Rattle.write_vertices.specs.declared.Numbered.{Numbered}
 
 -- the triple whose first word is at `at`: x and y in that word, z in the low half of the next
@@ -101,9 +99,9 @@ pub record Ends (t : List ℕ) (b n x s : ℕ) : Type 0 where
   pub none : (j : ℕ) → j < n → triple t b j ≡ x → ⊥
 
 -- the answer of a walk for x: the vertex with x, or where it would stand
-abbrev pub Walked : List ℕ → ℕ → ℕ → ℕ → FoundVertex → Type 0
-Walked t b n x (At i) = Finds t b n x i
-Walked t b n x (End s) = Ends t b n x s
+abbrev pub Walked : List ℕ → ℕ → ℕ → ℕ → Result ℕ ℕ → Type 0
+Walked t b n x (Ok i) = Finds t b n x i
+Walked t b n x (Err s) = Ends t b n x s
 
 -- t with its b first words 0: a table of no vertex
 unfoldable pub cleared : List ℕ → ℕ → List ℕ
@@ -125,7 +123,7 @@ pub record TableRoom (t : List ℕ) (b n x : ℕ) : Type 0 where
   pub short : x < 2 ^ 48
 
 -- t' is the table t of n vertices after x was looked up, with the answer r. No word behind the table's last vertex is changed
-pub record LookedUp (t t' : List ℕ) (b n x : ℕ) (r : Numbered) : Type 0 where
+pub record LookedUp (t t' : List ℕ) (b n x : ℕ) (r : Option Numbered) : Type 0 where
   pub answer : (place : ℕ) → paper r place ≡ number_of (met t b n) x place
   pub now_met : met t' b (count_after r n) ≡ up_to 65536 (met t b n) x
   pub table : Table t' b (count_after r n)

@@ -5,20 +5,11 @@
 ghost use Rattle.std.specs.Prelude.{◌≡◌, ◌+◌, ◌/◌, ◌≤◌, ◌<◌, ◌^◌, min, length};
 ghost use Rattle.write_vertices.specs.Table.{triple_at, hash_of, half_word_at, child_of, Walked, Table};
 
-#[derive(Clone, Copy)]
-pub enum FoundVertex {
-    // The vertex with the triple.
-    At(usize),
-    // There is none: the half that would lead to it.
-    End(usize),
-}
-
-#[derive(Clone, Copy)]
-pub enum Numbered {
-    // Its number, and how many vertices there are now.
-    Vertex(usize, usize),
-    // It would be a 65,537th.
-    Full,
+// A vertex' number, and how many vertices there are now.
+#[derive(Clone, Copy, Debug, PartialEq, Eq)]
+pub struct Numbered {
+    pub number: usize,
+    pub count: usize,
 }
 
 // The tree in which a triple stands: a product's low half, spread over the trees. A `%` would cost a division.
@@ -40,7 +31,7 @@ pub fn whole_triple_at(table: &[u32], at: usize) -> u64
     ensures bound { result < 2 ^ 48 }
 {
     let z = table[at + 1] % 65536;
-    (table[at] as u64) + (z as u64) * 4294967296
+    u64::from(table[at]) + u64::from(z) * 4294967296
 }
 
 // The same anywhere: a word past the end counts as 0.
@@ -52,7 +43,7 @@ pub fn triple_at(table: &[u32], at: usize) -> u64
         return 0;
     }
     if table.len() - at < 2 {
-        return table[at] as u64;
+        return u64::from(table[at]);
     }
     whole_triple_at(table, at)
 }
@@ -80,37 +71,33 @@ fn child_of(buckets: usize, p: usize, key: u64) -> usize
     2 * p + 1
 }
 
-// The vertex with this triple, or the half that would lead to it: down its tree, a bit of the triple a step. Vertex 65,535 stands in none.
-pub fn find(table: &[u32], buckets: usize, count: usize, triple: u64) -> FoundVertex
+// The vertex with this triple, or as an error the half that would lead to it: down its tree, a bit of the triple a step. Vertex 65,535 stands in none.
+pub fn find(table: &[u32], buckets: usize, count: usize, triple: u64) -> Result<usize, usize>
     requires { Table table.now buckets count × (triple < 2 ^ 48) }
     ensures { Walked table.now buckets count triple result }
 {
     let mut place = 2 * hash(triple, buckets);
     let mut p = half_word_at(table, place);
     let mut key = triple;
+    // no `for`: a walk down a tree ends where it has no vertex
     while p != 0 {
         let i = p - 1;
         if whole_triple_at(table, buckets + 2 * i) == triple {
-            return FoundVertex::At(i);
+            return Ok(i);
         }
         place = child_of(buckets, i, key);
         p = half_word_at(table, place);
         key = key / 2;
     }
-    if 65535 < count {
-        if triple_at(table, buckets + 131070) == triple {
-            return FoundVertex::At(65535);
-        }
+    if 65535 < count && triple_at(table, buckets + 131070) == triple {
+        return Ok(65535);
     }
-    FoundVertex::End(place)
+    Err(place)
 }
 
 // How many trees a table for m triples has: one for each, as far as there can be vertices.
 pub fn tree_count(m: usize) -> usize
     ensures { result ≡ min m 65536 }
 {
-    if m < 65536 {
-        return m;
-    }
-    65536
+    m.min(65536)
 }

@@ -5,7 +5,7 @@ use mathlib.Core.Bool.{true}
 use mathlib.Core.List.{List, [], ◌∷◌}
 use lib.Dec.{ltb}
 use Rattle.fields.specs.Bytes.{le_at}
-use Rattle.strip.specs.Outcome.{Paper, values}
+use Rattle.strip.specs.Outcome.{values}
 use Rattle.strip.specs.Cell.{Cell}
 use Rattle.strip.specs.Box.{finite_box}
 use Rattle.read_lists.specs.Lists.{readable_at, listed}

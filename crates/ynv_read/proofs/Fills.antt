@@ -7,17 +7,20 @@ use mathlib.Core.Bool.{true}
 use mathlib.Core.List.{List, [], ◌∷◌, ◌++◌, map}
 use lib.ListN.{length, length-append, set}
 use borrow.Author.Tests.{le-leb, lt-leb}
+use Rattle.strip.specs.Reasons.{reason_number}
+use Rattle.std.specs.Prelude.{Result, Ok, Err}
 use Rattle.fields.specs.Bytes.{le_at}
 use Rattle.fields.specs.Put.{put}
 use Rattle.fields.specs.Rows.{pack}
 use Rattle.fields.proofs.Puts.{put_next, put_one, put_whole}
 use Rattle.strip.specs.Cell.{Vec3, Cell, head_words, polygon_words, end_words, encode, each}
 use Rattle.strip.specs.Box.{finite_box}
-use Rattle.strip.specs.Outcome.{shown, left, values, refusal_of}
+use Rattle.strip.specs.Outcome.{shown, left, values, refusal_of, paper}
 use Rattle.strip.specs.Outcome as Outcome
 use Rattle.strip.specs.declared.Refusal.{Refusal}
+use Rattle.strip.specs.declared.Reason.TheVariants.{TooShort}
 use Rattle.read_grammar.specs.Derives.{area_of, back_of}
-use Rattle.read_lists.specs.Lists.{readable_at, total, table_of}
+use Rattle.read_lists.specs.Lists.{total, table_of}
 use Rattle.read_lists.specs.Listed.{Readable}
 use Rattle.read_lists.proofs.Lists.{length_whole}
 use Rattle.read_sectors.specs.Walk.{walk}
@@ -29,12 +32,13 @@ use Rattle.read_list_set.specs.Items.{items_in}
 use Rattle.read_polygons.specs.Passes.{source_of, Passed}
 use Rattle.read_polygons.proofs.Exact.{tally_made}
 use Rattle.read_decide.specs.declared.ListAddresses.{ListAddresses}
+use Rattle.quantise.specs.declared.short.Frame.{Frame}
 use Rattle.cell_record.specs.declared.CellRecord.{CellRecord}
+use Rattle.cell_record.specs.Record.{frame_in}
+use Rattle.read_records.specs.Back.{back_by}
 use Rattle.read_decide.specs.declared.Parsed.{Parsed}
-use Rattle.read_decide.specs.declared.ParseAnswer.{ParseAnswer}
-use Rattle.read_decide.specs.declared.ParseAnswer.TheVariants as ParseAnswer
 use Rattle.read_decide.specs.Reading.{Reading, made, refused, header, root_at, head, source, polygons, portal_count, portals, cell_of, read_cell}
-use Rattle.read_decide.specs.Answer.{paper, counts_of}
+use Rattle.read_decide.specs.Answer.{counts_of}
 use Rattle.ynv_read.specs.Parse.{parse_outcome}
 use Rattle.read_decide.specs.Deciding.{answer_of, addresses, link_bytes, polys_words, portals_words, ListsReady, ReadyFor}
 use Rattle.ynv_read.specs.Filling.{Given, PolysFit, Fillable}
@@ -46,11 +50,11 @@ use Rattle.read_decide.proofs.Lengths.{polys_count, portals_length, points_lengt
 
 -- ---- polygons
 
-module _ (S G : List ℕ) {hd : List ℕ} {c : CellRecord} (known : Given S G hd c) {a : ListAddresses} (ed : a ≡ addresses hd)
+module _ (S G : List ℕ) {hd : List ℕ} {c : CellRecord} (known : Given S G hd c) {f : Frame} (ef : f ≡ frame_in c) {a : ListAddresses} (ed : a ≡ addresses hd)
     {vt it et pt lk : List ℕ} (ev : vt ≡ table_of S G a.vertices) (ei : it ≡ table_of S G a.indices) (ee : et ≡ table_of S G a.edges) (ep : pt ≡ table_of S G a.polygons)
     (el : lk ≡ link_bytes S G) where
   abbrev given : Source
-  given = source_of S G vt it et lk hd c.bb_min c.bb_size
+  given = source_of S G vt it et lk hd f.bb_min f.bb_size
 
   ea : a ≡ addresses (header S G)
   ea = ed ∙ ap addresses known.header_is
@@ -66,8 +70,9 @@ module _ (S G : List ℕ) {hd : List ℕ} {c : CellRecord} (known : Given S G hd
       let e : items_in S G 8 et ≡ s.edges = ap (items_in S G 8) (rw ea at ee) in
       let l : links_of lk ≡ s.links = ap links_of el ∙ sym (links_are S G (le_at 8 (header S G) 0x130) (le_at 4 (header S G) 0x150)) in
       let area : area_of hd ≡ area_of (header S G) = ap area_of known.header_is in
+      let back : given.back ≡ s.back = ap (λ (x : Frame). back_by x.bb_min x.bb_size) ef ∙ back_is S G known.cell_is in
       let readable_at : make (items_in S G 6 vt) (items_in S G 2 it) (items_in S G 8 et) (links_of lk) (area_of hd) given.back ≡ make s.vertices s.indices s.edges s.links s.area s.back =
-      rw (v, i, e, l, area, back_is S G known.cell_is) in
+      rw (v, i, e, l, area, back) in
       readable_at
 
   polys_are : items_in S G 48 pt ≡ polygons S G
@@ -162,19 +167,19 @@ filled S G e x₀ {x₁} {x₂} {x₃} {x₄} {r₁} {r₂} {r₃} e₁ (n₂, e
 
 -- ---- the answer
 
-module _ (S G : List ℕ) {r : ParseAnswer} (er : (paper r ≡ answer_of (read_cell S G)) × ReadyFor S G r) where
-  pub parse_stopped : {q : Refusal} → r ≡ ParseAnswer.Refused q → (old : List ℕ)
-      → (paper (ParseAnswer.Refused q) ≡ shown (parse_outcome S G (length old))) × (old ≡ left (parse_outcome S G (length old)) old)
+module _ (S G : List ℕ) {r : (Result Parsed Refusal)} (er : (paper r ≡ answer_of (read_cell S G)) × ReadyFor S G r) where
+  pub parse_stopped : {q : Refusal} → r ≡ Err q → (old : List ℕ)
+      → (paper (Err q) ≡ shown (parse_outcome S G (length old))) × (old ≡ left (parse_outcome S G (length old)) old)
   unfolding parse_outcome
   parse_stopped {q} e old =
-      let is : read_cell S G ≡ refused q.number q.place = by (read_cell S G) (sym er.0 ∙ ap paper e) in
+      let is : read_cell S G ≡ refused (reason_number q.reason) q.place = by (read_cell S G) (sym er.0 ∙ ap paper e) in
       rw is (refl, refl)
     where
-      by : (x : Reading) → answer_of x ≡ refusal_of q → x ≡ refused q.number q.place
+      by : (x : Reading) → answer_of x ≡ refusal_of q → x ≡ refused (reason_number q.reason) q.place
       by (refused number place) f = cc
       by (made c k) f = let z : ◌≡◌ {A = ℕ} 0 1 = cc in absurd (omega arith)
 
-  module _ {p : Parsed} (e : r ≡ ParseAnswer.Parsed p) where
+  module _ {p : Parsed} (e : r ≡ Ok p) where
     made_of : (c : Cell) × (k : ℕ) × (read_cell S G ≡ made c k) × (counts_of c k ≡ p)
     made_of = by (read_cell S G) refl (sym er.0 ∙ ap paper e)
       where
@@ -183,7 +188,7 @@ module _ (S G : List ℕ) {r : ParseAnswer} (er : (paper r ≡ answer_of (read_c
         by (refused number place) f g = let z : ◌≡◌ {A = ℕ} 0 1 = cc in absurd (omega arith)
 
     pub parse_short : (old : List ℕ) → length old < p.words
-        → (paper (ParseAnswer.Refused (record { number = 2; place = 0 })) ≡ shown (parse_outcome S G (length old))) × (old ≡ left (parse_outcome S G (length old)) old)
+        → (paper (Err (record { reason = TooShort; place = 0 })) ≡ shown (parse_outcome S G (length old))) × (old ≡ left (parse_outcome S G (length old)) old)
     unfolding parse_outcome
     parse_short old h =
         let (c, k, is, counts) = made_of in
@@ -195,11 +200,11 @@ module _ (S G : List ℕ) {r : ParseAnswer} (er : (paper r ≡ answer_of (read_c
         let (c, k, is, counts) = made_of in
         let long : length (encode c) ≤ n = rw (← counts) at h in
         let polys : p.polys ≡ length c.polys = ap (λ (x : Parsed). x.polys) (sym counts) in
-        let ready : ReadyFor S G (ParseAnswer.Parsed p) = rw e at er.1 in
+        let ready : ReadyFor S G (Ok p) = rw e at er.1 in
         record { cell = c; sectors = k; is = is; polys_are = polys; room = long; ready = ready }
 
     pub parse_done : (old : List ℕ) {new : List ℕ} → p.words ≤ length old → ((c : Cell) (k : ℕ) → read_cell S G ≡ made c k → new ≡ put 0 (encode c) old)
-        → (paper (ParseAnswer.Parsed p) ≡ shown (parse_outcome S G (length old))) × (new ≡ left (parse_outcome S G (length old)) old)
+        → (paper (Ok p) ≡ shown (parse_outcome S G (length old))) × (new ≡ left (parse_outcome S G (length old)) old)
     unfolding parse_outcome
     parse_done old {new} h fill =
         let (c, k, is, counts) = made_of in

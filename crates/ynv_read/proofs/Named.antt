@@ -96,7 +96,7 @@ module _ (S G : List ℕ) where
       by : (t : Paper ℕ) → tally_from l is 0 (polygons S G) ≡ t → AsNamed count (on_paper t rest)
       by (values n) e = k
       by (refusal number p) e =
-          let (f, lo, hi) = tally_refused l is 0 (polygons S G) {r = record { number = number; place = p }} e in
+          let (f, lo, hi) = tally_refused l is 0 (polygons S G) {m = number} {q = p} e in
           let inside : p < count = omega arith in
           ⊎_elim (λ h. named_at h refl (bad_run inside)) (λ h. named_at h refl (bad_index inside)) f
 

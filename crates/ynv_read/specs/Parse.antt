@@ -2,7 +2,6 @@
 use Rattle.std.specs.Prelude.{ℕ, cond, List, leb, length}
 use Rattle.strip.specs.Cell.{encode}
 use Rattle.strip.specs.Outcome.{Outcome}
-use Rattle.strip.specs.Outcome as Outcome
 use Rattle.read_decide.specs.Reading.{Reading, made, refused, read_cell}
 use Rattle.read_decide.specs.declared.Parsed.{Parsed}
 use Rattle.read_decide.specs.Answer.{counts_of}

@@ -6,6 +6,7 @@ use mathlib.Core.List.{List}
 use lib.ListN.{length}
 use lib.Dec.{ltb}
 use borrow.Author.Tests.{lt-ltb, le-ltb}
+use Rattle.strip.specs.Reasons.{reason_number}
 use Rattle.strip.specs.Outcome.{refused, done, values, shown}
 use Rattle.pushed.specs.Pushed.{pushed}
 use Rattle.write_pages.specs.Pages.{pages}
@@ -15,7 +16,7 @@ use Rattle.write_pages.proofs.Stored.{stored_and_dropped}
 use Rattle.strip.specs.declared.Counts.{Counts}
 use Rattle.strip.proofs.Laid.{counts_back}
 use Rattle.strip.specs.declared.Refusal.{Refusal}
-use Rattle.write_polygon_checks.specs.declared.Verdict.TheVariants.{Fine, Refused}
+use Rattle.std.specs.Prelude.{Result, Ok, Err}
 use Rattle.write_decide.specs.declared.Decision.{Decision}
 use Rattle.write_plan.specs.Plan.{Planned}
 use Rattle.strip.specs.Laid.{cell_at}
@@ -26,16 +27,16 @@ use Rattle.ynv_write.specs.Serialize.{written_of, serialize_outcome}
 pub all_points : (s : List ℕ) (n : Counts) → stored_count (cell_at s n) + dropped_count (cell_at s n) ≡ n.points
 all_points s n = stored_and_dropped (cell_at s n) ∙ ap (λ (m : Counts). m.points) (counts_back s n)
 
-module _ (s w w' : List ℕ) (d : Decision) (P : Planned s w w' d) (out : ℕ) where
-  pub refuses : (q : Refusal) → d.verdict ≡ Refused q → serialize_outcome s (length w) out ≡ refused q.number q.place
+module _ (s w w' : List ℕ) (r : Result Decision Refusal) (P : Planned s w w' r) (out : ℕ) where
+  pub refuses : (q : Refusal) → r ≡ Err q → serialize_outcome s (length w) out ≡ refused (reason_number q.reason) q.place
   unfolding serialize_outcome
-  refuses q bad = refused_so s w w' d written_of out P q bad
+  refuses q bad = refused_so s w w' r written_of out P q bad
 
-  module _ (z : d.verdict ≡ Fine) where
+  module _ (d : Decision) (z : r ≡ Ok d) where
     decided : serialize_outcome s (length w) out
         ≡ on_verdict (at 0 (fault_if (ltb out (length (pages (cell_at s d.counts)))) 2) fine) (done (written_of (cell_at s d.counts)) (pages (cell_at s d.counts)))
     unfolding serialize_outcome
-    decided = rw ((ready s w w' d P z).scanned, verdict_of s w w' d out P z)
+    decided = rw ((ready s w w' r P d z).scanned, verdict_of s w w' r out P d z)
 
     pub too_short : out < length (pages (cell_at s d.counts)) → serialize_outcome s (length w) out ≡ refused 2 0
     unfolding at

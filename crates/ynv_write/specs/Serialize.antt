@@ -1,18 +1,12 @@
 -- What `serialize_ynv` decides: document 01's checks for writing in their order, and then the pages. Definitions only.
 use Rattle.std.specs.Prelude.{ℕ, List, length}
 use Rattle.strip.specs.Cell.{Cell}
-use Rattle.strip.specs.Outcome.{Outcome, Paper, values, refusal_of}
+use Rattle.strip.specs.Outcome.{Outcome}
 use Rattle.pushed.specs.Pushed.{pushed}
 use Rattle.write_pages.specs.Pages.{pages}
 use Rattle.write_pages.specs.PointCounts.{stored_count, dropped_count}
 use Rattle.write_pages.specs.Checks.{write_outcome}
 use Rattle.ynv_write.specs.declared.Written.{Written}
-use Rattle.ynv_write.specs.declared.SerializeAnswer.{SerializeAnswer}
-
--- what each case of the answer says
-abbrev pub paper : SerializeAnswer → Paper Written
-paper (SerializeAnswer.Written w) = values w
-paper (SerializeAnswer.Refused r) = refusal_of r
 
 -- the values of an accepted cell: "The writer's answer gains points stored and points dropped", and how many coordinates are pushed to the border stands there too
 abbrev pub written_of : Cell → Written

@@ -5,5 +5,5 @@ pub returns : goal.returns
 returns c =
     record {
       answer = c.ensure_id-e.ensures.answer.answer;
-      table = rw (c.areas_of-areas.ensures, c.ensure_id-e.ensures.answer.len_is, c.ensure_id-e.ensures.table);
+      table = rw (c.areas_of.ensures, c.ensure_id-e.ensures.answer.len_is, c.ensure_id-e.ensures.table);
     }

@@ -2,13 +2,9 @@
 use Rattle.std.proofs.Common.{ap, ◌∙◌}
 use lib.Ieee.{of_bits, neg, to_unsigned}
 use Rattle.cell_grid.specs.Grid.{coordinate}
-use Rattle.cell_grid.proofs.Cut.{cut_below, cut_above}
+use Rattle.cell_grid.proofs.Cut.{cut_to}
 use Rattle.cell_grid.proofs.coordinate_of.Goals as goal
 
-pub returns-then-n-lt99 : goal.returns-then-n-lt99
+pub returns : goal.returns
 unfolding coordinate of_bits neg
-returns-then-n-lt99 c = cut_below _ _ (c.saturating_f64_to_u64-n.ensures ∙ ap (to_unsigned 64) c.f32_to_f64_with_nan.ensures) c.if-n-lt99.true
-
-pub returns-else-n-lt99 : goal.returns-else-n-lt99
-unfolding coordinate of_bits neg
-returns-else-n-lt99 c = cut_above _ _ (c.saturating_f64_to_u64-n.ensures ∙ ap (to_unsigned 64) c.f32_to_f64_with_nan.ensures) c.if-n-lt99.false
+returns c = cut_to _ _ (c.saturating_f64_to_u64-n.ensures ∙ ap (to_unsigned 64) c.f32_to_f64_with_nan.ensures) c.min.ensures

@@ -5,4 +5,4 @@ use Rattle.cell_record.proofs.record_at.Goals as goal
 
 pub returns : goal.returns
 unfolding record_of head_at
-returns c = rw (c.floats_at-bb_min.ensures, c.floats_at-bb_max.ensures, c.floats_at-bb_size.ensures)
+returns c = rw (c.floats_at.ensures, c.floats_at-2.ensures, c.floats_at-3.ensures)

@@ -12,7 +12,8 @@ returns c =
     let n = c.put_named-a.ensures in
     let p = c.put_named-b.ensures in
     let t = c.put_text.ensures in
+    let first = rw c.from.ensures at n.stored in
     record {
-      stored = stored_then n.stored (stored_then p.stored (stored_then (stored t.size t.stored) nothing));
+      stored = stored_then first (stored_then p.stored (stored_then (stored t.size t.stored) nothing));
       bound = omega (arith, n.bound, p.bound, t.size);
     }

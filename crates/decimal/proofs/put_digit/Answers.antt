@@ -6,14 +6,12 @@ use native.Mathlib.Omega.{arith}
 use Rattle.fields.proofs.Puts.{past_end, put_one}
 use Rattle.decimal.specs.Text.{digit}
 use Rattle.decimal.proofs.put_digit.Goals as goal
+use Rattle.decimal.proofs.put_digit.Goals.{else-at-out-via-then-at-out+else-i-out, else-at-out-via-else-at-out}
 
-pub returns-then-out-at : goal.returns-then-out-at
-returns-then-out-at c = let a = c.args in sym (past_end (a.at + a.i) (digit a.d ∷ []) a.out.now (omega arith))
+pub returns-then-i-out : goal.returns-then-i-out
+returns-then-i-out c = let a = c.args in sym (put_one (a.at + a.i) (digit a.d) a.out.now)
 
-pub returns-then-out-at-2 : goal.returns-then-out-at-2
-returns-then-out-at-2 c =
+pub returns-else-at-out : goal.returns-else-at-out
+returns-else-at-out c =
     let a = c.args in
-    sym (past_end (a.at + a.i) (digit a.d ∷ []) a.out.now (omega arith))
-
-pub returns : goal.returns
-returns c = let a = c.args in sym (put_one (a.at + a.i) (digit a.d) a.out.now)
+    sym (past_end (a.at + a.i) (digit a.d ∷ []) a.out.now (elim c.else-at-out.branch [ else-at-out-via-then-at-out+else-i-out w ↦ omega arith | else-at-out-via-else-at-out w ↦ omega arith ]))

@@ -1,14 +1,14 @@
--- `distinct::index_of` meets its contract: the first `count` of a shorter list are the whole list.
-use native.Mathlib.Omega.{arith}
-use mathlib.Core.Path.{ap, ◌∙◌, sym}
-use mathlib.Core.List.{List}
-use Prim.Native.Nat.{ℕ}
-use lib.Seq.{take_all, take-length}
+-- `distinct::index_of` meets its contract: it is the library's search in the ids that count.
+use Rattle.std.proofs.Common.{◌∙◌, take, length, ap}
+use Rattle.std.proofs.lemmas.List.{take_min}
+use Rattle.std.specs.Option.{unwrap_or}
 use Rattle.distinct.specs.Distinct.{index_of}
+use Rattle.distinct.proofs.Laws.{found_or}
 use Rattle.distinct.proofs.index_of.Goals as goal
 
-pub returns-then-ids-count : goal.returns-then-ids-count
-returns-then-ids-count c =
+pub returns : goal.returns
+returns c =
     let a = c.args in
-    let same = take-length a.ids.now ∙ sym (take_all a.count a.ids.now (omega arith)) in
-    c.first_of.ensures ∙ ap (λ (l : List ℕ). index_of l a.id) same
+    let known = take c.min.result a.ids.now in
+    found_or known a.id (c.unwrap_or.ensures ∙ ap (λ p. unwrap_or p (length known)) c.first_of.ensures)
+    ∙ ap (λ l. index_of l a.id) (ap (λ n. take n a.ids.now) c.min.ensures ∙ take_min a.count a.ids.now)

@@ -1,11 +1,7 @@
--- `fields::u32_le` meets its contract: near the end it is two numbers of 2 bytes side by side, by the law over the width.
-use mathlib.Core.Path.{sym}
-use native.Mathlib.Omega.{arith}
-use Rattle.fields.proofs.Bytes.{join, past}
+-- `fields::u32_le` meets its contract: std's number of the bytes that were found.
+use mathlib.Core.Path.{◌∙◌}
+use Rattle.fields.proofs.Bytes.{low_first}
 use Rattle.fields.proofs.u32_le.Goals as goal
 
-pub returns-then-b-off : goal.returns-then-b-off
-returns-then-b-off c = sym (past 4 _ _ c.if-b-off.true)
-
 pub returns : goal.returns
-returns c = rw (join 2 2) (omega arith)
+returns c = c.from_le_bytes.ensures ∙ low_first 3 c.bytes_at.result ∙ c.bytes_at.ensures

@@ -1,7 +1,10 @@
--- `fields::u8_le` meets its contract: past the end a field is 0 by `past`, and otherwise it is the callee's equation.
-use mathlib.Core.Path.{sym}
-use Rattle.fields.proofs.Bytes.{past}
+-- `fields::u8_le` meets its contract: a number of one byte is the byte.
+use Rattle.std.proofs.Common.{◌≡◌, ◌∙◌, sym, rules, get_or}
+use Rattle.fields.proofs.Bytes.{le_one}
 use Rattle.fields.proofs.u8_le.Goals as goal
 
-pub returns-then-b-off : goal.returns-then-b-off
-returns-then-b-off c = sym (past 1 _ _ c.if-b-off.true)
+pub returns : goal.returns
+returns c =
+    let a = c.args in
+    let v : c.unwrap_or.result ≡ get_or a.b.now a.off 0 = search rules in
+    v ∙ sym (le_one a.b.now a.off)

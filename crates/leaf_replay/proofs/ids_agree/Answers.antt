@@ -1,4 +1,4 @@
--- `leaf_replay::ids_agree` meets its contract. The loop's invariant: the words passed agree. The measure is how many are left.
+-- `leaf_replay::ids_agree` meets its contract. The loop's invariant: the words passed agree.
 use mathlib.Core.Bool.{false≢true}
 use native.Mathlib.Omega.{arith}
 use mathlib.Core.Path.{◌∙◌}

@@ -30,7 +30,7 @@ returns c =
     let first = length (each (vertex_lines (floats h.bb_min) (floats h.bb_size)) ps) in
     let second = length (each spaced (consecutive 1 (vertex_count ps))) in
     let whole : length (text_of h ps) ≡ first + second + n + n = omega (arith, text_length h ps, faces_length ps 1, poly_count s n) in
-    let lines-counted = rw c.record_at-cell.ensures at c.polygons_length.ensures in
+    let lines-counted = rw (c.frame.ensures, c.record_at-cell.ensures) at c.polygons_length.ensures in
     let numbers-counted = rw c.requires.2 at c.numbers_length.ensures in
-    let summed-up = both first second lines-counted numbers-counted c.onward-lines.ensures in
-    rw whole (and_more (first + second + n) n (and_more (first + second) n summed-up c.onward.ensures) c.onward-2.ensures)
+    let summed-up = both first second lines-counted numbers-counted c.saturating_add.ensures in
+    rw whole (and_more (first + second + n) n (and_more (first + second) n summed-up c.saturating_add-2.ensures) c.saturating_add-3.ensures)

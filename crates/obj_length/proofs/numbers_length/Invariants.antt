@@ -1,5 +1,5 @@
 -- `obj_length::numbers_length` meets its contract. The invariant: the bytes counted and the digits that are left of each number are all.
-use Prim.Native.Nat.{◌+◌, ◌-◌, ◌^◌, ◌≤◌, min}
+use Prim.Native.Nat.{◌+◌, ◌^◌, ◌≤◌, min}
 use mathlib.Core.Path.{◌≡◌}
 use lib.ListN.{length}
 use Rattle.strip.specs.Cell.{each}
@@ -8,10 +8,7 @@ use Rattle.obj_lines.specs.Lines.{spaced, consecutive}
 use Rattle.obj_length.proofs.Numbers.{over}
 use Rattle.obj_length.proofs.numbers_length.Given as goal
 
-abbrev pub invariant-loop-digits : goal.invariant-loop-digits
-invariant-loop-digits l =
-    (l.digits ≤ 19) × (l.tens ≡ 10 ^ l.digits) × (l.bytes ≤ last)
-    × (min (l.bytes + over l.digits 1 l.n) last ≡ min (length (each spaced (consecutive 1 l.n))) last)
-
-abbrev pub decreases-loop-digits : goal.decreases-loop-digits
-decreases-loop-digits l = 19 - l.digits
+abbrev pub invariant-loop : goal.invariant-loop
+invariant-loop l =
+    (l.tens ≡ 10 ^ l.counter) × (l.bytes ≤ last)
+    × (min (l.bytes + over l.counter 1 l.n) last ≡ min (length (each spaced (consecutive 1 l.n))) last)

@@ -8,10 +8,7 @@ use Rattle.obj_length.specs.Last.{last}
 use Rattle.obj_text.specs.Text.{vertex_lines}
 use Rattle.obj_length.proofs.polygons_length.Given as goal
 
-abbrev pub invariant-loop-i : goal.invariant-loop-i
-invariant-loop-i l =
-    (l.i ≤ l.n) × (after_polygons l.strip l.at (l.n - l.i) ≤ length l.strip) × (l.bytes ≤ last)
-    × (min (l.bytes + length (each (vertex_lines l.bb_min l.bb_size) (polygons_at l.strip l.at (l.n - l.i)))) last ≡ min (length (each (vertex_lines l.bb_min l.bb_size) (polygons_at l.strip 14 l.n))) last)
-
-abbrev pub decreases-loop-i : goal.decreases-loop-i
-decreases-loop-i l = l.n - l.i
+abbrev pub invariant-loop : goal.invariant-loop
+invariant-loop l =
+    (after_polygons l.strip l.at (l.n - l.counter) ≤ length l.strip) × (l.bytes ≤ last)
+    × (min (l.bytes + length (each (vertex_lines l.frame.bb_min l.frame.bb_size) (polygons_at l.strip l.at (l.n - l.counter)))) last ≡ min (length (each (vertex_lines l.frame.bb_min l.frame.bb_size) (polygons_at l.strip 14 l.n))) last)

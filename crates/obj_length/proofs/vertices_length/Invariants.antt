@@ -9,8 +9,5 @@ use Rattle.obj_length.proofs.vertices_length.Given as goal
 
 abbrev pub invariant-loop-i : goal.invariant-loop-i
 invariant-loop-i l =
-    (l.i ≤ l.n) × (l.place + 3 * (l.n - l.i) ≤ length l.strip) × (l.bytes ≤ 20 * l.i)
-    × (l.bytes + length (each (vertex_line l.bb_min l.bb_size) (vecs_at l.strip l.place (l.n - l.i))) ≡ length (each (vertex_line l.bb_min l.bb_size) (vecs_at l.strip l.from l.n)))
-
-abbrev pub decreases-loop-i : goal.decreases-loop-i
-decreases-loop-i l = l.n - l.i
+    (l.bytes ≤ 20 * l.i)
+    × (l.bytes + length (each (vertex_line l.frame.bb_min l.frame.bb_size) (vecs_at l.strip (l.from + 3 * l.i) (l.n - l.i))) ≡ length (each (vertex_line l.frame.bb_min l.frame.bb_size) (vecs_at l.strip l.from l.n)))

@@ -11,9 +11,6 @@ use Rattle.obj_room.proofs.tally_polygons.Given as goal
 
 abbrev pub invariant-loop-i : goal.invariant-loop-i
 invariant-loop-i l =
-    (l.i ≤ l.n) × (after_polygons l.strip l.at (l.n - l.i) ≤ length l.strip) × (l.count ≤ l.at)
+    (after_polygons l.strip l.at (l.n - l.i) ≤ length l.strip) × (l.count ≤ l.at)
     × (first_from is_thin 0 (polygons_at l.strip 14 l.n) ≡ first_from is_thin l.i (polygons_at l.strip l.at (l.n - l.i)))
     × (l.count + vertex_count (polygons_at l.strip l.at (l.n - l.i)) ≡ vertex_count (polygons_at l.strip 14 l.n))
-
-abbrev pub decreases-loop-i : goal.decreases-loop-i
-decreases-loop-i l = l.n - l.i

@@ -12,43 +12,43 @@ use Rattle.obj_text.specs.Text.{face_numbers, face_lines}
 use Rattle.obj_text.proofs.Polygons.{faces_turn, no_polygons}
 use Rattle.obj_text.proofs.put_faces.Goals as goal
 
-pub loop-i-init : goal.loop-i-init
-loop-i-init c = (omega arith, rw sub-zero c.requires.0, omega arith, begins c.requires.1 (rw sub-zero))
+pub loop-init : goal.loop-init
+loop-init c = (rw sub-zero c.requires.0, omega arith, begins c.requires.1 (rw sub-zero))
 
 pub poly_at-p-requires : goal.poly_at-p-requires
 poly_at-p-requires c =
     let a = c.args in
-    let l = c.loop-i in
+    let l = c.loop in
     let p = poly_at a.strip.now l.at in
-    omega (arith, parts a.strip.now l.at p refl, next_inside a.strip.now l.at l.i a.n (length a.strip.now) c.loop-i-test.true l.invariant.1 p refl)
+    omega (arith, parts a.strip.now l.at p refl, next_inside a.strip.now l.at l.counter a.n (length a.strip.now) c.loop-test.true l.invariant.0 p refl)
 
 pub put_face-to-requires : goal.put_face-to-requires
 put_face-to-requires c =
     let a = c.args in
-    let l = c.loop-i in
+    let l = c.loop in
     let e = c.poly_at-p.ensures in
-    let h = c.loop-i-test.true in
-    let t = faces_turn a.strip.now l.at l.i a.n h _ e l.number _ refl in
-    (omega (arith, parts _ _ _ e, next_inside a.strip.now l.at l.i a.n (length a.strip.now) h l.invariant.1 _ e), has_room (face_line (consecutive l.number c.poly_at-p.result.vertices)) _ l.invariant.3 t)
+    let h = c.loop-test.true in
+    let t = faces_turn a.strip.now l.at l.counter a.n h _ e l.number _ refl in
+    (omega (arith, parts _ _ _ e, next_inside a.strip.now l.at l.counter a.n (length a.strip.now) h l.invariant.0 _ e), has_room (face_line (consecutive l.number c.poly_at-p.result.vertices)) _ l.invariant.2 t)
 
 pub overflow_add-number : goal.overflow_add-number
 overflow_add-number c =
     let a = c.args in
-    let l = c.loop-i in
+    let l = c.loop in
     let e = c.poly_at-p.ensures in
-    omega (arith, c.well_formed, l.invariant.2, parts _ _ _ e, next_inside a.strip.now l.at l.i a.n (length a.strip.now) c.loop-i-test.true l.invariant.1 _ e)
+    omega (arith, c.well_formed, l.invariant.1, parts _ _ _ e, next_inside a.strip.now l.at l.counter a.n (length a.strip.now) c.loop-test.true l.invariant.0 _ e)
 
-pub loop-i-preserved : goal.loop-i-preserved
-loop-i-preserved c =
+pub loop-preserved : goal.loop-preserved
+loop-preserved c =
     let a = c.args in
-    let l = c.loop-i in
+    let l = c.loop in
     let e = c.poly_at-p.ensures in
-    let k = after_polygon a.strip.now l.at l.i a.n c.loop-i-test.true _ e in
-    (omega arith, omega (arith, k), omega (arith, parts _ _ _ e), goes_on l.invariant.3 (faces_turn a.strip.now l.at l.i a.n c.loop-i-test.true _ e l.number _ (omega arith)) c.put_face-to.ensures)
+    let k = after_polygon a.strip.now l.at l.counter a.n c.loop-test.true _ e in
+    (omega (arith, k), omega (arith, parts _ _ _ e), goes_on l.invariant.2 (faces_turn a.strip.now l.at l.counter a.n c.loop-test.true _ e l.number _ (omega arith)) c.put_face-to.ensures)
 
 pub returns : goal.returns
 unfolding each face_numbers
 returns c =
     let a = c.args in
-    let l = c.loop-i in
-    ends l.invariant.3 (ap (face_lines l.number) (no_polygons a.strip.now l.at l.i a.n c.loop-i-test.false))
+    let l = c.loop in
+    ends l.invariant.2 (ap (face_lines l.number) (no_polygons a.strip.now l.at l.counter a.n c.loop-test.false))

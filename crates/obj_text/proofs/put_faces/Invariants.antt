@@ -7,10 +7,7 @@ use Rattle.obj_lines.proofs.Storing.{Storing}
 use Rattle.obj_text.specs.Text.{face_lines}
 use Rattle.obj_text.proofs.put_faces.Given as goal
 
-abbrev pub invariant-loop-i : goal.invariant-loop-i
-invariant-loop-i l =
-    (l.i ≤ l.n) × (after_polygons l.strip l.at (l.n - l.i) ≤ length l.strip) × (l.number ≤ l.at)
-    × Storing l.start (face_lines 1 (polygons_at l.strip 14 l.n)) l.initial.text l.to (face_lines l.number (polygons_at l.strip l.at (l.n - l.i))) l.text
-
-abbrev pub decreases-loop-i : goal.decreases-loop-i
-decreases-loop-i l = l.n - l.i
+abbrev pub invariant-loop : goal.invariant-loop
+invariant-loop l =
+    (after_polygons l.strip l.at (l.n - l.counter) ≤ length l.strip) × (l.number ≤ l.at)
+    × Storing l.start (face_lines 1 (polygons_at l.strip 14 l.n)) l.initial.text l.to (face_lines l.number (polygons_at l.strip l.at (l.n - l.counter))) l.text

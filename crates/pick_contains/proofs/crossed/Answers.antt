@@ -1,29 +1,28 @@
 -- `pick_contains::crossed` meets its contract: the two tests of the definition, in its order.
 use borrow.Author.Tests.{le-leb, lt-leb}
-use native.Mathlib.Omega.{arith}
 use Rattle.pick_contains.specs.Inside.{crossed}
 use Rattle.pick_contains.proofs.crossed.Goals as goal
 
-pub returns-then-b-s : goal.returns-then-b-s
+pub returns-in-true-false : goal.returns-in-true-false
 unfolding crossed
-returns-then-b-s c =
+returns-in-true-false c =
     let a = c.args in
-    rw (le-leb a.a.y a.s.y (omega arith), le-leb a.b.y a.s.y (omega arith))
+    rw (le-leb a.a.y a.s.y c.in-true-false.is-0, lt-leb a.b.y a.s.y c.in-true-false.is-1) c.left_of_side.ensures
 
-pub returns-then-a-s : goal.returns-then-a-s
+pub returns-in-false-true : goal.returns-in-false-true
 unfolding crossed
-returns-then-a-s c =
+returns-in-false-true c =
     let a = c.args in
-    rw (le-leb a.a.y a.s.y (omega arith), lt-leb a.b.y a.s.y (omega arith)) c.left_of_side.ensures
+    rw (lt-leb a.a.y a.s.y c.in-false-true.is-0, le-leb a.b.y a.s.y c.in-false-true.is-1) c.left_of_side-in-false-true.ensures
 
-pub returns-then-b-s-2 : goal.returns-then-b-s-2
+pub returns-in_default : goal.returns-in_default
 unfolding crossed
-returns-then-b-s-2 c =
+returns-in_default c =
     let a = c.args in
-    rw (lt-leb a.a.y a.s.y (omega arith), le-leb a.b.y a.s.y (omega arith)) c.left_of_side-then-b-s-2.ensures
+    rw (le-leb a.a.y a.s.y c.in_default.is-0, le-leb a.b.y a.s.y c.in_default.is-1)
 
-pub returns : goal.returns
+pub returns-in_default-2 : goal.returns-in_default-2
 unfolding crossed
-returns c =
+returns-in_default-2 c =
     let a = c.args in
-    rw (lt-leb a.a.y a.s.y (omega arith), lt-leb a.b.y a.s.y (omega arith))
+    rw (lt-leb a.a.y a.s.y c.in_default.is-0, lt-leb a.b.y a.s.y c.in_default.is-1)

@@ -1,4 +1,4 @@
--- `pick_contains::crossings` meets its contract. The invariant: the sides crossed are the count and those crossed of what is left, from `last` to the vertex at `place` and on.
+-- The sides crossed are the count and those crossed of what is left, from `last` to the vertex at i and on.
 use Prim.Native.Nat.{◌+◌, ◌-◌, ◌*◌, ◌≤◌, ◌<◌}
 use lib.ListN.{length}
 use mathlib.Core.Path.{◌≡◌}
@@ -10,9 +10,6 @@ use Rattle.pick_contains.proofs.crossings.Given as goal
 
 abbrev pub invariant-loop-i : goal.invariant-loop-i
 invariant-loop-i l =
-    (l.i ≤ l.n) × (l.place + 3 * (l.n - l.i) ≤ length l.strip) × (l.last.at < length l.strip) × (l.count ≤ l.i)
+    (l.last.at < length l.strip) × (l.count ≤ l.i)
     × (crossings l.s (vertex_spot l.strip l.x l.initial.last) (map (spot_on l.x l.y) (vecs_at l.strip l.at l.n))
-    ≡ l.count + crossings l.s (vertex_spot l.strip l.x l.last) (map (spot_on l.x l.y) (vecs_at l.strip l.place (l.n - l.i))))
-
-abbrev pub decreases-loop-i : goal.decreases-loop-i
-decreases-loop-i l = l.n - l.i
+    ≡ l.count + crossings l.s (vertex_spot l.strip l.x l.last) (map (spot_on l.x l.y) (vecs_at l.strip (l.at + 3 * l.i) (l.n - l.i))))

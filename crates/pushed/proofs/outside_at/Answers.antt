@@ -8,6 +8,6 @@ pub returns : goal.returns
 returns c =
     let a = c.args in
     record {
-      count = c.outside_of.ensures.count ∙ ap (λ (v : Floats). outside_count v a.bb_min a.bb_size) c.floats_at.ensures;
+      count = c.outside_of.ensures.count ∙ ap (λ (v : Floats). outside_count v a.frame.bb_min a.frame.bb_size) c.floats_at.ensures;
       bound = c.outside_of.ensures.bound;
     }

@@ -13,6 +13,6 @@ returns c =
     let portals = ends_of (portals_at s a.first a.portals) in
     let points = places_of (points_at s (a.first + 11 * a.portals) a.points) in
     record {
-      count = omega (arith, pushed_append a.bb_min a.bb_size portals points, c.pushed_ends-ends.ensures.count, c.pushed_places.ensures.count);
+      count = omega (arith, pushed_append a.frame.bb_min a.frame.bb_size portals points, c.pushed_ends-ends.ensures.count, c.pushed_places.ensures.count);
       bound = omega arith;
     }

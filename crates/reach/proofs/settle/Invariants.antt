@@ -7,7 +7,7 @@ use Rattle.reach_walk.specs.Walk.{Worked}
 use Rattle.reach.proofs.settle.Given as goal
 
 abbrev pub invariant-loop-count : goal.invariant-loop-count
-invariant-loop-count l = (l.count ≡ marked l.marks) × (length l.marks ≡ length l.initial.marks) × Worked l.strip l.g l.initial.marks l.marks
+invariant-loop-count l = (l.count ≡ marked l.marks) × (length l.marks ≡ length l.initial.marks) × Worked l.guide.strip.now l.guide.ground l.initial.marks l.marks
 
 abbrev pub decreases-loop-count : goal.decreases-loop-count
 decreases-loop-count l = length l.initial.marks - l.count

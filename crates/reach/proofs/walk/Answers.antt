@@ -13,8 +13,8 @@ chain_portals-requires c = c.requires.0.inside
 pub first_marks-requires : goal.first_marks-requires
 first_marks-requires c = c.requires.0.some
 
-pub bounds-strip-2 : goal.bounds-strip-2
-bounds-strip-2 c = omega (arith, c.requires.0.head)
+pub bounds-request-2 : goal.bounds-request-2
+bounds-request-2 c = omega (arith, c.requires.0.head)
 
 pub settle-requires : goal.settle-requires
 settle-requires c = known_still _ _ (search rules) (record { table = c.note_places-stride.ensures; portals = c.before.before.requires.0.place; inside = c.before.before.requires.0.inside })

@@ -1,5 +1,5 @@
--- `reach_marks::edge_pass` meets its contract. The invariant: the edges that are left, from `place` on, make of the marks what all of them make of the first ones.
-use Prim.Native.Nat.{◌+◌, ◌-◌, ◌*◌, ◌≤◌}
+-- `reach_marks::edge_pass` meets its contract. The invariant: the edges that are left make of the marks what all of them make of the first ones.
+use Prim.Native.Nat.{◌+◌, ◌-◌, ◌*◌}
 use lib.ListN.{length}
 use mathlib.Core.Path.{◌≡◌}
 use Rattle.strip.specs.Reading.{edges_at}
@@ -8,8 +8,5 @@ use Rattle.reach_marks.proofs.edge_pass.Given as goal
 
 abbrev pub invariant-loop-i : goal.invariant-loop-i
 invariant-loop-i l =
-    (l.i ≤ l.n) × (l.place + 6 * (l.n - l.i) ≤ length l.strip) × (length l.marks ≡ length l.initial.marks)
-    × (edge_pass l.own (edges_at l.strip l.at l.n) l.initial.marks ≡ edge_pass l.own (edges_at l.strip l.place (l.n - l.i)) l.marks)
-
-abbrev pub decreases-loop-i : goal.decreases-loop-i
-decreases-loop-i l = l.n - l.i
+    (length l.marks ≡ length l.initial.marks)
+    × (edge_pass l.own (edges_at l.strip l.at l.n) l.initial.marks ≡ edge_pass l.own (edges_at l.strip (l.at + 6 * l.i) (l.n - l.i)) l.marks)

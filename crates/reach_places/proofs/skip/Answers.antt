@@ -8,18 +8,18 @@ use Rattle.strip.proofs.Steps.{parts, after_polygon, next_inside}
 use Rattle.reach_places.proofs.Walk.{after_done}
 use Rattle.reach_places.proofs.skip.Goals as goal
 
-pub loop-i-init : goal.loop-i-init
-loop-i-init c = (omega arith, rw sub-zero)
+pub loop-init : goal.loop-init
+loop-init c = rw sub-zero
 
-pub poly_at-p-requires : goal.poly_at-p-requires
-poly_at-p-requires c =
+pub poly_at-place-requires : goal.poly_at-place-requires
+poly_at-place-requires c =
     let a = c.args in
-    let l = c.loop-i in
+    let l = c.loop in
     let p = poly_at a.strip.now l.place in
-    omega (arith, l.invariant.1, parts a.strip.now l.place p refl, next_inside a.strip.now l.place l.i a.n (length a.strip.now) c.loop-i-test.true (omega (arith, l.invariant.1)) p refl)
+    omega (arith, l.invariant, parts a.strip.now l.place p refl, next_inside a.strip.now l.place l.counter a.n (length a.strip.now) c.loop-test.true (omega (arith, l.invariant)) p refl)
 
-pub loop-i-preserved : goal.loop-i-preserved
-loop-i-preserved c = (omega arith, c.loop-i.invariant.1 ∙ after_polygon c.args.strip.now c.loop-i.place c.loop-i.i c.args.n c.loop-i-test.true _ c.poly_at-p.ensures)
+pub loop-preserved : goal.loop-preserved
+loop-preserved c = c.loop.invariant ∙ after_polygon _ _ _ _ c.loop-test.true _ c.poly_at-place.ensures
 
 pub returns : goal.returns
-returns c = sym (c.loop-i.invariant.1 ∙ after_done c.args.strip.now c.loop-i.place c.loop-i.i c.args.n c.loop-i-test.false)
+returns c = sym (c.loop.invariant ∙ after_done _ _ _ _ c.loop-test.false)

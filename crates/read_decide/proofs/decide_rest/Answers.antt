@@ -1,41 +1,25 @@
 -- `decide_rest` meets its contract. Each return by the law of its answer (proofs/Decides); the numbers stay far below 2^64.
 use Prim.Native.Nat.{ℕ}
-use native.Mathlib.Omega.{arith}
 use mathlib.Core.Path.{ap, ◌∙◌}
 use mathlib.Core.List.{List}
+use Rattle.std.proofs.lemmas.Result.{err_from_is_err_and}
 use Rattle.fields.specs.Bytes.{le_at}
 use Rattle.read_decide.proofs.Decides.{rest_stopped, tallied, portals_stop, parsed}
 use Rattle.read_decide.proofs.decide_rest.Goals as goal
 
-pub returns-then-portals_of-n : goal.returns-then-portals_of-n
-returns-then-portals_of-n c =
+pub returns-in_err-words-clause-answer : goal.returns-in_err-words-clause-answer
+returns-in_err-words-clause-answer c =
+    let p = err_from_is_err_and c.from_residual.result c.from_residual.ensures.1 in
+    rw (p.1, p.2) (λ points e. rest_stopped c.args.reader.system.now c.args.reader.graphics.now c.check_lists.ensures c.in_err-words.was points c.args.tree.sectors)
+
+pub returns-then-portals_of-portals-clause-answer : goal.returns-then-portals_of-portals-clause-answer
+returns-then-portals_of-portals-clause-answer c =
+    λ points e. rw c.from.ensures (portals_stop c.args.reader.system.now c.args.reader.graphics.now c.check_lists.ensures c.in_ok-words.was (c.portal_count-portals.ensures.count ∙ ap (λ (l : List ℕ). le_at 4 l 0x14C) c.requires.0, c.portal_count-portals.ensures.bound) c.portals_of.ensures c.if-portals_of-portals.true points c.args.tree.sectors)
+
+pub returns : goal.returns
+returns c =
+    let t = tallied c.args.reader.system.now c.args.reader.graphics.now c.check_lists.ensures c.in_ok-words.was in
     record {
-      answer = λ points e. portals_stop c.args.system.now c.args.graphics.now c.check_lists.ensures c.in-Polys.is (c.portal_count-n.ensures.count ∙ ap (λ (l : List ℕ). le_at 4 l 0x14C) c.requires.0, c.portal_count-n.ensures.bound) c.portals_of.ensures c.if-portals_of-n.true points c.args.tree.sectors;
-      ready = tt;
-    }
-
-pub overflow_add-result : goal.overflow_add-result
-overflow_add-result c = let t = tallied c.args.system.now c.args.graphics.now c.check_lists.ensures c.in-Polys.is in omega (arith, t.few, t.small)
-
-pub overflow_add-result-in-Polys : goal.overflow_add-result-in-Polys
-overflow_add-result-in-Polys c = let t = tallied c.args.system.now c.args.graphics.now c.check_lists.ensures c.in-Polys.is in omega (arith, t.few, t.small, c.portal_count-n.ensures.bound)
-
-pub overflow_add-result-in-Polys-2 : goal.overflow_add-result-in-Polys-2
-overflow_add-result-in-Polys-2 c = let t = tallied c.args.system.now c.args.graphics.now c.check_lists.ensures c.in-Polys.is in omega (arith, t.few, t.small, c.portal_count-n.ensures.bound, c.requires.1)
-
-pub overflow_add-result-in-Polys-3 : goal.overflow_add-result-in-Polys-3
-overflow_add-result-in-Polys-3 c = let t = tallied c.args.system.now c.args.graphics.now c.check_lists.ensures c.in-Polys.is in omega (arith, t.few, t.small, c.portal_count-n.ensures.bound, c.requires.1)
-
-pub returns-in-Refused : goal.returns-in-Refused
-returns-in-Refused c =
-    record {
-      answer = λ points e. rest_stopped c.args.system.now c.args.graphics.now c.check_lists.ensures c.in-Refused.is points c.args.tree.sectors;
-      ready = tt;
-    }
-
-pub returns-else-portals_of-n : goal.returns-else-portals_of-n
-returns-else-portals_of-n c =
-    record {
-      answer = λ points e. parsed c.args.system.now c.args.graphics.now c.check_lists.ensures c.in-Polys.is (c.portal_count-n.ensures.count ∙ ap (λ (l : List ℕ). le_at 4 l 0x14C) c.requires.0, c.portal_count-n.ensures.bound) c.portals_of.ensures c.if-portals_of-n.false points c.args.tree.sectors e;
-      ready = (tallied c.args.system.now c.args.graphics.now c.check_lists.ensures c.in-Polys.is).ready;
+      answer = λ points e. parsed c.args.reader.system.now c.args.reader.graphics.now c.check_lists.ensures c.in_ok-words.was (c.portal_count-portals.ensures.count ∙ ap (λ (l : List ℕ). le_at 4 l 0x14C) c.requires.0, c.portal_count-portals.ensures.bound) c.portals_of.ensures c.if-portals_of-portals.false points c.args.tree.sectors e;
+      ready = t.ready;
     }

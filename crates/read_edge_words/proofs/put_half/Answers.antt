@@ -5,4 +5,4 @@ use Rattle.read_edge_words.proofs.Edges.{half_words_lem}
 use Rattle.read_edge_words.proofs.put_half.Goals as goal
 
 pub returns : goal.returns
-returns c = c.put3.ensures ∙ rw (half_words_lem (area_of c.args.header.now) c.args.raw c.decode_end-e.ensures c.area_of-area.ensures)
+returns c = c.put_words.ensures ∙ rw (half_words_lem (area_of c.args.header.now) c.args.raw c.decode_end-e.ensures c.area_of-area.ensures)

@@ -1,67 +1,58 @@
 -- `read_list_set::read_lists` meets its contract: the first list that is refused decides; each accepted one is counted and readable by the law of its list.
 use native.Mathlib.Omega.{arith}
-use mathlib.Core.Path.{refl, sym, ap, ◌∙◌}
-use Rattle.read_lists.specs.Listed.{paper}
+use mathlib.Core.Path.{refl}
+use Rattle.std.specs.Prelude.{Ok}
+use Rattle.std.proofs.lemmas.Result.{err_from_is_err_and}
 use Rattle.read_lists.proofs.Accepted.{readable}
 use Rattle.read_list_set.specs.Listed.{lists_of}
 use Rattle.read_list_set.proofs.read_lists.Goals as goal
 
-pub overflow_cast-read_list : goal.overflow_cast-read_list
-overflow_cast-read_list c = omega arith
-
-pub overflow_cast-read_list-in-Items : goal.overflow_cast-read_list-in-Items
-overflow_cast-read_list-in-Items c = omega arith
-
-pub overflow_cast-read_list-in-Items-read_list : goal.overflow_cast-read_list-in-Items-read_list
-overflow_cast-read_list-in-Items-read_list c = omega arith
-
-pub overflow_cast-read_list-in-Items-read_list-2 : goal.overflow_cast-read_list-in-Items-read_list-2
-overflow_cast-read_list-in-Items-read_list-2 c = omega arith
-
-pub returns-in-Refused : goal.returns-in-Refused
+pub returns-in_err-vertices-clause-answer : goal.returns-in_err-vertices-clause-answer
 unfolding lists_of
-returns-in-Refused c =
+returns-in_err-vertices-clause-answer c =
+    let e = c.from_residual in
+    let p = err_from_is_err_and e.result e.ensures.1 in
+    rw (p.1, p.2, ← c.in_err-vertices.ensures.answer)
+
+pub returns-in_err-indices-clause-answer : goal.returns-in_err-indices-clause-answer
+unfolding lists_of
+returns-in_err-indices-clause-answer c =
+    let e = c.from_residual-in_err-indices in
+    let p = err_from_is_err_and e.result e.ensures.1 in
+    rw (p.1, p.2, ← c.in_ok-vertices.ensures.answer, ← c.in_err-indices.ensures.answer)
+
+pub returns-in_err-edges-clause-answer : goal.returns-in_err-edges-clause-answer
+unfolding lists_of
+returns-in_err-edges-clause-answer c =
+    let e = c.from_residual-in_err-edges in
+    let p = err_from_is_err_and e.result e.ensures.1 in
+    rw (p.1, p.2, ← c.in_ok-vertices.ensures.answer, ← c.in_ok-indices.ensures.answer, ← c.in_err-edges.ensures.answer)
+
+pub returns-in_err-polys-clause-answer : goal.returns-in_err-polys-clause-answer
+unfolding lists_of
+returns-in_err-polys-clause-answer c =
+    let e = c.from_residual-in_err-polys in
+    let p = err_from_is_err_and e.result e.ensures.1 in
+    rw (p.1, p.2, ← c.in_ok-vertices.ensures.answer, ← c.in_ok-indices.ensures.answer, ← c.in_ok-edges.ensures.answer, ← c.in_err-polys.ensures.answer)
+
+pub returns : goal.returns
+unfolding lists_of
+returns c =
+    let v = c.in_ok-vertices in
+    let i = c.in_ok-indices in
+    let e = c.in_ok-edges in
+    let p = c.in_ok-polys in
+    let rv = readable _ _ 6 c.args.va 1 {a = Ok v.vertices} (omega arith) (v.ensures.answer, v.ensures.bound) refl in
+    let ri = readable _ _ 2 c.args.ia 2 {a = Ok i.indices} (omega arith) (i.ensures.answer, i.ensures.bound) refl in
+    let re = readable _ _ 8 c.args.ea 3 {a = Ok e.edges} (omega arith) (e.ensures.answer, e.ensures.bound) refl in
+    let rp = readable _ _ 48 c.args.pa 4 {a = Ok p.polys} (omega arith) (p.ensures.answer, p.ensures.bound) refl in
     record {
-      answer = rw ((sym c.read_list.ensures.answer ∙ ap paper c.in-Refused.is));
-      lists = tt;
-    }
-
-pub returns-in-Refused-read_list : goal.returns-in-Refused-read_list
-unfolding lists_of
-returns-in-Refused-read_list c =
-    record {
-      answer = rw ((sym c.read_list.ensures.answer ∙ ap paper c.in-Items.is), (sym c.read_list-in-Items.ensures.answer ∙ ap paper c.in-Refused-read_list.is));
-      lists = tt;
-    }
-
-pub returns-in-Refused-read_list-2 : goal.returns-in-Refused-read_list-2
-unfolding lists_of
-returns-in-Refused-read_list-2 c =
-    record {
-      answer = rw ((sym c.read_list.ensures.answer ∙ ap paper c.in-Items.is), (sym c.read_list-in-Items.ensures.answer ∙ ap paper c.in-Items-read_list.is), (sym c.read_list-in-Items-read_list.ensures.answer ∙ ap paper c.in-Refused-read_list-2.is));
-      lists = tt;
-    }
-
-pub returns-in-Refused-read_list-3 : goal.returns-in-Refused-read_list-3
-unfolding lists_of
-returns-in-Refused-read_list-3 c =
-    record {
-      answer = rw ((sym c.read_list.ensures.answer ∙ ap paper c.in-Items.is), (sym c.read_list-in-Items.ensures.answer ∙ ap paper c.in-Items-read_list.is), (sym c.read_list-in-Items-read_list.ensures.answer ∙ ap paper c.in-Items-read_list-2.is), (sym c.read_list-in-Items-read_list-2.ensures.answer ∙ ap paper c.in-Refused-read_list-3.is));
-      lists = tt;
-    }
-
-pub returns-in-Items-read_list-3 : goal.returns-in-Items-read_list-3
-unfolding lists_of
-returns-in-Items-read_list-3 c =
-    let read-list = c.read_list in
-    let vertices = c.in-Items in
-    let read-list2 = c.read_list-in-Items in
-    let indices = c.in-Items-read_list in
-    let read-list3 = c.read_list-in-Items-read_list in
-    let edges = c.in-Items-read_list-2 in
-    let read-list4 = c.read_list-in-Items-read_list-2 in
-    let polys = c.in-Items-read_list-3 in
-    let r6 = readable _ _ 6 c.args.va 1 (omega arith) (read-list.ensures.answer, read-list.ensures.bound) vertices.is in let r2 = readable _ _ 2 c.args.ia 2 (omega arith) (read-list2.ensures.answer, read-list2.ensures.bound) indices.is in let r8 = readable _ _ 8 c.args.ea 3 (omega arith) (read-list3.ensures.answer, read-list3.ensures.bound) edges.is in let r48 = readable _ _ 48 c.args.pa 4 (omega arith) (read-list4.ensures.answer, read-list4.ensures.bound) polys.is in record {
-      answer = rw ((sym read-list.ensures.answer ∙ ap paper vertices.is), (sym read-list2.ensures.answer ∙ ap paper indices.is), (sym read-list3.ensures.answer ∙ ap paper edges.is), (sym read-list4.ensures.answer ∙ ap paper polys.is));
-      lists = record { vertices = record { readable = r6.0; count = r6.1 }; indices = record { readable = r2.0; count = r2.1 }; edges = record { readable = r8.0; count = r8.1 }; polys = record { readable = r48.0; count = r48.1 }; link_count = refl };
+      answer = rw (← v.ensures.answer, ← i.ensures.answer, ← e.ensures.answer, ← p.ensures.answer);
+      lists = record {
+        vertices = record { readable = rv.0; count = rv.1 };
+        indices = record { readable = ri.0; count = ri.1 };
+        edges = record { readable = re.0; count = re.1 };
+        polys = record { readable = rp.0; count = rp.1 };
+        link_count = refl;
+      };
     }

@@ -7,9 +7,6 @@ use Rattle.read_lists.proofs.back_to.Goals as goal
 pub overflow_sub-k : goal.overflow_sub-k
 overflow_sub-k c = (back c.loop-c.invariant c.loop-c-test.true).0
 
-pub overflow_mul-k : goal.overflow_mul-k
-overflow_mul-k c = let a = c.loop-c.invariant.inside in omega arith
-
 pub overflow_sub-c : goal.overflow_sub-c
 unfolding count_at
 overflow_sub-c c = omega (arith, (back c.loop-c.invariant c.loop-c-test.true).1, c.u32_le-count.ensures)
@@ -22,6 +19,3 @@ cursor_at-c-requires c =
 
 pub loop-c-smaller : goal.loop-c-smaller
 loop-c-smaller c = omega (arith, (back c.loop-c.invariant c.loop-c-test.true).0, c.cursor_at-c.ensures.part)
-
-pub loop-c-preserved : goal.loop-c-preserved
-loop-c-preserved c = c.cursor_at-c.ensures.cursor

@@ -8,17 +8,11 @@ overflow_add-c c =
     let (s, lo) = c.loop-c.invariant in
     omega (arith, within s (inside_of s lo c.requires.1), c.requires)
 
-pub overflow_add-c-in-loop-c : goal.overflow_add-c-in-loop-c
-overflow_add-c-in-loop-c c = let (s, lo) = c.loop-c.invariant in omega (arith, forth s lo (omega (arith, c.loop-c-test.true)) c.requires.1)
-
 pub cursor_at-c-requires : goal.cursor_at-c-requires
 cursor_at-c-requires c = let (s, lo) = c.loop-c.invariant in (omega (arith, forth s lo (omega (arith, c.loop-c-test.true)) c.requires.1), omega (arith, next s))
 
 pub loop-c-smaller : goal.loop-c-smaller
 loop-c-smaller c = let (s, lo) = c.loop-c.invariant in omega (arith, forth s lo (omega (arith, c.loop-c-test.true)) c.requires.1, c.cursor_at-c.ensures.part)
-
-pub loop-c-preserved : goal.loop-c-preserved
-loop-c-preserved c = (c.cursor_at-c.ensures.cursor, omega (arith, c.cursor_at-c.ensures.first))
 
 pub returns : goal.returns
 returns c = let (s, lo) = c.loop-c.invariant in record { stands = s; inside = inside_of s lo c.requires.1; low = lo; high = omega arith }

@@ -13,7 +13,7 @@ use Rattle.read_list_set.proofs.Runs.{left_begin, left_end, taken, put_part, put
 use Rattle.read_polygon_sides.proofs.put_edges.Goals as goal
 
 pub loop-k-init : goal.loop-k-init
-loop-k-init c = (search rules, c.requires.1, refl, put_first edge_words 6 _ _ (left_begin (items_in c.args.system.now c.args.graphics.now 8 c.args.table.now) c.args.start c.args.count) _)
+loop-k-init c = (search rules, c.requires.1, refl, put_first edge_words 6 _ _ (left_begin (items_in c.args.pages.now.reader.system.now c.args.pages.now.reader.graphics.now 8 c.args.pages.now.edges.now) c.args.start c.args.count) _)
 
 pub seek-c-requires : goal.seek-c-requires
 seek-c-requires c = (c.loop-k.invariant.1, omega (arith, c.requires.2, c.loop-k-test.true), c.requires.0.few)
@@ -30,20 +30,20 @@ overflow_add-at c = omega (arith, c.loop-k-test.true, c.requires.3, c.well_forme
 pub put_edge_run-requires : goal.put_edge_run-requires
 put_edge_run-requires c =
     let turn = c.loop-k in
-    let t = taken _ _ 8 _ (omega arith) c.requires.0 c.args.start c.args.count turn.k c.seek-c.ensures c.list_run-run.ensures.content c.least-n.ensures c.requires.2 c.loop-k-test.true in (t.long, omega (arith, t.fits, turn.invariant.2, c.requires.3))
+    let t = taken _ _ 8 _ (omega arith) c.requires.0 c.args.start c.args.count turn.k c.seek-c.ensures c.list_run-run.ensures.content c.min-n.ensures c.requires.2 c.loop-k-test.true in (t.long, omega (arith, t.fits, turn.invariant.2, c.requires.3))
 
 pub overflow_add-k : goal.overflow_add-k
-overflow_add-k c = let t = taken _ _ 8 _ (omega arith) c.requires.0 c.args.start c.args.count c.loop-k.k c.seek-c.ensures c.list_run-run.ensures.content c.least-n.ensures c.requires.2 c.loop-k-test.true in omega (arith, t.fits)
+overflow_add-k c = let t = taken _ _ 8 _ (omega arith) c.requires.0 c.args.start c.args.count c.loop-k.k c.seek-c.ensures c.list_run-run.ensures.content c.min-n.ensures c.requires.2 c.loop-k-test.true in omega (arith, t.fits)
 
 pub loop-k-smaller : goal.loop-k-smaller
-loop-k-smaller c = let t = taken _ _ 8 _ (omega arith) c.requires.0 c.args.start c.args.count c.loop-k.k c.seek-c.ensures c.list_run-run.ensures.content c.least-n.ensures c.requires.2 c.loop-k-test.true in omega (arith, t.some, t.fits)
+loop-k-smaller c = let t = taken _ _ 8 _ (omega arith) c.requires.0 c.args.start c.args.count c.loop-k.k c.seek-c.ensures c.list_run-run.ensures.content c.min-n.ensures c.requires.2 c.loop-k-test.true in omega (arith, t.some, t.fits)
 
 pub loop-k-preserved : goal.loop-k-preserved
 loop-k-preserved c =
     let turn = c.loop-k in
     let seek = c.seek-c in
     let list-run = c.list_run-run in
-    let least = c.least-n in
+    let least = c.min-n in
     let put-edge-run = c.put_edge_run in
     let t = taken _ _ 8 _ (omega arith) c.requires.0 c.args.start c.args.count turn.k seek.ensures list-run.ensures.content least.ensures c.requires.2 c.loop-k-test.true in (t.fits, seek.ensures.stands, ap length put-edge-run.ensures ∙ rw (length_put, turn.invariant.2), rw put-edge-run.ensures (put_part edge_words 6 edge_six _ _ turn.k least.result (cut 8 least.result list-run.result.now) _ t.step (cut_length 8 least.result list-run.result.now) _ ∙ turn.invariant.3))
 
@@ -52,5 +52,5 @@ returns c =
     let turn = c.loop-k in
     record {
       cursor = turn.invariant.1;
-      content = sym (put_none edge_words 6 _ _ turn.k (left_end (items_in c.args.system.now c.args.graphics.now 8 c.args.table.now) c.args.start c.args.count turn.k c.loop-k-test.false) _) ∙ turn.invariant.3;
+      content = sym (put_none edge_words 6 _ _ turn.k (left_end (items_in c.args.pages.now.reader.system.now c.args.pages.now.reader.graphics.now 8 c.args.pages.now.edges.now) c.args.start c.args.count turn.k c.loop-k-test.false) _) ∙ turn.invariant.3;
     }

@@ -13,7 +13,7 @@ use Rattle.read_list_set.proofs.Runs.{left}
 use Rattle.read_polygon_sides.proofs.put_edges.Given as goal
 
 abbrev pub invariant-loop-k : goal.invariant-loop-k
-invariant-loop-k l = (l.k ≤ l.count) × AtPart l.table l.c × (length l.out ≡ length l.initial.out) × (put (l.at + 6 * l.k) (each edge_words (map (edge_of (area_of l.header)) (left (items_in l.system l.graphics 8 l.table) l.start l.count l.k))) l.out ≡ put l.at (each edge_words (map (edge_of (area_of l.header)) (take l.count (drop l.start (items_in l.system l.graphics 8 l.table))))) l.initial.out)
+invariant-loop-k l = (l.k ≤ l.count) × AtPart l.pages.edges.now l.c × (length l.out ≡ length l.initial.out) × (put (l.at + 6 * l.k) (each edge_words (map (edge_of (area_of l.pages.header.now)) (left (items_in l.pages.reader.system.now l.pages.reader.graphics.now 8 l.pages.edges.now) l.start l.count l.k))) l.out ≡ put l.at (each edge_words (map (edge_of (area_of l.pages.header.now)) (take l.count (drop l.start (items_in l.pages.reader.system.now l.pages.reader.graphics.now 8 l.pages.edges.now))))) l.initial.out)
 
 abbrev pub decreases-loop-k : goal.decreases-loop-k
 decreases-loop-k l = l.count - l.k

@@ -32,5 +32,5 @@ returns c =
     let put-edges = c.put_edges-e in
     record {
       cursors = record { vertex_list = c.requires.lists_open.0.vertex_list; index_list = c.requires.lists_open.0.index_list; edge_list = c.requires.lists_open.0.edge_list; in_vertices = put-vertices.ensures.vertices; in_indices = put-vertices.ensures.indices; in_edges = put-edges.ensures.cursor };
-      content = put-edges.ensures.content ∙ rw put-vertices.ensures.content (sides_put (area_of c.args.header.now) (back_by c.args.bb_min c.args.bb_size) (items_in c.args.system.now c.args.graphics.now 6 c.args.vertices.now) (items_in c.args.system.now c.args.graphics.now 2 c.args.indices.now) (items_in c.args.system.now c.args.graphics.now 8 c.args.edges.now) c.args.start c.args.count (omega (arith, c.requires.inside.in_indices, length_items c.args.system.now c.args.graphics.now 2 c.args.indices.now)) (omega (arith, c.requires.inside.in_edges, length_items c.args.system.now c.args.graphics.now 8 c.args.edges.now)) _ _);
+      content = put-edges.ensures.content ∙ rw put-vertices.ensures.content (sides_put (area_of c.args.pages.now.header.now) (back_by c.args.pages.now.frame.bb_min c.args.pages.now.frame.bb_size) (items_in c.args.pages.now.reader.system.now c.args.pages.now.reader.graphics.now 6 c.args.pages.now.vertices.now) (items_in c.args.pages.now.reader.system.now c.args.pages.now.reader.graphics.now 2 c.args.pages.now.indices.now) (items_in c.args.pages.now.reader.system.now c.args.pages.now.reader.graphics.now 8 c.args.pages.now.edges.now) c.args.start c.args.count (omega (arith, c.requires.inside.in_indices, length_items c.args.pages.now.reader.system.now c.args.pages.now.reader.graphics.now 2 c.args.pages.now.indices.now)) (omega (arith, c.requires.inside.in_edges, length_items c.args.pages.now.reader.system.now c.args.pages.now.reader.graphics.now 8 c.args.pages.now.edges.now)) _ _);
     }

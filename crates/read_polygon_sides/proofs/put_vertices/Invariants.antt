@@ -16,7 +16,7 @@ use Rattle.read_list_set.proofs.Runs.{left}
 use Rattle.read_polygon_sides.proofs.put_vertices.Given as goal
 
 abbrev pub invariant-loop-k : goal.invariant-loop-k
-invariant-loop-k l = (l.k ≤ l.count) × AtPart l.vertices l.d × AtPart l.indices l.c × (length l.out ≡ length l.initial.out) × (all_below (total l.vertices) (left (items_in l.system l.graphics 2 l.indices) l.start l.count l.k) ≡ true) × (put (l.at + 3 * l.k) (each vec_words (map (corner (back_by l.bb_min l.bb_size) (items_in l.system l.graphics 6 l.vertices)) (left (items_in l.system l.graphics 2 l.indices) l.start l.count l.k))) l.out ≡ put l.at (each vec_words (map (corner (back_by l.bb_min l.bb_size) (items_in l.system l.graphics 6 l.vertices)) (take l.count (drop l.start (items_in l.system l.graphics 2 l.indices))))) l.initial.out)
+invariant-loop-k l = (l.k ≤ l.count) × AtPart l.pages.vertices.now l.d × AtPart l.pages.indices.now l.c × (length l.out ≡ length l.initial.out) × (all_below (total l.pages.vertices.now) (left (items_in l.pages.reader.system.now l.pages.reader.graphics.now 2 l.pages.indices.now) l.start l.count l.k) ≡ true) × (put (l.at + 3 * l.k) (each vec_words (map (corner (back_by l.pages.frame.bb_min l.pages.frame.bb_size) (items_in l.pages.reader.system.now l.pages.reader.graphics.now 6 l.pages.vertices.now)) (left (items_in l.pages.reader.system.now l.pages.reader.graphics.now 2 l.pages.indices.now) l.start l.count l.k))) l.out ≡ put l.at (each vec_words (map (corner (back_by l.pages.frame.bb_min l.pages.frame.bb_size) (items_in l.pages.reader.system.now l.pages.reader.graphics.now 6 l.pages.vertices.now)) (take l.count (drop l.start (items_in l.pages.reader.system.now l.pages.reader.graphics.now 2 l.pages.indices.now))))) l.initial.out)
 
 abbrev pub decreases-loop-k : goal.decreases-loop-k
 decreases-loop-k l = l.count - l.k

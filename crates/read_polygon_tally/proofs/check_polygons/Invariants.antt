@@ -9,7 +9,7 @@ use Rattle.read_polygon_tally.specs.Tally.{words_added, tally_from}
 use Rattle.read_polygon_tally.proofs.check_polygons.Given as goal
 
 abbrev pub invariant-loop-i : goal.invariant-loop-i
-invariant-loop-i l = (l.i ≤ l.n) × AtPart l.polys l.p × AtPart l.table l.c × (l.words ≤ 18434 * l.i) × (words_added (values l.words) (tally_from l.limits (items_in l.system l.graphics 2 l.table) l.i (drop l.i (items_in l.system l.graphics 48 l.polys))) ≡ tally_from l.limits (items_in l.system l.graphics 2 l.table) 0 (items_in l.system l.graphics 48 l.polys))
+invariant-loop-i l = (l.i ≤ l.n) × AtPart l.polys l.p × AtPart l.table l.c × (l.words ≤ 18434 * l.i) × (words_added (values l.words) (tally_from l.limits (items_in l.reader.system.now l.reader.graphics.now 2 l.table) l.i (drop l.i (items_in l.reader.system.now l.reader.graphics.now 48 l.polys))) ≡ tally_from l.limits (items_in l.reader.system.now l.reader.graphics.now 2 l.table) 0 (items_in l.reader.system.now l.reader.graphics.now 48 l.polys))
 
 abbrev pub decreases-loop-i : goal.decreases-loop-i
 decreases-loop-i l = l.n - l.i

@@ -10,7 +10,7 @@ use Rattle.read_polygon_tally.specs.Tally.{words_added, tally_from}
 use Rattle.read_polygon_tally.proofs.check_run.Given as goal
 
 abbrev pub invariant-loop-k : goal.invariant-loop-k
-invariant-loop-k l = (l.k ≤ l.m) × AtPart l.table l.c × (l.words ≤ 18434 * l.k) × (words_added (values l.words) (tally_from l.limits (items_in l.system l.graphics 2 l.table) (l.first + l.k) (cut 48 (l.m - l.k) (drop (48 * l.k) l.run))) ≡ tally_from l.limits (items_in l.system l.graphics 2 l.table) l.first (cut 48 l.m l.run))
+invariant-loop-k l = (l.k ≤ l.m) × AtPart l.table l.c × (l.words ≤ 18434 * l.k) × (words_added (values l.words) (tally_from l.limits (items_in l.reader.system.now l.reader.graphics.now 2 l.table) (l.first + l.k) (cut 48 (l.m - l.k) (drop (48 * l.k) l.run))) ≡ tally_from l.limits (items_in l.reader.system.now l.reader.graphics.now 2 l.table) l.first (cut 48 l.m l.run))
 
 abbrev pub decreases-loop-k : goal.decreases-loop-k
 decreases-loop-k l = l.m - l.k

@@ -9,7 +9,7 @@ use Rattle.read_list_set.proofs.Runs.{left}
 use Rattle.read_polygon_tally.proofs.run_below.Given as goal
 
 abbrev pub invariant-loop-k : goal.invariant-loop-k
-invariant-loop-k l = (l.k ≤ l.count) × AtPart l.table l.c × (all_below l.limit (left (items_in l.system l.graphics 2 l.table) l.start l.count l.k) ≡ all_below l.limit (take l.count (drop l.start (items_in l.system l.graphics 2 l.table))))
+invariant-loop-k l = (l.k ≤ l.count) × AtPart l.table l.c × (all_below l.limit (left (items_in l.reader.system.now l.reader.graphics.now 2 l.table) l.start l.count l.k) ≡ all_below l.limit (take l.count (drop l.start (items_in l.reader.system.now l.reader.graphics.now 2 l.table))))
 
 abbrev pub decreases-loop-k : goal.decreases-loop-k
 decreases-loop-k l = l.count - l.k

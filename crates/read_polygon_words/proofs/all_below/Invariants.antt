@@ -1,5 +1,5 @@
 -- `read_polygon_words::all_below` meets its contract. The loop's invariant: what is left is below exactly when all are.
-use Prim.Native.Nat.{◌-◌, ◌*◌, ◌≤◌}
+use Prim.Native.Nat.{◌-◌, ◌*◌}
 use mathlib.Core.Path.{◌≡◌}
 use lib.ListN.{drop}
 use Rattle.fields.specs.Bytes.{cut}
@@ -7,7 +7,4 @@ use Rattle.read_polygon_words.specs.Words.{all_below}
 use Rattle.read_polygon_words.proofs.all_below.Given as goal
 
 abbrev pub invariant-loop-k : goal.invariant-loop-k
-invariant-loop-k l = (l.k ≤ l.n) × (all_below l.limit (cut 2 (l.n - l.k) (drop (2 * l.k) l.run)) ≡ all_below l.limit (cut 2 l.n l.run))
-
-abbrev pub decreases-loop-k : goal.decreases-loop-k
-decreases-loop-k l = l.n - l.k
+invariant-loop-k l = all_below l.limit (cut 2 (l.n - l.k) (drop (2 * l.k) l.run)) ≡ all_below l.limit (cut 2 l.n l.run)

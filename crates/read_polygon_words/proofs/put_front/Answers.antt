@@ -6,7 +6,7 @@ use Rattle.read_polygon_words.proofs.Words.{front_put}
 use Rattle.read_polygon_words.proofs.put_front.Goals as goal
 
 pub put_links-requires : goal.put_links-requires
-put_links-requires c = (c.requires.0, omega (arith, ap length c.put4.ensures, c.requires.3))
+put_links-requires c = (c.requires.0, omega (arith, ap length c.put_words.ensures, c.requires.3))
 
 pub returns : goal.returns
-returns c = c.put_links.ensures ∙ rw (c.put4.ensures, c.u16_le.ensures, c.u32_le.ensures, c.u32_le-2.ensures) (front_put _ _ c.requires.0 c.requires.1 c.requires.2 _ _)
+returns c = c.put_links.ensures ∙ rw (c.put_words.ensures, c.from.ensures, c.u16_le.ensures, c.u32_le.ensures, c.u32_le-2.ensures) (front_put _ _ c.requires.0 c.requires.1 c.requires.2 _ _)

@@ -9,14 +9,8 @@ use Rattle.read_polygons.proofs.put_run.Goals as goal
 pub loop-k-init : goal.loop-k-init
 loop-k-init c = (search rules, begins _ _ _ _ _ _ _ _ _ _ _ _ c.requires.0 c.requires.2 (rw (sub-zero c.args.m)))
 
-pub slice_bounds-put_polygon-end : goal.slice_bounds-put_polygon-end
-slice_bounds-put_polygon-end c = omega (arith, c.loop-k-test.true, c.requires.1)
-
 pub put_polygon-r-requires : goal.put_polygon-r-requires
 put_polygon-r-requires c = polygon_asks _ _ _ _ _ _ _ _ _ _ _ _ c.loop-k.invariant.1 _ _ (record_next c.args.run.now c.args.m c.loop-k.k c.loop-k-test.true)
-
-pub overflow_add-k : goal.overflow_add-k
-overflow_add-k c = omega (arith, c.loop-k-test.true, c.ranges)
 
 pub loop-k-preserved : goal.loop-k-preserved
 loop-k-preserved c = (omega (arith, c.loop-k-test.true), one_on _ _ _ _ _ _ _ _ _ _ _ _ c.loop-k.invariant.1 _ _ (record_next c.args.run.now c.args.m c.loop-k.k c.loop-k-test.true) c.put_polygon-r.ensures)

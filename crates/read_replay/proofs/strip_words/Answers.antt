@@ -11,8 +11,8 @@ returns-then-u32_le-eq0 c =
       bound = search rules;
     }
 
-pub returns : goal.returns
-returns c =
+pub returns-else-u32_le-eq0 : goal.returns-else-u32_le-eq0
+returns-else-u32_le-eq0 c =
     record {
       count = no_words _ _ (λ z. c.if-u32_le-eq0.false (c.u32_le.ensures ∙ z));
       bound = search rules;

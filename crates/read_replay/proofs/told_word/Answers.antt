@@ -5,5 +5,5 @@ use Rattle.read_replay.proofs.told_word.Goals as goal
 pub returns-then-k-words : goal.returns-then-k-words
 returns-then-k-words c = word_there _ _ _ c.if-k-words.true c.u32_le.ensures
 
-pub returns : goal.returns
-returns c = word_behind _ _ c.if-k-words.false
+pub returns-else-k-words : goal.returns-else-k-words
+returns-else-k-words c = word_behind _ _ c.if-k-words.false

@@ -1,18 +1,11 @@
--- `read_replay::words_agree` meets its contract. The loop's invariant: the words passed agree. The measure is how many are left.
-use mathlib.Core.Bool.{false≢true}
+-- `read_replay::words_agree` meets its contract. The loop's invariant: the words passed agree.
 use native.Mathlib.Omega.{arith}
 use mathlib.Core.Path.{◌∙◌}
-use borrow.Author.Count.{below_none, below_more}
+use borrow.Author.Count.{below_more}
 use Rattle.read_replay.proofs.words_agree.Goals as goal
 
-pub loop-k-init : goal.loop-k-init
-loop-k-init c = (omega arith, below_none _)
-
-pub returns-then-found-expected : goal.returns-then-found-expected
-returns-then-found-expected c = λ h. absurd (false≢true h)
-
 pub loop-k-preserved : goal.loop-k-preserved
-loop-k-preserved c = (omega arith, below_more _ _ c.loop-k.invariant.1 (c.if-found-expected.false ∙ c.told_word-expected.ensures))
+loop-k-preserved c = below_more _ _ c.loop-k.invariant (c.if-strip-k.false ∙ c.told_word.ensures)
 
 pub returns : goal.returns
-returns c = λ h j l. c.loop-k.invariant.1 j (omega arith)
+returns c = λ h j l. c.loop-k.invariant j (omega arith)

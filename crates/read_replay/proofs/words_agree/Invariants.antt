@@ -1,12 +1,9 @@
--- `read_replay::words_agree` meets its contract. The loop's invariant: the words passed agree. The measure is how many are left.
-use Prim.Native.Nat.{ℕ, ◌-◌, ◌≤◌, ◌<◌}
+-- `read_replay::words_agree` meets its contract. The loop's invariant: the words passed agree.
+use Prim.Native.Nat.{ℕ, ◌<◌}
 use mathlib.Core.Path.{◌≡◌}
 use lib.ListN.{get_or}
 use Rattle.read_replay.specs.Agreement.{told_word}
 use Rattle.read_replay.proofs.words_agree.Given as goal
 
 abbrev pub invariant-loop-k : goal.invariant-loop-k
-invariant-loop-k l = (l.k ≤ 512) × ((j : ℕ) → j < l.k → get_or l.strip j 0 ≡ told_word l.words j)
-
-abbrev pub decreases-loop-k : goal.decreases-loop-k
-decreases-loop-k l = 512 - l.k
+invariant-loop-k l = (j : ℕ) → j < l.k → get_or l.strip j 0 ≡ told_word l.words j

@@ -1,5 +1,6 @@
 -- `find_points` meets its contract: each return is a law of proofs/Data, by the tests that led there.
 use native.Mathlib.Omega.{arith}
+use mathlib.Core.Path.{◌∙◌}
 use Rattle.read_sectors.proofs.Data.{find_none, find_bad_data, find_no_points, find_bad_points, find_points}
 use borrow.Author.Rules.{rules}
 use Rattle.read_sectors.proofs.find_points.Goals as goal
@@ -21,14 +22,14 @@ returns-then-data-lt-SECTOR_DATA_SIZE c =
 pub returns-then-n-eq0 : goal.returns-then-n-eq0
 returns-then-n-eq0 c =
     record {
-      answer = find_no_points _ _ _ c.u64_le-va.ensures (λ z. c.if-va-eq0.false (omega arith)) c.resolve-data.ensures.content (omega (arith, c.if-data-lt-SECTOR_DATA_SIZE.false)) c.u16_le-n.ensures (omega (arith, c.if-n-eq0.true));
+      answer = find_no_points _ _ _ c.u64_le-va.ensures (λ z. c.if-va-eq0.false (omega arith)) c.resolve-data.ensures.content (omega (arith, c.if-data-lt-SECTOR_DATA_SIZE.false)) (c.from-n.ensures ∙ c.u16_le.ensures) (omega (arith, c.if-n-eq0.true));
       bound = search rules;
     }
 
 pub returns-then-points-n : goal.returns-then-points-n
 returns-then-points-n c =
     record {
-      answer = find_bad_points _ _ _ c.u64_le-va.ensures (λ z. c.if-va-eq0.false (omega arith)) c.resolve-data.ensures.content (omega (arith, c.if-data-lt-SECTOR_DATA_SIZE.false)) c.u16_le-n.ensures (λ z. c.if-n-eq0.false (omega arith))
+      answer = find_bad_points _ _ _ c.u64_le-va.ensures (λ z. c.if-va-eq0.false (omega arith)) c.resolve-data.ensures.content (omega (arith, c.if-data-lt-SECTOR_DATA_SIZE.false)) (c.from-n.ensures ∙ c.u16_le.ensures) (λ z. c.if-n-eq0.false (omega arith))
           c.u64_le.ensures (omega arith) c.resolve-points.ensures.content (omega (arith, c.if-points-n.true));
       bound = tt;
     }
@@ -36,7 +37,7 @@ returns-then-points-n c =
 pub returns : goal.returns
 returns c =
     record {
-      answer = find_points _ _ _ c.u64_le-va.ensures (λ z. c.if-va-eq0.false (omega arith)) c.resolve-data.ensures.content (omega (arith, c.if-data-lt-SECTOR_DATA_SIZE.false)) c.u16_le-n.ensures (λ z. c.if-n-eq0.false (omega arith))
+      answer = find_points _ _ _ c.u64_le-va.ensures (λ z. c.if-va-eq0.false (omega arith)) c.resolve-data.ensures.content (omega (arith, c.if-data-lt-SECTOR_DATA_SIZE.false)) (c.from-n.ensures ∙ c.u16_le.ensures) (λ z. c.if-n-eq0.false (omega arith))
           c.u64_le.ensures (omega arith) c.resolve-points.ensures.content (omega (arith, c.if-points-n.false));
       bound = search rules;
     }

@@ -1,19 +1,23 @@
 -- `resource::resolve` meets its contract: `part_of` answers in the section that is named.
 use mathlib.Core.Path.{refl, sym, subst, ◌∙◌}
-use Rattle.resource.proofs.Lookup.{FoundAt, found}
+use Rattle.resource.proofs.Lookup.{named, FoundAt, found}
 use Rattle.resource.proofs.resolve.Goals as goal
 
-pub returns-in-Graphics : goal.returns-in-Graphics
-returns-in-Graphics c =
+pub returns-in-Some-Graphics-default : goal.returns-in-Some-Graphics-default
+returns-in-Some-Graphics-default c =
     let a = c.args in
-    let w = found a.system a.graphics a.va a.len _ _ (subst (FoundAt a.system a.graphics a.va a.len _ _) (sym c.in-Graphics.is ∙ c.locate.ensures) (c.part_of.ensures.content, c.part_of.ensures.place)) in record { content = w.0; place = w.1 }
+    let h = c.in-Some-Graphics-default in
+    let part = c.part_of.ensures in
+    let w = found a.system a.graphics a.va a.len _ _ (subst (FoundAt a.system a.graphics a.va a.len _ _) (named h.is h.field-0-0-is ∙ c.locate.ensures) (part.content, part.place)) in record { content = w.0; place = w.1 }
 
-pub returns-in-System : goal.returns-in-System
-returns-in-System c =
+pub returns-in-Some-System-default : goal.returns-in-Some-System-default
+returns-in-Some-System-default c =
     let a = c.args in
-    let w = found a.system a.graphics a.va a.len _ _ (subst (FoundAt a.system a.graphics a.va a.len _ _) (sym c.in-System.is ∙ c.locate.ensures) (c.part_of-in-System.ensures.content, c.part_of-in-System.ensures.place)) in record { content = w.0; place = w.1 }
+    let h = c.in-Some-System-default in
+    let part = c.part_of-in-Some-System-default.ensures in
+    let w = found a.system a.graphics a.va a.len _ _ (subst (FoundAt a.system a.graphics a.va a.len _ _) (named h.is h.field-0-0-is ∙ c.locate.ensures) (part.content, part.place)) in record { content = w.0; place = w.1 }
 
-pub returns-in-Nowhere : goal.returns-in-Nowhere
-returns-in-Nowhere c =
+pub returns-in-None : goal.returns-in-None
+returns-in-None c =
     let a = c.before.args in
-    let w = found a.system a.graphics a.va a.len _ _ (subst (FoundAt a.system a.graphics a.va a.len _ _) (sym c.in-Nowhere.is ∙ c.locate.ensures) refl) in record { content = w.0; place = w.1 }
+    let w = found a.system a.graphics a.va a.len _ _ (subst (FoundAt a.system a.graphics a.va a.len _ _) (sym c.in-None.is ∙ c.locate.ensures) refl) in record { content = w.0; place = w.1 }

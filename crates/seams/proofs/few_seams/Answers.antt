@@ -1,38 +1,22 @@
--- `seams::few_seams` meets its contract. The invariant: half number i stands at `place`, and the counted halves of all the edges are the count and those from there on.
-use Prim.Native.Nat.{◌+◌, ◌*◌}
+-- `seams::few_seams` meets its contract. The invariant: the counted halves of all the edges are the count and those from number i on.
+use Prim.Native.Nat.{◌*◌}
 use native.Mathlib.Nat.{zero-add, sub-zero}
 use native.Mathlib.Omega.{arith}
 use Rattle.seams.specs.Seams.{counted}
-use Rattle.seams.proofs.Row.{by_halves, row_turn, row_done, half_at_lem}
+use Rattle.seams.proofs.Row.{by_halves, row_turn, row_done}
 use Rattle.seams.proofs.few_seams.Goals as goal
-
-pub overflow_mul-i-end : goal.overflow_mul-i-end
-overflow_mul-i-end c = omega arith
 
 pub loop-i-init : goal.loop-i-init
 loop-i-init c =
     let a = c.args in
-    (omega arith, omega arith, rw (sub-zero, zero-add) (by_halves (counted a.own) a.strip.now a.at a.n), omega arith)
-
-pub half_seams-count-requires : goal.half_seams-count-requires
-half_seams-count-requires c = omega arith
-
-pub overflow_add-count : goal.overflow_add-count
-overflow_add-count c = omega arith
-
-pub overflow_add-place : goal.overflow_add-place
-overflow_add-place c = omega arith
-
-pub loop-i-smaller : goal.loop-i-smaller
-loop-i-smaller c = omega arith
+    (rw (sub-zero, zero-add) (by_halves (counted a.own) a.strip.now a.at a.n), omega arith)
 
 pub loop-i-preserved : goal.loop-i-preserved
 loop-i-preserved c =
     let a = c.args in
     let l = c.loop-i in
     let turn = row_turn (counted a.own) a.strip.now a.at l.i (2 * a.n) c.loop-i-test.true in
-    let here = half_at_lem (counted a.own) a.strip.now (a.at + 3 * l.i) c.half_seams-count.ensures.count l.invariant.1 in
-    (omega arith, omega arith, omega (arith, turn, here), omega arith)
+    (omega (arith, turn, c.half_seams-count.ensures.count), omega arith)
 
 pub returns : goal.returns
 returns c =

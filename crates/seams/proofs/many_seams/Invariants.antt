@@ -1,6 +1,5 @@
--- `seams::many_seams` meets its contract. The invariant: the counted halves of all the edges are the count and those of the edges that are left, from `place` on.
+-- `seams::many_seams` meets its contract. The invariant: the counted halves of all the edges are the count and those of the edges that are left.
 use Prim.Native.Nat.{◌+◌, ◌-◌, ◌*◌, ◌≤◌}
-use lib.ListN.{length}
 use mathlib.Core.Path.{◌≡◌}
 use Rattle.strip.specs.Reading.{edges_at}
 use Rattle.seams.specs.Seams.{counted, edge_count}
@@ -8,8 +7,4 @@ use Rattle.seams.proofs.many_seams.Given as goal
 
 abbrev pub invariant-loop-i : goal.invariant-loop-i
 invariant-loop-i l =
-    (l.i ≤ l.n) × (l.place + 6 * (l.n - l.i) ≤ length l.strip)
-    × (edge_count (counted l.own) (edges_at l.strip l.at l.n) ≡ l.count + edge_count (counted l.own) (edges_at l.strip l.place (l.n - l.i))) × (l.count ≤ 2 * l.i)
-
-abbrev pub decreases-loop-i : goal.decreases-loop-i
-decreases-loop-i l = l.n - l.i
+    (edge_count (counted l.own) (edges_at l.strip l.at l.n) ≡ l.count + edge_count (counted l.own) (edges_at l.strip (l.at + 6 * l.i) (l.n - l.i))) × (l.count ≤ 2 * l.i)

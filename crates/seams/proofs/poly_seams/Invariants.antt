@@ -6,10 +6,7 @@ use Rattle.strip.specs.Rows.{polygons_at, after_polygons}
 use Rattle.seams.specs.Seams.{counted, half_count}
 use Rattle.seams.proofs.poly_seams.Given as goal
 
-abbrev pub invariant-loop-i : goal.invariant-loop-i
-invariant-loop-i l =
-    (l.i ≤ l.n) × (after_polygons l.strip l.at (l.n - l.i) ≤ length l.strip)
-    × (half_count (counted l.own) (polygons_at l.strip 14 l.n) ≡ l.count + half_count (counted l.own) (polygons_at l.strip l.at (l.n - l.i))) × (l.count ≤ l.at)
-
-abbrev pub decreases-loop-i : goal.decreases-loop-i
-decreases-loop-i l = l.n - l.i
+abbrev pub invariant-loop : goal.invariant-loop
+invariant-loop l =
+    (after_polygons l.strip l.at (l.n - l.counter) ≤ length l.strip)
+    × (half_count (counted l.own) (polygons_at l.strip 14 l.n) ≡ l.count + half_count (counted l.own) (polygons_at l.strip l.at (l.n - l.counter))) × (l.count ≤ l.at)

@@ -1,12 +1,10 @@
--- `stores::put_u64` meets its contract: near the end it is two halves of 4 bytes side by side, by the law over the width.
-use mathlib.Core.Path.{sym}
-use Rattle.fields.proofs.Puts.{past_end, put_halves}
+-- `stores::put_u64` meets its contract: std's bytes of the number, stored.
+use mathlib.Core.Path.{ap, ◌∙◌}
+use Rattle.fields.specs.Put.{put}
+use Rattle.stores.proofs.Low.{low_bytes_all}
 use Rattle.stores.proofs.put_u64.Goals as goal
-
-pub returns-then-b-off : goal.returns-then-b-off
-returns-then-b-off c = sym (past_end _ _ _ c.if-b-off.true)
 
 pub returns : goal.returns
 returns c =
     let a = c.args in
-    put_halves 4 a.v a.off a.b.now c.put_u32.ensures c.put_u32-2.ensures
+    c.put_bytes.ensures ∙ ap (λ bs. put a.off bs a.b.now) (c.to_le_bytes.ensures ∙ low_bytes_all 8 a.v)

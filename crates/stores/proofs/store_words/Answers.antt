@@ -1,50 +1,31 @@
 -- `stores::store_words` meets its contract. The loop's invariant: storing what is left of the words from here on gives what is promised, and
-use mathlib.Core.Path.{◌≡◌, refl, ap, ◌∙◌}
+use mathlib.Core.Path.{◌≡◌, ap, ◌∙◌}
 use mathlib.Core.List.{[]}
 use Prim.Native.Nat.{◌+◌}
 use native.Mathlib.Omega.{arith}
-use lib.ListN.{drop, drop_of_length-le}
-use Rattle.fields.specs.Bytes.{les}
+use lib.ListN.{length, drop, get_or, drop_of_length-le}
+use Rattle.fields.specs.Bytes.{les, le_bytes}
 use Rattle.fields.specs.Put.{put}
-use Rattle.fields.proofs.Puts.{put_les, put_nil}
+use Rattle.fields.proofs.Puts.{length_put, put_les, put_nil}
+use Rattle.stores.proofs.Low.{low_bytes_all}
 use Rattle.stores.proofs.store_words.Goals as goal
 
-pub loop-i-init : goal.loop-i-init
-loop-i-init c = (omega arith, omega arith, refl, refl)
-
-pub offset_bounds-ws-i : goal.offset_bounds-ws-i
-offset_bounds-ws-i c = omega arith
-
-pub bounds-ws-i : goal.bounds-ws-i
-bounds-ws-i c = omega arith
-
-pub store_u32-requires : goal.store_u32-requires
-store_u32-requires c = omega arith
-
-pub overflow_add-at : goal.overflow_add-at
-overflow_add-at c = omega arith
-
-pub overflow_add-i : goal.overflow_add-i
-overflow_add-i c = omega arith
-
-pub loop-i-smaller : goal.loop-i-smaller
-loop-i-smaller c = omega arith
-
-pub loop-i-preserved : goal.loop-i-preserved
-loop-i-preserved c =
-    let l = c.loop-i in
+pub loop-w-preserved : goal.loop-w-preserved
+loop-w-preserved c =
+    let l = c.loop-w in
     let a = c.args in
-    let rest = les 4 (drop (l.i + 1) a.ws.now) in (
+    let rest = les 4 (drop (l.w-index + 1) a.ws.now) in
+    let stored : c.store.new.b ≡ put l.at (le_bytes 4 (get_or a.ws.now l.w-index 0)) l.b =
+    c.store.ensures ∙ ap (λ bs. put l.at bs l.b) (c.to_le_bytes.ensures ∙ low_bytes_all 4 (get_or a.ws.now l.w-index 0)) in (
       omega arith,
-      omega arith,
-      omega arith,
-      ap (put (l.at + 4) rest) c.store_u32.ensures ∙ put_les 4 l.at a.ws.now l.i l.b (omega arith) ∙ l.invariant.3,
+      ap length stored ∙ length_put _ _ _ ∙ l.invariant.1,
+      ap (put (l.at + 4) rest) stored ∙ put_les 4 l.at a.ws.now l.w-index l.b (omega arith) ∙ l.invariant.2,
     )
 
 pub returns : goal.returns
 unfolding les
 returns c =
-    let l = c.loop-i in
+    let l = c.loop-w in
     let ws = c.args.ws.now in
-    let e : drop l.i ws ≡ [] = drop_of_length-le ws c.loop-i-test.false in
-    rw (e, les, put_nil) at l.invariant.3
+    let e : drop l.w-index ws ≡ [] = drop_of_length-le ws c.loop-w-test.false in
+    rw (e, les, put_nil) at l.invariant.2

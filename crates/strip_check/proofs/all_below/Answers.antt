@@ -1,30 +1,12 @@
--- `strip_check::all_below` meets its contract. The invariant: what is asked of all the words is what is asked of those that are left, from `place` on.
-use mathlib.Core.Path.{sym, ◌∙◌}
-use native.Mathlib.Nat.{sub-zero}
-use native.Mathlib.Omega.{arith}
-use Rattle.strip.proofs.Steps.{below_turn, below_not, below_done}
+-- `strip_check::all_below` meets its contract: all words of the row are asked.
+use Rattle.std.proofs.Common.{rules, arith, ◌≡◌, ◌+◌, ◌-◌, take, drop, ltb, ◌∙◌}
+use Rattle.std.proofs.lemmas.List.Recursion.{and_is}
+use Rattle.strip_check.proofs.Below.{below, below_none, below_more, below_words}
 use Rattle.strip_check.proofs.all_below.Goals as goal
 
-pub loop-i-init : goal.loop-i-init
-loop-i-init c = (omega arith, omega arith, rw sub-zero)
-
-pub offset_bounds-strip-place : goal.offset_bounds-strip-place
-offset_bounds-strip-place c = omega arith
-
-pub bounds-strip-place : goal.bounds-strip-place
-bounds-strip-place c = omega arith
-
-pub returns-then-limit-strip : goal.returns-then-limit-strip
-returns-then-limit-strip c = sym (c.loop-i.invariant.2 ∙ below_not _ _ _ _ _ c.loop-i-test.true c.if-limit-strip.true)
-
-pub overflow_add-place : goal.overflow_add-place
-overflow_add-place c = omega arith
-
-pub loop-i-smaller : goal.loop-i-smaller
-loop-i-smaller c = omega arith
-
-pub loop-i-preserved : goal.loop-i-preserved
-loop-i-preserved c = (omega arith, omega arith, c.loop-i.invariant.2 ∙ below_turn _ _ _ _ _ c.loop-i-test.true c.if-limit-strip.false)
-
 pub returns : goal.returns
-returns c = sym (c.loop-i.invariant.2 ∙ below_done _ _ _ _ _ c.loop-i-test.false)
+returns c =
+    let a = c.args in
+    let n-is : a.at + a.n - a.at ≡ a.n = omega arith in
+    and_is (below a.limit) (λ x. ltb x a.limit) (below_none _) (below_more _) (take a.n (drop a.at a.strip.now)) 0 _ (search rules) (search rules)
+    ∙ below_words _ _ _ _ c.requires

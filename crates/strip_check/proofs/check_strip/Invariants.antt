@@ -7,7 +7,7 @@ use Rattle.strip.proofs.Judged.{Passed}
 use Rattle.strip_check.proofs.check_strip.Given as goal
 
 abbrev pub invariant-loop-at : goal.invariant-loop-at
-invariant-loop-at l = Passed l.strip l.polys l.portals l.points l.at l.rank
+invariant-loop-at l = Passed l.strip l.counts.polys l.counts.portals l.counts.points l.at l.rank
 
 abbrev pub decreases-loop-at : goal.decreases-loop-at
 decreases-loop-at l = length l.strip - l.at

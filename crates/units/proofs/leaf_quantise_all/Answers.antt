@@ -33,25 +33,19 @@ both n a b e = (rw e (min-le_left a b), rw e (min-le_right a b))
 
 pub loop-i-init : goal.loop-i-init
 unfolding shorts_to
-loop-i-init c = (omega arith, refl, sym (put_nil 0 _))
+loop-i-init c = (refl, sym (put_nil 0 _))
 
 pub overflow_mul-i : goal.overflow_mul-i
-overflow_mul-i c = let h = both _ _ _ c.least-n.ensures in omega arith
+overflow_mul-i c = let h = both _ _ _ c.min-n.ensures in omega arith
 
-pub floats_at-requires : goal.floats_at-requires
-floats_at-requires c = let h = both _ _ _ c.least-n.ensures in omega arith
+pub floats_at-requires-in-loop-i : goal.floats_at-requires-in-loop-i
+floats_at-requires-in-loop-i c = let h = both _ _ _ c.min-n.ensures in omega arith
 
 pub overflow_mul-i-in-loop-i : goal.overflow_mul-i-in-loop-i
-overflow_mul-i-in-loop-i c = let h = both _ _ _ c.least-n.ensures in omega arith
+overflow_mul-i-in-loop-i c = let h = both _ _ _ c.min-n.ensures in omega arith
 
 pub store-requires : goal.store-requires
-store-requires c = let h = both _ _ _ c.least-n.ensures in omega arith
-
-pub overflow_add-i : goal.overflow_add-i
-overflow_add-i c = omega arith
-
-pub loop-i-smaller : goal.loop-i-smaller
-loop-i-smaller c = omega arith
+store-requires c = let h = both _ _ _ c.min-n.ensures in omega arith
 
 pub loop-i-preserved : goal.loop-i-preserved
 loop-i-preserved c =
@@ -59,16 +53,15 @@ loop-i-preserved c =
     let a = c.args in
     let q = c.shorts_of-q in (
       omega arith,
-      omega arith,
-      c.store.ensures ∙ ap (put (3 * l.i) (q.result.x ∷ q.result.y ∷ q.result.z ∷ [])) l.invariant.2 ∙ one_more a.vertices.now c.floats_at-bb_min.result c.floats_at-bb_size.result l.i a.out.now q.result (cc),
+      c.store.ensures ∙ ap (put (3 * l.i) (q.result.x ∷ q.result.y ∷ q.result.z ∷ [])) l.invariant.1 ∙ one_more a.vertices.now c.floats_at.result c.floats_at-2.result l.i a.out.now q.result (cc),
     )
 
 pub returns : goal.returns
 unfolding put
 returns c =
     let l = c.loop-i in
-    let e : l.i ≡ c.least-n.result = omega arith in
+    let e : l.i ≡ c.min-n.result = omega arith in
     record {
-      count = c.least-n.ensures;
+      count = c.min-n.ensures;
       content = cc;
     }

@@ -8,14 +8,11 @@ use Rattle.write_blocks.proofs.address_of.Goals as goal
 pub start-requires : goal.start-requires
 start-requires c = some_below c.args.l.at c.args.size (omega (arith, c.if-size-gt0.true)) c.requires
 
-pub overflow_add-result : goal.overflow_add-result
-overflow_add-result c = omega (arith, some_below c.args.l.at c.args.size (omega (arith, c.if-size-gt0.true)) c.requires, c.start.ensures)
-
-pub overflow_cast-result : goal.overflow_cast-result
-overflow_cast-result c = omega (arith, some_below c.args.l.at c.args.size (omega (arith, c.if-size-gt0.true)) c.requires, c.start.ensures)
+pub address-requires : goal.address-requires
+address-requires c = omega (arith, some_below c.args.l.at c.args.size (omega (arith, c.if-size-gt0.true)) c.requires, c.start.ensures)
 
 pub returns-then-size-gt0 : goal.returns-then-size-gt0
-returns-then-size-gt0 c = ap address c.start.ensures ∙ sym (address_some c.args.l.at c.args.size (omega (arith, c.if-size-gt0.true)))
+returns-then-size-gt0 c = c.address.ensures ∙ ap address c.start.ensures ∙ sym (address_some c.args.l.at c.args.size (omega (arith, c.if-size-gt0.true)))
 
 pub returns : goal.returns
 returns c =

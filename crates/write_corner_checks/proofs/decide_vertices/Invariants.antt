@@ -8,8 +8,5 @@ use Rattle.write_corner_checks.proofs.decide_vertices.Given as goal
 
 abbrev pub invariant-loop-i : goal.invariant-loop-i
 invariant-loop-i l =
-    Going l.strip l.bb_min l.bb_size l.vertices l.edges l.initial.v l.initial.e l.buckets l.room l.start l.initial.tables l.initial.work l.initial.ids l.work l.ids l.tables l.v l.e l.i
-    × (l.pushed ≤ 3 * l.i) × (l.pushed + pushed_in l.bb_min l.bb_size (vecs_at l.strip l.v (l.vertices - l.i)) ≡ pushed_in l.bb_min l.bb_size (vecs_at l.strip l.initial.v l.vertices))
-
-abbrev pub decreases-loop-i : goal.decreases-loop-i
-decreases-loop-i l = l.vertices - l.i
+    Going l.strip l.frame.bb_min l.frame.bb_size l.p.vertices l.p.edges l.p.vertex_at l.p.edge_at l.buckets l.room l.start l.initial.tables l.initial.work l.initial.ids l.work l.ids l.tables l.i
+    × (l.pushed ≤ 3 * l.i) × (l.pushed + pushed_in l.frame.bb_min l.frame.bb_size (vecs_at l.strip (l.p.vertex_at + 3 * l.i) (l.p.vertices - l.i)) ≡ pushed_in l.frame.bb_min l.frame.bb_size (vecs_at l.strip l.p.vertex_at l.p.vertices))

@@ -12,8 +12,8 @@ returns c =
     let a = c.args in
     let at-floats = c.floats_at-v.ensures in
     record {
-      triple = rw (c.quantise-made.ensures.shorts, at-floats);
+      triple = rw (c.from.ensures, c.from-2.ensures, c.from-3.ensures, c.quantise-made.ensures.shorts, at-floats);
       below = search rules;
-      outside = c.quantise-made.ensures.outside ∙ ap (λ (v : Floats). outside_count v a.bb_min a.bb_size) at-floats;
+      outside = c.quantise-made.ensures.outside ∙ ap (λ (v : Floats). outside_count v a.frame.bb_min a.frame.bb_size) at-floats;
       bound = c.quantise-made.ensures.bound;
     }

@@ -28,12 +28,6 @@ overflow_mul-place c = omega (arith, edging_room _ _ _ _ _ _ _ _ _ _ _ c.loop-i.
 pub overflow_add-place : goal.overflow_add-place
 overflow_add-place c = omega (arith, edging_room _ _ _ _ _ _ _ _ _ _ _ c.loop-i.invariant c.loop-i-test.true _ c.poly_at-p.ensures c.requires.1, c.loop-i.invariant.long, c.well_formed)
 
-pub overflow_add-i : goal.overflow_add-i
-overflow_add-i c = omega (arith, c.loop-i-test.true, c.ranges.n)
-
-pub loop-i-smaller : goal.loop-i-smaller
-loop-i-smaller c = omega (arith, c.loop-i-test.true)
-
 pub loop-i-preserved : goal.loop-i-preserved
 loop-i-preserved c = edging_turn _ _ _ _ _ _ _ _ _ _ _ c.loop-i.invariant c.loop-i-test.true _ c.poly_at-p.ensures _ c.put_run.ensures
 

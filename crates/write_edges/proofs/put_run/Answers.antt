@@ -9,44 +9,26 @@ pub loop-i-init : goal.loop-i-init
 loop-i-init c = λ v. halving _ _ _ _ _ _ _ _ _ _
 
 pub half_item-a-requires : goal.half_item-a-requires
-half_item-a-requires c = λ h. omega (arith, (c.loop-i.invariant 0).edge, c.requires.0)
-
-pub overflow_add-e : goal.overflow_add-e
-overflow_add-e c = omega (arith, (c.loop-i.invariant 0).edge, c.loop-i-test.true, c.requires.1)
+half_item-a-requires c = λ h. omega (arith, c.requires.0)
 
 pub half_item-b-requires : goal.half_item-b-requires
-half_item-b-requires c = λ h. omega (arith, (c.loop-i.invariant 0).edge, c.requires.0)
+half_item-b-requires c = λ h. omega (arith, c.requires.0)
 
 pub offset_bounds-work-place : goal.offset_bounds-work-place
-offset_bounds-work-place c = omega (arith, (c.loop-i.invariant 0).here, c.loop-i-test.true, c.requires.2, c.well_formed)
+offset_bounds-work-place c = omega (arith, c.loop-i-test.true, c.requires.2, c.well_formed)
 
 pub bounds-work-place : goal.bounds-work-place
-bounds-work-place c = omega (arith, (c.loop-i.invariant 0).here, (c.loop-i.invariant 0).long, c.loop-i-test.true, c.requires.2)
-
-pub overflow_add-work : goal.overflow_add-work
-overflow_add-work c = omega (arith, (c.loop-i.invariant 0).here, c.loop-i-test.true, c.requires.2, c.well_formed)
+bounds-work-place c = omega (arith, (c.loop-i.invariant 0).long, c.loop-i-test.true, c.requires.2)
 
 pub offset_bounds-work-place-in-loop-i : goal.offset_bounds-work-place-in-loop-i
-offset_bounds-work-place-in-loop-i c = omega (arith, (c.loop-i.invariant 0).here, c.loop-i-test.true, c.requires.2, c.well_formed)
+offset_bounds-work-place-in-loop-i c = omega (arith, c.loop-i-test.true, c.requires.2, c.well_formed)
 
 pub bounds-work-place-in-loop-i : goal.bounds-work-place-in-loop-i
-bounds-work-place-in-loop-i c = simp length-set (omega (arith, (c.loop-i.invariant 0).here, (c.loop-i.invariant 0).long, c.loop-i-test.true, c.requires.2))
-
-pub overflow_add-e-in-loop-i : goal.overflow_add-e-in-loop-i
-overflow_add-e-in-loop-i c = omega (arith, (c.loop-i.invariant 0).edge, c.loop-i-test.true, c.requires.1)
-
-pub overflow_add-place : goal.overflow_add-place
-overflow_add-place c = omega (arith, (c.loop-i.invariant 0).here, c.loop-i-test.true, c.requires.2, c.well_formed)
-
-pub overflow_add-i : goal.overflow_add-i
-overflow_add-i c = omega (arith, c.loop-i-test.true, c.requires.1)
-
-pub loop-i-smaller : goal.loop-i-smaller
-loop-i-smaller c = omega (arith, c.loop-i-test.true)
+bounds-work-place-in-loop-i c = simp length-set (omega (arith, (c.loop-i.invariant 0).long, c.loop-i-test.true, c.requires.2))
 
 pub loop-i-preserved : goal.loop-i-preserved
-loop-i-preserved c = λ v. halving_turn _ _ _ _ _ _ _ _ _ _ _ _ _ _ (c.loop-i.invariant v) c.loop-i-test.true _ _ c.half_item-a.ensures c.half_item-b.ensures
+loop-i-preserved c = λ v. halving_turn _ _ _ _ _ _ _ _ _ _ _ _ (c.loop-i.invariant v) c.loop-i-test.true _ _ c.half_item-a.ensures c.half_item-b.ensures
 
 pub returns : goal.returns
 unfolding polygon_of
-returns c = halved _ _ _ _ _ _ _ _ _ _ _ _ _ _ (c.loop-i.invariant c.args.p.vertex_at) c.loop-i-test.false
+returns c = halved _ _ _ _ _ _ _ _ _ _ _ _ (c.loop-i.invariant c.args.p.vertex_at) c.loop-i-test.false

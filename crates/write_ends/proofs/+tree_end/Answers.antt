@@ -2,7 +2,7 @@
 -- each call going on where the last one ended. Assumes nothing.
 use mathlib.Core.Path.{◌≡◌, sym, ap, subst, ◌∙◌}
 use mathlib.Core.List.{List, [], ◌∷◌, ◌++◌}
-use Prim.Native.Nat.{ℕ, ◌<◌}
+use Prim.Native.Nat.{ℕ}
 use native.Mathlib.Omega.{arith}
 use Rattle.write_quadtree.specs.Subtrees.{divided}
 use Rattle.write_quadtree.specs.declared.subtrees.Subtree.{Subtree}

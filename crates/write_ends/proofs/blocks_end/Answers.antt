@@ -61,8 +61,8 @@ sectors_end-sectors-requires c =
     let ss = sectors a.boxes.now a.numbers.now a.content a.b in
     begins ss (portals a.d ++ links a.d) (behind_lists a.d ss c.requires.3 c.lists_end-lists.result c.lists_end-lists.ensures)
 
-pub overflow_mul-counts : goal.overflow_mul-counts
-overflow_mul-counts c =
+pub overflow_mul-d : goal.overflow_mul-d
+overflow_mul-d c =
     let a = c.args in
     let ss = sectors a.boxes.now a.numbers.now a.content a.b in
     omega (arith, within_some (28 * a.d.counts.portals) (begins (portals a.d) (links a.d) (behind_sectors a.d ss c.requires.3 c.lists_end-lists.result c.sectors_end-sectors.result c.lists_end-lists.ensures c.sectors_end-sectors.ensures)))
@@ -73,8 +73,8 @@ alloc_some-portals-requires c =
     let ss = sectors a.boxes.now a.numbers.now a.content a.b in
     begins (portals a.d) (links a.d) (behind_sectors a.d ss c.requires.3 c.lists_end-lists.result c.sectors_end-sectors.result c.lists_end-lists.ensures c.sectors_end-sectors.ensures)
 
-pub overflow_mul-d : goal.overflow_mul-d
-overflow_mul-d c =
+pub overflow_mul-d-2 : goal.overflow_mul-d-2
+overflow_mul-d-2 c =
     let a = c.args in
     let ss = sectors a.boxes.now a.numbers.now a.content a.b in
     omega (

@@ -13,8 +13,8 @@ work_places-places-requires c = omega (arith, c.requires.held.room, c.well_forme
 places : (c : After-work_places-places) → Cut (length c.args.strip.now) c.args.d.counts c.work_places-places.result
 places c = cut (length c.args.strip.now) c.args.d.counts c.work_places-places.ensures
 
-pub offset_bounds-work-boxes : goal.offset_bounds-work-boxes
-offset_bounds-work-boxes c = omega (arith, c.requires.held.room, c.well_formed, places (goal.at.offset_bounds-work-boxes c).After-work_places-places)
+pub offset_bounds-work-places : goal.offset_bounds-work-places
+offset_bounds-work-places c = omega (arith, c.requires.held.room, c.well_formed, places (goal.at.offset_bounds-work-places c).After-work_places-places)
 
 pub slice_bounds-blocks_end-count : goal.slice_bounds-blocks_end-count
 slice_bounds-blocks_end-count c = omega (arith, places (goal.at.slice_bounds-blocks_end-count c).After-work_places-places)
@@ -25,8 +25,8 @@ slice_bounds-blocks_end-start c = omega (arith, places (goal.at.slice_bounds-blo
 pub slice_bounds-blocks_end-end : goal.slice_bounds-blocks_end-end
 slice_bounds-blocks_end-end c = omega (arith, c.requires.held.room, places (goal.at.slice_bounds-blocks_end-end c).After-work_places-places)
 
-pub offset_bounds-work-leaves : goal.offset_bounds-work-leaves
-offset_bounds-work-leaves c = omega (arith, c.requires.held.room, c.well_formed, places (goal.at.offset_bounds-work-leaves c).After-work_places-places)
+pub offset_bounds-work-places-2 : goal.offset_bounds-work-places-2
+offset_bounds-work-places-2 c = omega (arith, c.requires.held.room, c.well_formed, places (goal.at.offset_bounds-work-places-2 c).After-work_places-places)
 
 pub slice_bounds-blocks_end-count-2 : goal.slice_bounds-blocks_end-count-2
 slice_bounds-blocks_end-count-2 c = omega (arith, places (goal.at.slice_bounds-blocks_end-count-2 c).After-work_places-places)
@@ -38,7 +38,7 @@ pub slice_bounds-blocks_end-end-2 : goal.slice_bounds-blocks_end-end-2
 slice_bounds-blocks_end-end-2 c = omega (arith, c.requires.held.room, places (goal.at.slice_bounds-blocks_end-end-2 c).After-work_places-places)
 
 pub blocks_end-requires : goal.blocks_end-requires
-blocks_end-requires c = planned_small _ _ c.args.d c.requires _ c.work_places-places.ensures _ c.root_box-b.ensures
+blocks_end-requires c = planned_small _ _ c.args.d c.requires _ c.work_places-places.ensures _ c.root_box.ensures
 
 pub returns : goal.returns
-returns c = let w = planned_ends _ _ c.args.d c.requires _ c.work_places-places.ensures _ c.root_box-b.ensures c.blocks_end.ensures.end c.blocks_end.ensures.sectors in record { end = w.0; sectors = w.1 }
+returns c = let w = planned_ends _ _ c.args.d c.requires _ c.work_places-places.ensures _ c.root_box.ensures c.blocks_end.ensures.end c.blocks_end.ensures.sectors in record { end = w.0; sectors = w.1 }

@@ -1,14 +1,14 @@
 -- `write_entry::serialize_entry` meets its contract: the words of what the writer answers, stored or refused.
 use mathlib.Core.Path.{sym, ap, ◌∙◌}
-use Rattle.ynv_write.specs.Serialize.{paper}
+use Rattle.strip.specs.Outcome.{paper}
 use Rattle.write_entry.specs.Entries.{written_words}
 use Rattle.answers.proofs.Answers.{answers}
 use Rattle.write_entry.proofs.serialize_entry.Goals as goal
 
-pub returns-in-Written : goal.returns-in-Written
-returns-in-Written c =
+pub returns-in-Ok : goal.returns-in-Ok
+returns-in-Ok c =
     let call = c.serialize_ynv in
-    let told = sym (ap paper c.in-Written.is) ∙ call.ensures.answer in
+    let told = sym (ap paper c.in-Ok.is) ∙ call.ensures.answer in
     let a = answers written_words told c.args.answer.now c.accept.ensures.number c.accept.ensures.words in
     record {
       number = a.0;
@@ -18,10 +18,10 @@ returns-in-Written c =
       beyond = call.ensures.beyond;
     }
 
-pub returns-in-Refused : goal.returns-in-Refused
-returns-in-Refused c =
+pub returns-in-Err : goal.returns-in-Err
+returns-in-Err c =
     let call = c.serialize_ynv in
-    let told = sym (ap paper c.in-Refused.is) ∙ call.ensures.answer in
+    let told = sym (ap paper c.in-Err.is) ∙ call.ensures.answer in
     let a = answers written_words told c.args.answer.now c.refuse.ensures.number c.refuse.ensures.words in
     record {
       number = a.0;

@@ -8,4 +8,4 @@ pub returns : goal.returns
 returns c =
     let a = c.args.areas in
     let long : length a.ids ≡ 32 = search rules in
-    c.least.ensures ∙ sym (length-take a.len a.ids ∙ rw long)
+    c.min.ensures ∙ sym (length-take a.len a.ids ∙ rw long)

@@ -43,8 +43,8 @@ lay_edges-edges-requires c =
     let rest-inside = rest_fits c.args.strip.now c.args.d.counts c.requires.long c.requires.length_is in
     edges_ask c.args.strip.now c.args.work.now c.args.d c.requires _ laid-indices.ends _ (omega (arith, places, rest-inside))
 
-pub offset_bounds-work-boxes : goal.offset_bounds-work-boxes
-offset_bounds-work-boxes c =
+pub offset_bounds-work-places : goal.offset_bounds-work-places
+offset_bounds-work-places c =
     let places = cut (length c.args.strip.now) c.args.d.counts c.work_places-places.ensures in
     omega (arith, c.requires.held.room, places, c.well_formed)
 

@@ -10,4 +10,4 @@ pub check_from-requires : goal.check_from-requires
 check_from-requires c = root_numbered c.args.b c.args.depth c.requires
 
 pub returns : goal.returns
-returns c ts l = (c.check_from.ensures ts l).told
+returns c ts l = c.check_from.ensures ts l

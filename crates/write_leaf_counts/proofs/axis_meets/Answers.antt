@@ -25,7 +25,7 @@ returns-then-leaf_min-max c =
     let high = to_z-of_z w16 c.args.leaf_max c.ranges.leaf_max in
     rw (high, least (goal.at.returns-then-leaf_min-max c).After-i16_of-max) (sym (axis_yes _ _ _ _ (rw (low, most (goal.at.returns-then-leaf_min-max c).After-i16_of-max) at c.if-leaf_min-max.true)))
 
-pub returns : goal.returns
-returns c =
+pub returns-else-leaf_min-max : goal.returns-else-leaf_min-max
+returns-else-leaf_min-max c =
     let low = to_z-of_z w16 c.args.leaf_min c.ranges.leaf_min in
-    sym (axis_no _ _ _ _ (rw (low, most (goal.at.returns c).After-i16_of-max) at c.if-leaf_min-max.false))
+    c.if-leaf_min-max.false ∙ sym (axis_no _ _ _ _ (rw (low, most (goal.at.returns-else-leaf_min-max c).After-i16_of-max) at c.if-leaf_min-max.false))

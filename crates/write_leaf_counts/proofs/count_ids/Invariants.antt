@@ -8,10 +8,5 @@ use Rattle.write_leaf_counts.proofs.count_ids.Given as goal
 
 abbrev pub invariant-loop-i : goal.invariant-loop-i
 invariant-loop-i l =
-    (l.polys ≡ length l.boxes / 3)
-    × (l.i ≤ l.polys)
-    × (l.n ≤ l.i)
-    × (l.n + length (leaf_ids (l.q) l.i (boxes_at l.boxes (3 * l.i) (l.polys - l.i))) ≡ length (leaf_ids (l.q) 0 (boxes_in l.boxes)))
-
-abbrev pub decreases-loop-i : goal.decreases-loop-i
-decreases-loop-i l = l.polys - l.i
+    (l.n ≤ l.i)
+    × (l.n + length (leaf_ids (l.q) l.i (boxes_at l.boxes (3 * l.i) (length l.boxes / 3 - l.i))) ≡ length (leaf_ids (l.q) 0 (boxes_in l.boxes)))

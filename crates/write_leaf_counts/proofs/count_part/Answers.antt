@@ -1,41 +1,23 @@
--- `write_leaf_counts::count_part` meets its contract. What is counted and what is left make the whole. Assumes nothing.
+-- `write_leaf_counts::count_part` meets its contract: what is counted and what is left make the whole.
+use mathlib.Core.Path.{◌≡◌, ◌∙◌}
+use mathlib.Core.Bool.{cond}
 use native.Mathlib.Omega.{arith}
-use lib.ListN.{get_or}
-use Rattle.write_leaf_counts.proofs.Picks.{one_swapped, count_turn, count_end}
+use lib.Dec.{eqb}
+use lib.ListN.{length, get_or}
+use Rattle.write_leaf_counts.proofs.Picks.{byte_is, keep_one, count_turn, count_end}
 use Rattle.write_leaf_counts.proofs.count_part.Goals as goal
 
-pub loop-i-init : goal.loop-i-init
-loop-i-init c = (omega arith, omega arith, omega arith)
-
-pub offset_bounds-leaf_numbers-i : goal.offset_bounds-leaf_numbers-i
-offset_bounds-leaf_numbers-i c = omega arith
-
-pub bounds-leaf_numbers-i : goal.bounds-leaf_numbers-i
-bounds-leaf_numbers-i c = omega arith
-
-pub one_if-n-requires : goal.one_if-n-requires
-one_if-n-requires c = tt
-
-pub overflow_add-n : goal.overflow_add-n
-overflow_add-n c = omega (arith, c.one_if-n.ensures.bound)
-
-pub overflow_add-i : goal.overflow_add-i
-overflow_add-i c = omega arith
-
-pub loop-i-smaller : goal.loop-i-smaller
-loop-i-smaller c = omega arith
-
-pub loop-i-preserved : goal.loop-i-preserved
-loop-i-preserved c =
-    let a = c.args in
-    let w = a.leaf_numbers.now in
-    let e = count_turn w a.k c.loop-i.i a.to (omega arith) in
-    let one = c.one_if-n.ensures in
-    let swapped = one_swapped (get_or w c.loop-i.i 0) a.k in
-    (omega arith, omega (arith, one.bound), omega (arith, e, one.value, swapped))
+pub loop-leaf-preserved : goal.loop-leaf-preserved
+loop-leaf-preserved c =
+    let l = c.loop-leaf in
+    let w = c.args.part.now in
+    let b = eqb (get_or w l.leaf-index 0) c.args.k in
+    let e = count_turn w c.args.k l.leaf-index (length w) c.loop-leaf-test.true in
+    let one : c.from-n.result ≡ cond b 1 0 = c.from-n.ensures ∙ byte_is b in
+    let few = keep_one b in
+    (omega (arith, l.invariant.0), omega (arith, l.invariant.1))
 
 pub returns : goal.returns
 returns c =
-    let a = c.args in
-    let e = count_end a.leaf_numbers.now a.k c.loop-i.i a.to (omega arith) in
-    omega arith
+    let e = count_end c.args.part.now c.args.k c.loop-leaf.leaf-index (length c.args.part.now) c.loop-leaf-test.false in
+    omega (arith, c.loop-leaf.invariant.1)

@@ -22,5 +22,5 @@ y_test c =
 pub returns-then-axis_meets : goal.returns-then-axis_meets
 returns-then-axis_meets c = y_test c ∙ sym (meets_yes c.args.boxes.now c.args.at c.args.q (sym (x_test (goal.at.returns-then-axis_meets c).After-axis_meets) ∙ c.if-axis_meets.true))
 
-pub returns : goal.returns
-returns c = sym (meets_no c.args.boxes.now c.args.at c.args.q (sym (x_test (goal.at.returns c).After-axis_meets) ∙ c.if-axis_meets.false))
+pub returns-else-axis_meets : goal.returns-else-axis_meets
+returns-else-axis_meets c = c.if-axis_meets.false ∙ sym (meets_no c.args.boxes.now c.args.at c.args.q (sym (x_test (goal.at.returns-else-axis_meets c).After-axis_meets) ∙ c.if-axis_meets.false))

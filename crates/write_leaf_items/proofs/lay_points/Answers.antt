@@ -15,7 +15,7 @@ pub returns-then-n-eq0 : goal.returns-then-n-eq0
 returns-then-n-eq0 c =
     let a = c.args in
     let ts = picked_from a.leaf_numbers.now a.k 0 (points_at a.strip.now a.points.at (length a.leaf_numbers.now)) in
-    laid_nothing a.l (cat (point_items a.points.bb_min a.points.bb_size ts)) a.out.now (omega (arith, length_points a.points.bb_min a.points.bb_size ts, c.requires.1, c.if-n-eq0.true))
+    laid_nothing a.l (cat (point_items a.points.frame.bb_min a.points.frame.bb_size ts)) a.out.now (omega (arith, length_points a.points.frame.bb_min a.points.frame.bb_size ts, c.requires.1, c.if-n-eq0.true))
 
 pub overflow_mul-n : goal.overflow_mul-n
 overflow_mul-n c = omega (arith, c.requires.2)
@@ -36,4 +36,4 @@ pub returns : goal.returns
 returns c =
     let a = c.args in
     let ts = picked_from a.leaf_numbers.now a.k 0 (points_at a.strip.now a.points.at (length a.leaf_numbers.now)) in
-    laid_some (cat (point_items a.points.bb_min a.points.bb_size ts)) (length_points a.points.bb_min a.points.bb_size ts ∙ ap (λ (j : ℕ). 8 * j) (sym c.requires.1)) (omega (arith, c.if-n-eq0.false)) c.pad-at.ensures.start c.pad-at.ensures.out c.put_points.ensures c.alloc.ensures
+    laid_some (cat (point_items a.points.frame.bb_min a.points.frame.bb_size ts)) (length_points a.points.frame.bb_min a.points.frame.bb_size ts ∙ ap (λ (j : ℕ). 8 * j) (sym c.requires.1)) (omega (arith, c.if-n-eq0.false)) c.pad-at.ensures.start c.pad-at.ensures.out c.put_points.ensures c.alloc.ensures

@@ -63,76 +63,76 @@ module _ (bb-min bb-size : Floats) (b : Aabb) (boxes numbers s : List ℕ) (at k
   data_small h l3 e = let b = bounded h in rw e (omega arith)
 
 pub pad-at-requires : goal.pad-at-requires
-pad-at-requires c = own_small c.args.points.bb_min c.args.points.bb_size c.args.b c.args.boxes.now c.args.leaf_numbers.now c.args.strip.now c.args.points.at c.args.cursor.leaf c.args.cursor.layout c.args.cursor.first c.requires.tree_room
+pad-at-requires c = own_small c.args.points.frame.bb_min c.args.points.frame.bb_size c.args.b c.args.boxes.now c.args.leaf_numbers.now c.args.strip.now c.args.points.at c.args.cursor.leaf c.args.cursor.layout c.args.cursor.first c.requires.tree_room
 
 pub alloc-l1-requires : goal.alloc-l1-requires
-alloc-l1-requires c = own_small c.args.points.bb_min c.args.points.bb_size c.args.b c.args.boxes.now c.args.leaf_numbers.now c.args.strip.now c.args.points.at c.args.cursor.leaf c.args.cursor.layout c.args.cursor.first c.requires.tree_room
+alloc-l1-requires c = own_small c.args.points.frame.bb_min c.args.points.frame.bb_size c.args.b c.args.boxes.now c.args.leaf_numbers.now c.args.strip.now c.args.points.at c.args.cursor.leaf c.args.cursor.layout c.args.cursor.first c.requires.tree_room
 
 pub lay_ids-l2-requires : goal.lay_ids-l2-requires
 lay_ids-l2-requires c =
-    let b = bounded c.args.points.bb_min c.args.points.bb_size c.args.b c.args.boxes.now c.args.leaf_numbers.now c.args.strip.now c.args.points.at c.args.cursor.leaf c.args.cursor.layout c.args.cursor.first c.requires.tree_room in
-    (c.leaf_ids-m.ensures, omega (arith, c.leaf_ids-m.ensures), omega (arith, ids_end c.args.points.bb_min c.args.points.bb_size c.args.b c.args.boxes.now c.args.leaf_numbers.now c.args.strip.now c.args.points.at c.args.cursor.leaf c.args.cursor.layout c.args.cursor.first c.alloc-l1.result c.leaf_ids-m.result c.alloc-l1.ensures c.leaf_ids-m.ensures))
+    let b = bounded c.args.points.frame.bb_min c.args.points.frame.bb_size c.args.b c.args.boxes.now c.args.leaf_numbers.now c.args.strip.now c.args.points.at c.args.cursor.leaf c.args.cursor.layout c.args.cursor.first c.requires.tree_room in
+    (c.leaf_ids-m.ensures, omega (arith, c.leaf_ids-m.ensures), omega (arith, ids_end c.args.points.frame.bb_min c.args.points.frame.bb_size c.args.b c.args.boxes.now c.args.leaf_numbers.now c.args.strip.now c.args.points.at c.args.cursor.leaf c.args.cursor.layout c.args.cursor.first c.alloc-l1.result c.leaf_ids-m.result c.alloc-l1.ensures c.leaf_ids-m.ensures))
 
 pub lay_points-l3-requires : goal.lay_points-l3-requires
 lay_points-l3-requires c =
-    let b = bounded c.args.points.bb_min c.args.points.bb_size c.args.b c.args.boxes.now c.args.leaf_numbers.now c.args.strip.now c.args.points.at c.args.cursor.leaf c.args.cursor.layout c.args.cursor.first c.requires.tree_room in
-    let n = points_count c.args.points.bb_min c.args.points.bb_size c.args.b c.args.boxes.now c.args.leaf_numbers.now c.args.strip.now c.args.points.at c.args.cursor.leaf c.args.cursor.layout c.args.cursor.first c.count_points-n.result c.count_points-n.ensures in
-    (c.requires.leaf_bound.1, n, omega (arith, n), omega (arith, points_end c.args.points.bb_min c.args.points.bb_size c.args.b c.args.boxes.now c.args.leaf_numbers.now c.args.strip.now c.args.points.at c.args.cursor.leaf c.args.cursor.layout c.args.cursor.first c.lay_ids-l2.result c.count_points-n.result (ids_behind c.args.points.bb_min c.args.points.bb_size c.args.b c.args.boxes.now c.args.leaf_numbers.now c.args.strip.now c.args.points.at c.args.cursor.leaf c.args.cursor.layout c.args.cursor.first c.alloc-l1.result c.lay_ids-l2.result _ _ c.alloc-l1.ensures c.lay_ids-l2.ensures) (points_count c.args.points.bb_min c.args.points.bb_size c.args.b c.args.boxes.now c.args.leaf_numbers.now c.args.strip.now c.args.points.at c.args.cursor.leaf c.args.cursor.layout c.args.cursor.first c.count_points-n.result c.count_points-n.ensures)))
+    let b = bounded c.args.points.frame.bb_min c.args.points.frame.bb_size c.args.b c.args.boxes.now c.args.leaf_numbers.now c.args.strip.now c.args.points.at c.args.cursor.leaf c.args.cursor.layout c.args.cursor.first c.requires.tree_room in
+    let n = points_count c.args.points.frame.bb_min c.args.points.frame.bb_size c.args.b c.args.boxes.now c.args.leaf_numbers.now c.args.strip.now c.args.points.at c.args.cursor.leaf c.args.cursor.layout c.args.cursor.first c.count_points-n.result c.count_points-n.ensures in
+    (c.requires.leaf_bound.1, n, omega (arith, n), omega (arith, points_end c.args.points.frame.bb_min c.args.points.frame.bb_size c.args.b c.args.boxes.now c.args.leaf_numbers.now c.args.strip.now c.args.points.at c.args.cursor.leaf c.args.cursor.layout c.args.cursor.first c.lay_ids-l2.result c.count_points-n.result (ids_behind c.args.points.frame.bb_min c.args.points.frame.bb_size c.args.b c.args.boxes.now c.args.leaf_numbers.now c.args.strip.now c.args.points.at c.args.cursor.leaf c.args.cursor.layout c.args.cursor.first c.alloc-l1.result c.lay_ids-l2.result _ _ c.alloc-l1.ensures c.lay_ids-l2.ensures) (points_count c.args.points.frame.bb_min c.args.points.frame.bb_size c.args.b c.args.boxes.now c.args.leaf_numbers.now c.args.strip.now c.args.points.at c.args.cursor.leaf c.args.cursor.layout c.args.cursor.first c.count_points-n.result c.count_points-n.ensures)))
 
 pub overflow_mul-m : goal.overflow_mul-m
 overflow_mul-m c =
-    let b = bounded c.args.points.bb_min c.args.points.bb_size c.args.b c.args.boxes.now c.args.leaf_numbers.now c.args.strip.now c.args.points.at c.args.cursor.leaf c.args.cursor.layout c.args.cursor.first c.requires.tree_room in
+    let b = bounded c.args.points.frame.bb_min c.args.points.frame.bb_size c.args.b c.args.boxes.now c.args.leaf_numbers.now c.args.strip.now c.args.points.at c.args.cursor.leaf c.args.cursor.layout c.args.cursor.first c.requires.tree_room in
     omega (arith, c.leaf_ids-m.ensures)
 
 pub address_of-ids_at-requires : goal.address_of-ids_at-requires
 address_of-ids_at-requires c =
-    let b = bounded c.args.points.bb_min c.args.points.bb_size c.args.b c.args.boxes.now c.args.leaf_numbers.now c.args.strip.now c.args.points.at c.args.cursor.leaf c.args.cursor.layout c.args.cursor.first c.requires.tree_room in
-    omega (arith, ids_end c.args.points.bb_min c.args.points.bb_size c.args.b c.args.boxes.now c.args.leaf_numbers.now c.args.strip.now c.args.points.at c.args.cursor.leaf c.args.cursor.layout c.args.cursor.first c.alloc-l1.result c.leaf_ids-m.result c.alloc-l1.ensures c.leaf_ids-m.ensures)
+    let b = bounded c.args.points.frame.bb_min c.args.points.frame.bb_size c.args.b c.args.boxes.now c.args.leaf_numbers.now c.args.strip.now c.args.points.at c.args.cursor.leaf c.args.cursor.layout c.args.cursor.first c.requires.tree_room in
+    omega (arith, ids_end c.args.points.frame.bb_min c.args.points.frame.bb_size c.args.b c.args.boxes.now c.args.leaf_numbers.now c.args.strip.now c.args.points.at c.args.cursor.leaf c.args.cursor.layout c.args.cursor.first c.alloc-l1.result c.leaf_ids-m.result c.alloc-l1.ensures c.leaf_ids-m.ensures)
 
 pub overflow_mul-n : goal.overflow_mul-n
 overflow_mul-n c =
-    let b = bounded c.args.points.bb_min c.args.points.bb_size c.args.b c.args.boxes.now c.args.leaf_numbers.now c.args.strip.now c.args.points.at c.args.cursor.leaf c.args.cursor.layout c.args.cursor.first c.requires.tree_room in
-    omega (arith, points_count c.args.points.bb_min c.args.points.bb_size c.args.b c.args.boxes.now c.args.leaf_numbers.now c.args.strip.now c.args.points.at c.args.cursor.leaf c.args.cursor.layout c.args.cursor.first c.count_points-n.result c.count_points-n.ensures)
+    let b = bounded c.args.points.frame.bb_min c.args.points.frame.bb_size c.args.b c.args.boxes.now c.args.leaf_numbers.now c.args.strip.now c.args.points.at c.args.cursor.leaf c.args.cursor.layout c.args.cursor.first c.requires.tree_room in
+    omega (arith, points_count c.args.points.frame.bb_min c.args.points.frame.bb_size c.args.b c.args.boxes.now c.args.leaf_numbers.now c.args.strip.now c.args.points.at c.args.cursor.leaf c.args.cursor.layout c.args.cursor.first c.count_points-n.result c.count_points-n.ensures)
 
 pub address_of-points_at-requires : goal.address_of-points_at-requires
 address_of-points_at-requires c =
-    let b = bounded c.args.points.bb_min c.args.points.bb_size c.args.b c.args.boxes.now c.args.leaf_numbers.now c.args.strip.now c.args.points.at c.args.cursor.leaf c.args.cursor.layout c.args.cursor.first c.requires.tree_room in
-    omega (arith, points_end c.args.points.bb_min c.args.points.bb_size c.args.b c.args.boxes.now c.args.leaf_numbers.now c.args.strip.now c.args.points.at c.args.cursor.leaf c.args.cursor.layout c.args.cursor.first c.lay_ids-l2.result c.count_points-n.result (ids_behind c.args.points.bb_min c.args.points.bb_size c.args.b c.args.boxes.now c.args.leaf_numbers.now c.args.strip.now c.args.points.at c.args.cursor.leaf c.args.cursor.layout c.args.cursor.first c.alloc-l1.result c.lay_ids-l2.result _ _ c.alloc-l1.ensures c.lay_ids-l2.ensures) (points_count c.args.points.bb_min c.args.points.bb_size c.args.b c.args.boxes.now c.args.leaf_numbers.now c.args.strip.now c.args.points.at c.args.cursor.leaf c.args.cursor.layout c.args.cursor.first c.count_points-n.result c.count_points-n.ensures))
+    let b = bounded c.args.points.frame.bb_min c.args.points.frame.bb_size c.args.b c.args.boxes.now c.args.leaf_numbers.now c.args.strip.now c.args.points.at c.args.cursor.leaf c.args.cursor.layout c.args.cursor.first c.requires.tree_room in
+    omega (arith, points_end c.args.points.frame.bb_min c.args.points.frame.bb_size c.args.b c.args.boxes.now c.args.leaf_numbers.now c.args.strip.now c.args.points.at c.args.cursor.leaf c.args.cursor.layout c.args.cursor.first c.lay_ids-l2.result c.count_points-n.result (ids_behind c.args.points.frame.bb_min c.args.points.frame.bb_size c.args.b c.args.boxes.now c.args.leaf_numbers.now c.args.strip.now c.args.points.at c.args.cursor.leaf c.args.cursor.layout c.args.cursor.first c.alloc-l1.result c.lay_ids-l2.result _ _ c.alloc-l1.ensures c.lay_ids-l2.ensures) (points_count c.args.points.frame.bb_min c.args.points.frame.bb_size c.args.b c.args.boxes.now c.args.leaf_numbers.now c.args.strip.now c.args.points.at c.args.cursor.leaf c.args.cursor.layout c.args.cursor.first c.count_points-n.result c.count_points-n.ensures))
 
 pub overflow_cast-m : goal.overflow_cast-m
 overflow_cast-m c =
-    let b = bounded c.args.points.bb_min c.args.points.bb_size c.args.b c.args.boxes.now c.args.leaf_numbers.now c.args.strip.now c.args.points.at c.args.cursor.leaf c.args.cursor.layout c.args.cursor.first c.requires.tree_room in
-    omega (arith, c.leaf_ids-m.ensures, points_count c.args.points.bb_min c.args.points.bb_size c.args.b c.args.boxes.now c.args.leaf_numbers.now c.args.strip.now c.args.points.at c.args.cursor.leaf c.args.cursor.layout c.args.cursor.first c.count_points-n.result c.count_points-n.ensures)
+    let b = bounded c.args.points.frame.bb_min c.args.points.frame.bb_size c.args.b c.args.boxes.now c.args.leaf_numbers.now c.args.strip.now c.args.points.at c.args.cursor.leaf c.args.cursor.layout c.args.cursor.first c.requires.tree_room in
+    omega (arith, c.leaf_ids-m.ensures, points_count c.args.points.frame.bb_min c.args.points.frame.bb_size c.args.b c.args.boxes.now c.args.leaf_numbers.now c.args.strip.now c.args.points.at c.args.cursor.leaf c.args.cursor.layout c.args.cursor.first c.count_points-n.result c.count_points-n.ensures)
 
 pub overflow_cast-n : goal.overflow_cast-n
 overflow_cast-n c =
-    let b = bounded c.args.points.bb_min c.args.points.bb_size c.args.b c.args.boxes.now c.args.leaf_numbers.now c.args.strip.now c.args.points.at c.args.cursor.leaf c.args.cursor.layout c.args.cursor.first c.requires.tree_room in
-    omega (arith, c.leaf_ids-m.ensures, points_count c.args.points.bb_min c.args.points.bb_size c.args.b c.args.boxes.now c.args.leaf_numbers.now c.args.strip.now c.args.points.at c.args.cursor.leaf c.args.cursor.layout c.args.cursor.first c.count_points-n.result c.count_points-n.ensures)
+    let b = bounded c.args.points.frame.bb_min c.args.points.frame.bb_size c.args.b c.args.boxes.now c.args.leaf_numbers.now c.args.strip.now c.args.points.at c.args.cursor.leaf c.args.cursor.layout c.args.cursor.first c.requires.tree_room in
+    omega (arith, c.leaf_ids-m.ensures, points_count c.args.points.frame.bb_min c.args.points.frame.bb_size c.args.b c.args.boxes.now c.args.leaf_numbers.now c.args.strip.now c.args.points.at c.args.cursor.leaf c.args.cursor.layout c.args.cursor.first c.count_points-n.result c.count_points-n.ensures)
 
 pub lay_data-l4-requires : goal.lay_data-l4-requires
-lay_data-l4-requires c = data_small c.args.points.bb_min c.args.points.bb_size c.args.b c.args.boxes.now c.args.leaf_numbers.now c.args.strip.now c.args.points.at c.args.cursor.leaf c.args.cursor.layout c.args.cursor.first c.requires.tree_room c.lay_points-l3.result (points_behind c.args.points.bb_min c.args.points.bb_size c.args.b c.args.boxes.now c.args.leaf_numbers.now c.args.strip.now c.args.points.at c.args.cursor.leaf c.args.cursor.layout c.args.cursor.first c.lay_ids-l2.result c.lay_points-l3.result _ _ (ids_behind c.args.points.bb_min c.args.points.bb_size c.args.b c.args.boxes.now c.args.leaf_numbers.now c.args.strip.now c.args.points.at c.args.cursor.leaf c.args.cursor.layout c.args.cursor.first c.alloc-l1.result c.lay_ids-l2.result _ _ c.alloc-l1.ensures c.lay_ids-l2.ensures) c.lay_points-l3.ensures)
+lay_data-l4-requires c = data_small c.args.points.frame.bb_min c.args.points.frame.bb_size c.args.b c.args.boxes.now c.args.leaf_numbers.now c.args.strip.now c.args.points.at c.args.cursor.leaf c.args.cursor.layout c.args.cursor.first c.requires.tree_room c.lay_points-l3.result (points_behind c.args.points.frame.bb_min c.args.points.frame.bb_size c.args.b c.args.boxes.now c.args.leaf_numbers.now c.args.strip.now c.args.points.at c.args.cursor.leaf c.args.cursor.layout c.args.cursor.first c.lay_ids-l2.result c.lay_points-l3.result _ _ (ids_behind c.args.points.frame.bb_min c.args.points.frame.bb_size c.args.b c.args.boxes.now c.args.leaf_numbers.now c.args.strip.now c.args.points.at c.args.cursor.leaf c.args.cursor.layout c.args.cursor.first c.alloc-l1.result c.lay_ids-l2.result _ _ c.alloc-l1.ensures c.lay_ids-l2.ensures) c.lay_points-l3.ensures)
 
 pub address_of-data_at-requires : goal.address_of-data_at-requires
-address_of-data_at-requires c = data_small c.args.points.bb_min c.args.points.bb_size c.args.b c.args.boxes.now c.args.leaf_numbers.now c.args.strip.now c.args.points.at c.args.cursor.leaf c.args.cursor.layout c.args.cursor.first c.requires.tree_room c.lay_points-l3.result (points_behind c.args.points.bb_min c.args.points.bb_size c.args.b c.args.boxes.now c.args.leaf_numbers.now c.args.strip.now c.args.points.at c.args.cursor.leaf c.args.cursor.layout c.args.cursor.first c.lay_ids-l2.result c.lay_points-l3.result _ _ (ids_behind c.args.points.bb_min c.args.points.bb_size c.args.b c.args.boxes.now c.args.leaf_numbers.now c.args.strip.now c.args.points.at c.args.cursor.leaf c.args.cursor.layout c.args.cursor.first c.alloc-l1.result c.lay_ids-l2.result _ _ c.alloc-l1.ensures c.lay_ids-l2.ensures) c.lay_points-l3.ensures)
+address_of-data_at-requires c = data_small c.args.points.frame.bb_min c.args.points.frame.bb_size c.args.b c.args.boxes.now c.args.leaf_numbers.now c.args.strip.now c.args.points.at c.args.cursor.leaf c.args.cursor.layout c.args.cursor.first c.requires.tree_room c.lay_points-l3.result (points_behind c.args.points.frame.bb_min c.args.points.frame.bb_size c.args.b c.args.boxes.now c.args.leaf_numbers.now c.args.strip.now c.args.points.at c.args.cursor.leaf c.args.cursor.layout c.args.cursor.first c.lay_ids-l2.result c.lay_points-l3.result _ _ (ids_behind c.args.points.frame.bb_min c.args.points.frame.bb_size c.args.b c.args.boxes.now c.args.leaf_numbers.now c.args.strip.now c.args.points.at c.args.cursor.leaf c.args.cursor.layout c.args.cursor.first c.alloc-l1.result c.lay_ids-l2.result _ _ c.alloc-l1.ensures c.lay_ids-l2.ensures) c.lay_points-l3.ensures)
 
 pub overflow_add-result : goal.overflow_add-result
 overflow_add-result c = omega (arith, c.requires.leaf_bound.0)
 
 pub overflow_cast-result : goal.overflow_cast-result
 overflow_cast-result c =
-    let b = bounded c.args.points.bb_min c.args.points.bb_size c.args.b c.args.boxes.now c.args.leaf_numbers.now c.args.strip.now c.args.points.at c.args.cursor.leaf c.args.cursor.layout c.args.cursor.first c.requires.tree_room in
-    omega (arith, points_count c.args.points.bb_min c.args.points.bb_size c.args.b c.args.boxes.now c.args.leaf_numbers.now c.args.strip.now c.args.points.at c.args.cursor.leaf c.args.cursor.layout c.args.cursor.first c.count_points-n.result c.count_points-n.ensures)
+    let b = bounded c.args.points.frame.bb_min c.args.points.frame.bb_size c.args.b c.args.boxes.now c.args.leaf_numbers.now c.args.strip.now c.args.points.at c.args.cursor.leaf c.args.cursor.layout c.args.cursor.first c.requires.tree_room in
+    omega (arith, points_count c.args.points.frame.bb_min c.args.points.frame.bb_size c.args.b c.args.boxes.now c.args.leaf_numbers.now c.args.strip.now c.args.points.at c.args.cursor.leaf c.args.cursor.layout c.args.cursor.first c.count_points-n.result c.count_points-n.ensures)
 
 pub overflow_add-result-2 : goal.overflow_add-result-2
 overflow_add-result-2 c =
-    let b = bounded c.args.points.bb_min c.args.points.bb_size c.args.b c.args.boxes.now c.args.leaf_numbers.now c.args.strip.now c.args.points.at c.args.cursor.leaf c.args.cursor.layout c.args.cursor.first c.requires.tree_room in
-    omega (arith, points_count c.args.points.bb_min c.args.points.bb_size c.args.b c.args.boxes.now c.args.leaf_numbers.now c.args.strip.now c.args.points.at c.args.cursor.leaf c.args.cursor.layout c.args.cursor.first c.count_points-n.result c.count_points-n.ensures)
+    let b = bounded c.args.points.frame.bb_min c.args.points.frame.bb_size c.args.b c.args.boxes.now c.args.leaf_numbers.now c.args.strip.now c.args.points.at c.args.cursor.leaf c.args.cursor.layout c.args.cursor.first c.requires.tree_room in
+    omega (arith, points_count c.args.points.frame.bb_min c.args.points.frame.bb_size c.args.b c.args.boxes.now c.args.leaf_numbers.now c.args.strip.now c.args.points.at c.args.cursor.leaf c.args.cursor.layout c.args.cursor.first c.count_points-n.result c.count_points-n.ensures)
 
 pub returns : goal.returns
 unfolding grown
 returns c =
     let a = c.args in
-    leaf_wrote a.points.bb_min a.points.bb_size a.b (leaf_ids (quarters a.b) 0 (boxes_in a.boxes.now)) (picked_from a.leaf_numbers.now a.cursor.leaf 0 (points_at a.strip.now a.points.at (length a.leaf_numbers.now)))
+    leaf_wrote a.points.frame.bb_min a.points.frame.bb_size a.b (leaf_ids (quarters a.b) 0 (boxes_in a.boxes.now)) (picked_from a.leaf_numbers.now a.cursor.leaf 0 (points_at a.strip.now a.points.at (length a.leaf_numbers.now)))
     c.alloc-l1.ensures c.pad-at.ensures.out c.lay_ids-l2.ensures c.lay_points-l3.ensures
-    c.address_of-ids_at.ensures c.address_of-points_at.ensures c.leaf_ids-m.ensures (points_count c.args.points.bb_min c.args.points.bb_size c.args.b c.args.boxes.now c.args.leaf_numbers.now c.args.strip.now c.args.points.at c.args.cursor.leaf c.args.cursor.layout c.args.cursor.first c.count_points-n.result c.count_points-n.ensures) c.lay_data-l4.ensures
+    c.address_of-ids_at.ensures c.address_of-points_at.ensures c.leaf_ids-m.ensures (points_count c.args.points.frame.bb_min c.args.points.frame.bb_size c.args.b c.args.boxes.now c.args.leaf_numbers.now c.args.strip.now c.args.points.at c.args.cursor.leaf c.args.cursor.layout c.args.cursor.first c.count_points-n.result c.count_points-n.ensures) c.lay_data-l4.ensures
     c.address_of-data_at.ensures c.pad-at.ensures.start c.put_sector.ensures refl refl

@@ -25,4 +25,4 @@ returns c =
     let a = c.args in
     let e = header_words a.vft a.n (address a.table) a.offsets a.k (omega (arith, c.requires)) (omega arith) in
     laid_block (length_rows (list_row a.vft a.n (address a.table) a.offsets a.k)) pad.ensures.start pad.ensures.out
-    (c.put_all.ensures ∙ ap (λ (bs : List ℕ). put pad.result bs pad.new.out) e) c.alloc.ensures
+    (rw c.address.ensures at c.put_all.ensures ∙ ap (λ (bs : List ℕ). put pad.result bs pad.new.out) e) c.alloc.ensures

@@ -14,4 +14,4 @@ unfolding les row_bytes
 returns c =
     let a = c.args in
     let h : address a.start < 2 ^ 32 = omega arith in
-    c.put_all.ensures ∙ simp (le_address (address a.start) h, append_assoc)
+    rw c.address.ensures at c.put_all.ensures ∙ simp (le_address (address a.start) h, append_assoc)

@@ -8,11 +8,11 @@ use Rattle.write_plan.proofs.count_verdict.Goals as goal
 
 pub returns-then-portals-gt585 : goal.returns-then-portals-gt585
 unfolding at
-returns-then-portals-gt585 c = λ rest. ap (λ (f : ℕ). at 0 f rest) (first_fails _ 18 _ (lt-ltb _ _ c.if-portals-gt585.true))
+returns-then-portals-gt585 c = rw c.from.ensures (λ rest. ap (λ (f : ℕ). at 0 f rest) (first_fails _ 18 _ (lt-ltb _ _ c.if-portals-gt585.true)))
 
 pub returns-then-links-gt8192 : goal.returns-then-links-gt8192
 unfolding at
-returns-then-links-gt8192 c = λ rest. ap (λ (f : ℕ). at 0 f rest) (first_passes _ 19 _ _ (le-ltb _ _ c.if-portals-gt585.false) (first_fails _ 19 _ (lt-ltb _ _ c.if-links-gt8192.true)))
+returns-then-links-gt8192 c = rw c.from-then-links-gt8192.ensures (λ rest. ap (λ (f : ℕ). at 0 f rest) (first_passes _ 19 _ _ (le-ltb _ _ c.if-portals-gt585.false) (first_fails _ 19 _ (lt-ltb _ _ c.if-links-gt8192.true))))
 
 pub returns : goal.returns
 unfolding at

@@ -14,25 +14,16 @@ poly_at-p-requires c =
     let s = c.args.strip.now in
     let l = c.loop-i in
     let q = poly_at s l.at in
-    omega (arith, parts s l.at q refl, box_next _ _ _ _ _ _ _ _ l.invariant c.loop-i-test.true q refl)
+    omega (arith, parts s l.at q refl, box_next _ _ _ _ _ _ _ l.invariant c.loop-i-test.true q refl)
 
 pub put_box-requires : goal.put_box-requires
 put_box-requires c =
     let q = parts _ _ _ c.poly_at-p.ensures in
-    let x = box_next _ _ _ _ _ _ _ _ c.loop-i.invariant c.loop-i-test.true _ c.poly_at-p.ensures in
-    (omega (arith, q, x), omega (arith, c.loop-i.invariant.here, c.loop-i.invariant.long, c.loop-i-test.true, c.requires.1))
-
-pub overflow_add-place : goal.overflow_add-place
-overflow_add-place c = omega (arith, c.loop-i.invariant.here, c.loop-i-test.true, c.requires.1, c.well_formed)
-
-pub overflow_add-i : goal.overflow_add-i
-overflow_add-i c = omega (arith, c.loop-i-test.true, c.ranges.n)
-
-pub loop-i-smaller : goal.loop-i-smaller
-loop-i-smaller c = omega (arith, c.loop-i-test.true)
+    let x = box_next _ _ _ _ _ _ _ c.loop-i.invariant c.loop-i-test.true _ c.poly_at-p.ensures in
+    (omega (arith, q, x), omega (arith, c.loop-i.invariant.long, c.loop-i-test.true, c.requires.1))
 
 pub loop-i-preserved : goal.loop-i-preserved
-loop-i-preserved c = boxing_turn _ _ _ _ _ _ _ _ c.loop-i.invariant c.loop-i-test.true _ c.poly_at-p.ensures _ c.put_box.ensures
+loop-i-preserved c = boxing_turn _ _ _ _ _ _ _ c.loop-i.invariant c.loop-i-test.true _ c.poly_at-p.ensures _ c.put_box.ensures
 
 pub returns : goal.returns
-returns c = boxing_done _ _ _ _ _ _ _ _ c.loop-i.invariant c.loop-i-test.false
+returns c = boxing_done _ _ _ _ _ _ _ c.loop-i.invariant c.loop-i-test.false

@@ -13,11 +13,8 @@ lines_of-lines-requires c = tt
 pub loop-i-init : goal.loop-i-init
 loop-i-init c = leafing_start _ _ _ _ _ _
 
-pub overflow_add-at : goal.overflow_add-at
-overflow_add-at c = omega (arith, c.loop-i.invariant.here, c.loop-i-test.true, c.requires.0, c.well_formed)
-
 pub floats_at-p-requires : goal.floats_at-p-requires
-floats_at-p-requires c = omega (arith, c.loop-i.invariant.here, c.loop-i-test.true, c.requires.0)
+floats_at-p-requires c = omega (arith, c.loop-i-test.true, c.requires.0)
 
 pub leaf_of-requires : goal.leaf_of-requires
 leaf_of-requires c =
@@ -33,17 +30,8 @@ offset_bounds-work-base c = omega (arith, c.loop-i-test.true, c.requires.1, c.lo
 pub bounds-work-base : goal.bounds-work-base
 bounds-work-base c = omega (arith, c.loop-i-test.true, c.requires.1, c.loop-i.invariant.long)
 
-pub overflow_add-at-in-loop-i : goal.overflow_add-at-in-loop-i
-overflow_add-at-in-loop-i c = omega (arith, c.loop-i.invariant.here, c.loop-i-test.true, c.requires.0, c.well_formed)
-
-pub overflow_add-i : goal.overflow_add-i
-overflow_add-i c = omega (arith, c.loop-i-test.true, c.ranges.n)
-
-pub loop-i-smaller : goal.loop-i-smaller
-loop-i-smaller c = omega (arith, c.loop-i-test.true)
-
 pub loop-i-preserved : goal.loop-i-preserved
-loop-i-preserved c = leafing_turn _ _ _ _ _ _ _ _ _ c.loop-i.invariant c.loop-i-test.true _ (c.leaf_of.ensures ∙ rw (c.depth_of-depth.ensures.depth, c.floats_at-p.ensures))
+loop-i-preserved c = leafing_turn _ _ _ _ _ _ _ _ c.loop-i.invariant c.loop-i-test.true _ (c.leaf_of.ensures ∙ rw (c.depth_of-depth.ensures.depth, c.floats_at-p.ensures))
 
 pub returns : goal.returns
-returns c = leafing_done _ _ _ _ _ _ _ _ _ c.loop-i.invariant c.loop-i-test.false
+returns c = leafing_done _ _ _ _ _ _ _ _ c.loop-i.invariant c.loop-i-test.false

@@ -4,7 +4,6 @@ use native.Mathlib.Omega.{arith}
 use Rattle.strip.specs.Reading.{poly_at}
 use Rattle.strip.proofs.Steps.{parts}
 use Rattle.pushed.proofs.Sums.{from_none, polygons_turn, polygons_end, few_of_polygon}
-use Rattle.write_polygon_checks.proofs.Said.{never_both}
 use Rattle.write_polygon_checks.proofs.Onward.{begin, next_in, stop, again, done}
 use Rattle.write_polygon_checks.proofs.decide_polygons.Goals as goal
 
@@ -18,18 +17,18 @@ poly_at-p-requires c =
     let q = poly_at s l.at in
     omega (arith, parts s l.at q refl, next_in _ _ _ _ _ _ _ _ _ _ _ _ _ _ _ _ l.invariant.0 c.loop-i-test.true q refl)
 
-pub decide_polygon-done-requires : goal.decide_polygon-done-requires
-decide_polygon-done-requires c =
+pub decide_polygon-run-requires : goal.decide_polygon-run-requires
+decide_polygon-run-requires c =
     let q = parts _ _ _ c.poly_at-p.ensures in
     let g = c.loop-i.invariant.0 in
     let x = next_in _ _ _ _ _ _ _ _ _ _ _ _ _ _ _ _ g c.loop-i-test.true _ c.poly_at-p.ensures in
     (omega (arith, q, x), omega (arith, q.edges_end, x), omega (arith, q, x, g.ahead, c.requires.1), g.ready)
 
-pub returns-in-Refused : goal.returns-in-Refused
-returns-in-Refused c =
+pub returns-in-Err : goal.returns-in-Err
+returns-in-Err c =
     record {
-      polygons = stop _ _ _ _ _ _ _ _ _ _ _ _ _ _ _ _ c.loop-i.invariant.0 c.loop-i-test.true _ c.poly_at-p.ensures _ _ _ c.decide_polygon-done.ensures.polygon _ _ c.in-Refused.is;
-      pushed = λ z. never_both _ _ refl z;
+      polygons = stop _ _ _ _ _ _ _ _ _ _ _ _ _ _ _ _ c.loop-i.invariant.0 c.loop-i-test.true _ c.poly_at-p.ensures _ _ _ c.decide_polygon-run.ensures.polygon _ c.in-Err.is;
+      pushed = tt;
     }
 
 pub overflow_add-start : goal.overflow_add-start
@@ -52,32 +51,26 @@ overflow_add-pushed c =
     let q = parts _ _ _ c.poly_at-p.ensures in
     let g = c.loop-i.invariant.0 in
     let x = next_in _ _ _ _ _ _ _ _ _ _ _ _ _ _ _ _ g c.loop-i-test.true _ c.poly_at-p.ensures in
-    let one = c.decide_polygon-done.ensures.pushed c.in_default.is in
-    omega (arith, q, x, g.ahead, c.loop-i.invariant.1, one, few_of_polygon a.bb_min a.bb_size a.strip.now c.poly_at-p.result, c.well_formed)
-
-pub overflow_add-i : goal.overflow_add-i
-overflow_add-i c = omega (arith, c.loop-i-test.true, c.ranges.n)
-
-pub loop-i-smaller : goal.loop-i-smaller
-loop-i-smaller c = omega (arith, c.loop-i-test.true)
+    let one = rw c.in-Ok.is at c.decide_polygon-run.ensures.pushed in
+    omega (arith, q, x, g.ahead, c.loop-i.invariant.1, one, few_of_polygon a.frame.bb_min a.frame.bb_size a.strip.now c.poly_at-p.result, c.well_formed)
 
 pub loop-i-preserved : goal.loop-i-preserved
 loop-i-preserved c =
     let a = c.args in
     let p = c.poly_at-p.result in
     let e = c.poly_at-p.ensures in
-    let turn = polygons_turn a.bb_min a.bb_size a.strip.now c.loop-i.at a.n c.loop-i.i c.loop-i-test.true p e in
-    let one = c.decide_polygon-done.ensures.pushed c.in_default.is in (
-      again _ _ _ _ _ _ _ _ _ _ _ _ _ _ _ _ c.loop-i.invariant.0 c.loop-i-test.true _ c.poly_at-p.ensures _ _ _ c.decide_polygon-done.ensures.polygon c.in_default.is,
-      omega (arith, c.loop-i.invariant.1, one, few_of_polygon a.bb_min a.bb_size a.strip.now p),
+    let turn = polygons_turn a.frame.bb_min a.frame.bb_size a.strip.now c.loop-i.at a.n c.loop-i.i c.loop-i-test.true p e in
+    let one = rw c.in-Ok.is at c.decide_polygon-run.ensures.pushed in (
+      again _ _ _ _ _ _ _ _ _ _ _ _ _ _ _ _ c.loop-i.invariant.0 c.loop-i-test.true _ c.poly_at-p.ensures _ _ _ c.decide_polygon-run.ensures.polygon _ c.in-Ok.is,
+      omega (arith, c.loop-i.invariant.1, one, few_of_polygon a.frame.bb_min a.frame.bb_size a.strip.now p),
       omega (arith, c.loop-i.invariant.2, turn, one),
     )
 
 pub returns : goal.returns
 returns c =
     let a = c.args in
-    let end = polygons_end a.bb_min a.bb_size a.strip.now c.loop-i.at a.n c.loop-i.i c.loop-i-test.false in
+    let end = polygons_end a.frame.bb_min a.frame.bb_size a.strip.now c.loop-i.at a.n c.loop-i.i c.loop-i-test.false in
     record {
       polygons = done _ _ _ _ _ _ _ _ _ _ _ _ _ _ _ _ _ c.loop-i.invariant.0 c.loop-i-test.false c.requires.1;
-      pushed = λ z. omega (arith, c.loop-i.invariant.2, end);
+      pushed = omega (arith, c.loop-i.invariant.2, end);
     }

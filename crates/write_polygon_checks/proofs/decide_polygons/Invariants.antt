@@ -8,8 +8,5 @@ use Rattle.write_polygon_checks.proofs.decide_polygons.Given as goal
 
 abbrev pub invariant-loop-i : goal.invariant-loop-i
 invariant-loop-i l =
-    Onward l.strip l.bb_min l.bb_size l.n l.buckets l.room l.initial.tables l.initial.work l.initial.ids l.work l.ids l.tables l.at l.start l.links l.i
-    × (l.pushed ≤ 3 * l.start) × (l.pushed + pushed_in l.bb_min l.bb_size (vertices_of (polygons_at l.strip l.at (l.n - l.i))) ≡ pushed_in l.bb_min l.bb_size (vertices_of (polygons_at l.strip 14 l.n)))
-
-abbrev pub decreases-loop-i : goal.decreases-loop-i
-decreases-loop-i l = l.n - l.i
+    Onward l.strip l.frame.bb_min l.frame.bb_size l.n l.buckets l.room l.initial.tables l.initial.work l.initial.ids l.work l.ids l.tables l.at l.start l.links l.i
+    × (l.pushed ≤ 3 * l.start) × (l.pushed + pushed_in l.frame.bb_min l.frame.bb_size (vertices_of (polygons_at l.strip l.at (l.n - l.i))) ≡ pushed_in l.frame.bb_min l.frame.bb_size (vertices_of (polygons_at l.strip 14 l.n)))

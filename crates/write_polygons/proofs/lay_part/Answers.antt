@@ -8,5 +8,5 @@ returns c =
     let a = c.args in
     record {
       cursor = c.put_records-next.ensures.cursor;
-      laid = laid_block (records_long a.own a.strip.now a.c a.m) c.pad-place.ensures.start c.pad-place.ensures.out c.put_records-next.ensures.stored c.alloc-layout.ensures;
+      laid = laid_block (records_long a.own a.strip.now a.c a.m) c.pad-place.ensures.start c.pad-place.ensures.out c.put_records-next.ensures.stored c.alloc.ensures;
     }

@@ -13,8 +13,8 @@ use Rattle.write_portals.proofs.lay_portals.Goals as goal
 pub returns-then-n-eq0 : goal.returns-then-n-eq0
 returns-then-n-eq0 c =
     let a = c.args in
-    let bs = cat (portal_items a.bb_min a.bb_size (portals_at a.strip.now a.first a.n)) in
-    let long : length bs ≡ 28 * a.n = portals_long a.bb_min a.bb_size a.strip.now a.first a.n in
+    let bs = cat (portal_items a.frame.bb_min a.frame.bb_size (portals_at a.strip.now a.first a.n)) in
+    let long : length bs ≡ 28 * a.n = portals_long a.frame.bb_min a.frame.bb_size a.strip.now a.first a.n in
     laid_nothing _ bs _ (omega (arith, long, c.if-n-eq0.true))
 
 pub pad-start-requires : goal.pad-start-requires
@@ -29,6 +29,6 @@ alloc-requires c = some_below _ _ (omega (arith, c.if-n-eq0.false)) c.requires.1
 pub returns : goal.returns
 returns c =
     let a = c.args in
-    let bs = cat (portal_items a.bb_min a.bb_size (portals_at a.strip.now a.first a.n)) in
-    let long : length bs ≡ 28 * a.n = portals_long a.bb_min a.bb_size a.strip.now a.first a.n in
+    let bs = cat (portal_items a.frame.bb_min a.frame.bb_size (portals_at a.strip.now a.first a.n)) in
+    let long : length bs ≡ 28 * a.n = portals_long a.frame.bb_min a.frame.bb_size a.strip.now a.first a.n in
     laid_some bs long (omega (arith, c.if-n-eq0.false)) c.pad-start.ensures.start c.pad-start.ensures.out c.put_portals.ensures c.alloc.ensures

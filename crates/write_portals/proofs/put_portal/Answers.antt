@@ -11,4 +11,5 @@ returns c =
     let a = c.args in
     let from = rw c.floats_at.ensures at c.shorts_of-a.ensures in
     let to = rw c.floats_at-2.ensures at c.shorts_of-b.ensures in
-    c.put_all.ensures ∙ ap (λ (bs : List ℕ). put a.to bs a.out.now) (portal_words a.bb_min a.bb_size a.strip.now a.at _ _ _ from to c.portal_areas-areas.ensures)
+    let words = rw (c.from.ensures, c.from-2.ensures, c.from-3.ensures, c.from-4.ensures, c.from-5.ensures, c.from-6.ensures) at c.put_all.ensures in
+    words ∙ ap (λ (bs : List ℕ). put a.to bs a.out.now) (portal_words a.frame.bb_min a.frame.bb_size a.strip.now a.at _ _ _ from to c.portal_areas-areas.ensures)

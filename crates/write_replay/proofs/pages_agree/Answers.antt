@@ -1,4 +1,4 @@
--- `write_replay::pages_agree` meets its contract: `checksum`, `bytes_agree` and `stays_from` give the three parts of the definition, up to the length that `told_length` and `least` give; where one fails the answer is false.
+-- `write_replay::pages_agree` meets its contract: `checksum`, `bytes_agree` and `stays_from` give the three parts of the definition, up to the length that `told_length` and `min` give; where one fails the answer is false.
 use mathlib.Core.Bool.{false≢true}
 use native.Mathlib.Omega.{arith}
 use Prim.Native.Nat.{ℕ, min}
@@ -10,11 +10,8 @@ use Rattle.write_replay.proofs.pages_agree.Goals as goal
 pub slice_bounds-checksum-end : goal.slice_bounds-checksum-end
 slice_bounds-checksum-end c = simp length-take (omega arith)
 
-pub returns-then-checksum-u32_le : goal.returns-then-checksum-u32_le
-returns-then-checksum-u32_le c = λ h. absurd (false≢true h)
+pub returns-then-checksum-from : goal.returns-then-checksum-from
+returns-then-checksum-from c = λ h. absurd (false≢true h)
 
 pub returns-then-bytes_agree : goal.returns-then-bytes_agree
-returns-then-bytes_agree c = λ h. pages_agreed _ _ c.args.r _ _ (c.least-filled.ensures ∙ ap (λ (w : ℕ). min w (length c.args.pages.now)) c.told_length.ensures) (sym c.checksum.ensures ∙ c.if-checksum-u32_le.false ∙ c.u32_le.ensures) (c.bytes_agree.ensures c.if-bytes_agree.true) (c.stays_from.ensures h)
-
-pub returns : goal.returns
-returns c = λ h. absurd (false≢true h)
+returns-then-bytes_agree c = λ h. pages_agreed _ _ c.args.r _ _ (c.min-filled.ensures ∙ ap (λ (w : ℕ). min w (length c.args.pages.now)) c.told_length.ensures) (sym c.checksum.ensures ∙ c.if-checksum-from.false ∙ c.from.ensures ∙ c.u32_le.ensures) (c.bytes_agree.ensures c.if-bytes_agree.true) (c.stays_from.ensures h)

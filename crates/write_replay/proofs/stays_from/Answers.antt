@@ -1,4 +1,4 @@
--- `write_replay::stays_from` meets its contract. The loop's invariant: the bytes passed are as they were. The measure is how many are left.
+-- `write_replay::stays_from` meets its contract. The loop's invariant: the bytes passed are as they were.
 use mathlib.Core.Bool.{false≢true}
 use native.Mathlib.Omega.{arith}
 use borrow.Author.Count.{below_more}
@@ -12,12 +12,6 @@ bounds-pages-k c = omega arith
 
 pub returns-then-pages-k : goal.returns-then-pages-k
 returns-then-pages-k c = λ h. absurd (false≢true h)
-
-pub overflow_add-k : goal.overflow_add-k
-overflow_add-k c = omega arith
-
-pub loop-k-smaller : goal.loop-k-smaller
-loop-k-smaller c = omega arith
 
 pub loop-k-preserved : goal.loop-k-preserved
 loop-k-preserved c = (omega arith, below_more _ _ c.loop-k.invariant.1 (λ g. c.if-pages-k.false))

@@ -1,4 +1,4 @@
--- `write_replay::stays_from` meets its contract. The loop's invariant: the bytes passed are as they were. The measure is how many are left.
+-- `write_replay::stays_from` meets its contract. The loop's invariant: the bytes passed are as they were.
 use Prim.Native.Nat.{ℕ, ◌-◌, ◌≤◌, ◌<◌}
 use mathlib.Core.Path.{◌≡◌}
 use lib.ListN.{length, get_or}
@@ -6,6 +6,3 @@ use Rattle.write_replay.proofs.stays_from.Given as goal
 
 abbrev pub invariant-loop-k : goal.invariant-loop-k
 invariant-loop-k l = (l.k ≤ length l.pages) × ((j : ℕ) → j < l.k → l.from ≤ j → get_or l.pages j 0 ≡ 0xD1)
-
-abbrev pub decreases-loop-k : goal.decreases-loop-k
-decreases-loop-k l = length l.pages - l.k

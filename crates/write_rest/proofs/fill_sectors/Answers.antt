@@ -17,8 +17,8 @@ first_point-requires c = c.requires.0.length_is
 places : (c : After-work_places-places) → Cut (length c.args.strip.now) c.args.n c.work_places-places.result
 places c = cut (length c.args.strip.now) c.args.n c.work_places-places.ensures
 
-pub offset_bounds-work-boxes : goal.offset_bounds-work-boxes
-offset_bounds-work-boxes c = omega (arith, c.requires.0.held.room, places (goal.at.offset_bounds-work-boxes c).After-work_places-places, c.well_formed)
+pub offset_bounds-work-places : goal.offset_bounds-work-places
+offset_bounds-work-places c = omega (arith, c.requires.0.held.room, places (goal.at.offset_bounds-work-places c).After-work_places-places, c.well_formed)
 
 pub slice_bounds-write_sector-count : goal.slice_bounds-write_sector-count
 slice_bounds-write_sector-count c = omega (arith, places (goal.at.slice_bounds-write_sector-count c).After-work_places-places)
@@ -29,8 +29,8 @@ slice_bounds-write_sector-start c = omega (arith, places (goal.at.slice_bounds-w
 pub slice_bounds-write_sector-end : goal.slice_bounds-write_sector-end
 slice_bounds-write_sector-end c = omega (arith, c.requires.0.held.room, places (goal.at.slice_bounds-write_sector-end c).After-work_places-places)
 
-pub offset_bounds-work-leaves : goal.offset_bounds-work-leaves
-offset_bounds-work-leaves c = omega (arith, c.requires.0.held.room, places (goal.at.offset_bounds-work-leaves c).After-work_places-places, c.well_formed)
+pub offset_bounds-work-places-2 : goal.offset_bounds-work-places-2
+offset_bounds-work-places-2 c = omega (arith, c.requires.0.held.room, places (goal.at.offset_bounds-work-places-2 c).After-work_places-places, c.well_formed)
 
 pub slice_bounds-write_sector-count-2 : goal.slice_bounds-write_sector-count-2
 slice_bounds-write_sector-count-2 c = omega (arith, places (goal.at.slice_bounds-write_sector-count-2 c).After-work_places-places)
@@ -45,7 +45,7 @@ pub write_sector-requires : goal.write_sector-requires
 write_sector-requires c =
     let deep = c.depth_of-depth.ensures.depth in
     let first = c.first_point.ensures in
-    let root = c.root_box-b.ensures in
+    let root = c.root_box.ensures in
     let s = c.args.strip.now in
     let w = c.args.work.now in
     let n = c.args.n in
@@ -62,4 +62,4 @@ pub returns : goal.returns
 returns c =
     let first = c.first_point.ensures in
     let at = c.work_places-places in
-    sectors_filled c.args.strip.now c.args.work.now c.args.n c.requires.0 at.result at.ensures _ _ _ first _ c.requires.2 c.depth_of-depth.ensures.depth c.root_box-b.ensures c.requires.1 refl c.write_sector.ensures
+    sectors_filled c.args.strip.now c.args.work.now c.args.n c.requires.0 at.result at.ensures _ _ _ first _ c.requires.2 c.depth_of-depth.ensures.depth c.root_box.ensures c.requires.1 refl (rw c.frame.ensures at c.write_sector.ensures)

@@ -1,4 +1,4 @@
--- `write_runs::fill_run` meets its contract. The loop's invariant: the words passed are stored. The measure is how many are left.
+-- `write_runs::fill_run` meets its contract. The loop's invariant: the words passed are stored.
 use Prim.Native.Nat.{ℕ}
 use native.Mathlib.Omega.{arith}
 use mathlib.Core.Path.{ap, ◌∙◌}
@@ -13,12 +13,6 @@ loop-k-init c = (omega arith, run_start _ _ _ _)
 
 pub bounds-strip-from : goal.bounds-strip-from
 bounds-strip-from c = omega (arith, ap (λ (l : List ℕ). length l) c.loop-k.invariant.1 ∙ length_put _ _ _)
-
-pub overflow_add-k : goal.overflow_add-k
-overflow_add-k c = omega arith
-
-pub loop-k-smaller : goal.loop-k-smaller
-loop-k-smaller c = omega arith
 
 pub loop-k-preserved : goal.loop-k-preserved
 loop-k-preserved c = (omega arith, run_turn _ _ _ _ _ _ _ c.loop-k.invariant.1 c.run_word.ensures)

@@ -1,5 +1,5 @@
--- `write_runs::fill_run` meets its contract. The loop's invariant: the words passed are stored. The measure is how many are left.
-use Prim.Native.Nat.{◌-◌, ◌≤◌}
+-- `write_runs::fill_run` meets its contract. The loop's invariant: the words passed are stored.
+use Prim.Native.Nat.{◌≤◌}
 use mathlib.Core.Path.{◌≡◌}
 use Rattle.fields.specs.Put.{put}
 use Rattle.write_runs.specs.Runs.{run_words}
@@ -7,6 +7,3 @@ use Rattle.write_runs.proofs.fill_run.Given as goal
 
 abbrev pub invariant-loop-k : goal.invariant-loop-k
 invariant-loop-k l = (l.k ≤ l.count) × (l.strip ≡ put l.from (run_words l.words l.grows l.k) l.initial.strip)
-
-abbrev pub decreases-loop-k : goal.decreases-loop-k
-decreases-loop-k l = l.count - l.k

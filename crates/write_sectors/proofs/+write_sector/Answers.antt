@@ -4,7 +4,6 @@ use Prim.Native.Nat.{ℕ, ◌-◌, ◌<◌}
 use mathlib.Core.Path.{◌≡◌, refl}
 use native.Mathlib.Omega.{arith}
 use lib.ListN.{length}
-use Rattle.quarters.specs.declared.quarter.QuarterBox.{QuarterBox}
 use Rattle.strip.specs.Rows.{points_at}
 use Rattle.write_pages.specs.Sectors.{leaf_ids, from0}
 use Rattle.write_leaf_counts.specs.Work.{boxes_in, picked_from}
@@ -21,8 +20,8 @@ module _ (t : ℕ) where
   of c =
       let subs-are = c.split-subs.ensures in
       record {
-        bb_min = c.args.points.bb_min;
-        bb_size = c.args.points.bb_size;
+        bb_min = c.args.points.frame.bb_min;
+        bb_size = c.args.points.frame.bb_size;
         ids = λ q. leaf_ids q 0 (boxes_in c.args.boxes.now);
         stored = λ k. picked_from c.args.leaf_numbers.now k 0 (points_at c.args.strip.now c.args.points.at (length c.args.leaf_numbers.now));
         depth = c.args.depth;

@@ -8,14 +8,14 @@ use Rattle.write_vertex_index.proofs.vertex_index.Goals as goal
 pub add-requires : goal.add-requires
 add-requires c =
     let R = c.before.requires in
-    let e = rw c.in-End.is at c.find-known.ensures in
+    let e = c.in-Err.ensures in
     (R.more, omega (arith, c.if-count-lt65536.true), R.short, (apart R.table.wide (way_link _ _ _ R.table e.walk.way)).within, e.free)
 
-pub returns-in-At : goal.returns-in-At
-returns-in-At c = looked_old _ _ _ _ _ c.before.requires.table (rw c.in-At.is at c.find-known.ensures)
+pub returns-in-Ok : goal.returns-in-Ok
+returns-in-Ok c = looked_old _ _ _ _ _ c.before.requires.table c.in-Ok.ensures
 
-pub returns-then-count-lt65536 : goal.returns-then-count-lt65536
-returns-then-count-lt65536 c = rw c.add.ensures (looked_new _ _ _ _ _ c.before.requires (omega (arith, c.if-count-lt65536.true)) (rw c.in-End.is at c.find-known.ensures))
+pub returns-in-Err : goal.returns-in-Err
+returns-in-Err c = rw c.add.ensures (looked_new _ _ _ _ _ c.before.requires (omega (arith, c.if-count-lt65536.true)) c.in-Err.ensures)
 
-pub returns-else-count-lt65536 : goal.returns-else-count-lt65536
-returns-else-count-lt65536 c = looked_full _ _ _ _ _ c.before.requires.table (omega (arith, c.if-count-lt65536.false)) (rw c.in-End.is at c.find-known.ensures)
+pub returns-in-Err-2 : goal.returns-in-Err-2
+returns-in-Err-2 c = looked_full _ _ _ _ _ c.before.requires.table (omega (arith, c.if-count-lt65536.false)) c.in-Err-2.ensures

@@ -14,7 +14,7 @@ use Rattle.write_vertex_numbers.proofs.Parts.{back_take, back_length, back_drop,
 use Rattle.write_vertices.proofs.Trees.{tree_left}
 use Rattle.write_vertex_numbers.proofs.OneSlice.{tail_cleared, finish}
 use Rattle.write_vertex_numbers.proofs.number_in.Goals as goal
-use Rattle.write_vertex_numbers.proofs.number_in.Goals.{After-vertex_index-known, At-loop-i}
+use Rattle.write_vertex_numbers.proofs.number_in.Goals.{After-vertex_index, At-loop-i}
 
 -- at the loop's head: the slice is as long as it was lent, so the tail begins within it
 long : (c : At-loop-i) →
@@ -35,18 +35,18 @@ begun c =
     put_mid a.m (length a.work.now - a.m) a.work.now c.clear.new.table
 
 -- after a lookup
-step : (c : After-vertex_index-known) →
+step : (c : After-vertex_index) →
     let a = c.args in
     let at = c.loop-i in
-    Step (met a.triples.now 0 a.m) a.m a.buckets (drop a.m (begun (goal.at.After-vertex_index-known c).At-loop-i)) (take a.m (begun (goal.at.After-vertex_index-known c).At-loop-i))
-    (drop a.m at.work) (take a.m at.work) at.n at.i c.whole_triple_at-triple.result c.vertex_index-known.new.table c.vertex_index-known.result
+    Step (met a.triples.now 0 a.m) a.m a.buckets (drop a.m (begun (goal.at.After-vertex_index c).At-loop-i)) (take a.m (begun (goal.at.After-vertex_index c).At-loop-i))
+    (drop a.m at.work) (take a.m at.work) at.n at.i c.whole_triple_at-triple.result c.vertex_index.new.table c.vertex_index.result
 step c =
     record {
       going = c.loop-i.invariant.1;
       size = length_met _ _ _;
       more = c.loop-i-test.true;
       key = given_at _ _ _ _ c.loop-i-test.true c.whole_triple_at-triple.ensures.triple;
-      looked = rw (lent _ _) at c.vertex_index-known.ensures;
+      looked = rw (lent _ _) at c.vertex_index.ensures;
     }
 
 pub loop-i-init : goal.loop-i-init
@@ -59,40 +59,40 @@ loop-i-init c =
 pub whole_triple_at-triple-requires : goal.whole_triple_at-triple-requires
 whole_triple_at-triple-requires c = omega (arith, c.loop-i-test.true, c.requires.2)
 
-pub vertex_index-known-requires : goal.vertex_index-known-requires
-vertex_index-known-requires c =
+pub vertex_index-requires : goal.vertex_index-requires
+vertex_index-requires c =
     let g = c.loop-i.invariant.1 in
     let a = c.args in
     rw (lent a.m c.loop-i.work)
-    (record { table = g.table; trees = tree_left a.m _ _ c.requires.4 (omega (arith, g.few, c.loop-i-test.true)); more = omega (arith, g.few, length-drop a.m c.loop-i.work, long (goal.at.vertex_index-known-requires c).At-loop-i, c.loop-i-test.true, c.requires); short = c.whole_triple_at-triple.ensures.bound })
+    (record { table = g.table; trees = tree_left a.m _ _ c.requires.4 (omega (arith, g.few, c.loop-i-test.true)); more = omega (arith, g.few, length-drop a.m c.loop-i.work, long (goal.at.vertex_index-requires c).At-loop-i, c.loop-i-test.true, c.requires); short = c.whole_triple_at-triple.ensures.bound })
 
 pub overflow_cast-work : goal.overflow_cast-work
-overflow_cast-work c = omega (arith, number_le (step (goal.at.overflow_cast-work c).After-vertex_index-known) c.in-Vertex.is)
+overflow_cast-work c = omega (arith, number_le (step (goal.at.overflow_cast-work c).After-vertex_index) c.in-Some.is)
 
-pub returns-in-Full : goal.returns-in-Full
-returns-in-Full c =
+pub returns-in_default : goal.returns-in_default
+returns-in_default c =
     let a = c.args in
     let w = c.loop-i.work in
-    let h = within (goal.at.returns-in-Full c).At-loop-i in
-    let f = c.vertex_index-known in
+    let h = within (goal.at.returns-in_default c).At-loop-i in
+    let f = c.vertex_index in
     let first = c.clear in
     let fits = c.requires in
     finish a.m _ a.work.now (omega (arith, fits)) first.new.table first.auto.table first.ensures (omega (arith, fits)) _ _ _
-    (rw (back_drop a.m w h f.new.table f.auto.table, back_take a.m w h f.new.table f.auto.table) (over (step (goal.at.returns-in-Full c).After-vertex_index-known) c.in-Full.is))
+    (rw (back_drop a.m w h f.new.table f.auto.table, back_take a.m w h f.new.table f.auto.table) (over (step (goal.at.returns-in_default c).After-vertex_index) c.in_default.is))
 
 pub loop-i-preserved : goal.loop-i-preserved
 loop-i-preserved c =
     let m = c.args.m in
     let at = c.loop-i in
     let h = within (goal.at.loop-i-preserved c).At-loop-i in
-    let f = c.vertex_index-known in
+    let f = c.vertex_index in
     let e = f.new.table in
     let l = f.auto.table in
-    let k = c.in-Vertex.number in
+    let k = c.in-Some.known.number in
     let q = c.loop-i-test.true in (
       store_length m at.work h e l at.i k ∙ at.invariant.0,
       rw (store_drop m at.work h e l at.i k (omega arith), store_take m at.work h e l at.i k (omega arith))
-          (turn (step (goal.at.loop-i-preserved c).After-vertex_index-known) c.in-Vertex.is (omega (arith, at.invariant.1.left.long, length-take-le m at.work h))),
+          (turn (step (goal.at.loop-i-preserved c).After-vertex_index) c.in-Some.is (omega (arith, at.invariant.1.left.long, length-take-le m at.work h))),
     )
 
 pub returns : goal.returns

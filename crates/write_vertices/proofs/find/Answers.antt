@@ -6,7 +6,7 @@ use Rattle.write_vertices.specs.Table.{half_word_at, child}
 use Rattle.write_vertices.proofs.Links.{apart}
 use Rattle.write_vertices.proofs.Walking.{begin, below, onward, later, stands_here, stands_last, ended}
 use Rattle.write_vertices.proofs.find.Goals as goal
-use Rattle.write_vertices.proofs.find.Goals.{In-loop-p}
+use Rattle.write_vertices.proofs.find.Goals.{In-loop-p, else-count-gt65535-via-then-count-gt65535+else-triple_at-triple, else-count-gt65535-via-else-count-gt65535}
 
 -- in the loop there is a vertex, below the count
 under : (c : In-loop-p) → c.loop-p.p - 1 < c.args.count
@@ -50,8 +50,10 @@ overflow_add-buckets-then-count-gt65535 c = omega (arith, c.requires.0.narrow)
 pub returns-then-triple_at-triple : goal.returns-then-triple_at-triple
 returns-then-triple_at-triple c = stands_last _ _ _ _ c.requires.0 _ _ _ c.loop-p.invariant (omega arith) (omega (arith, c.if-count-gt65535.true)) (sym c.triple_at.ensures.triple ∙ c.if-triple_at-triple.true)
 
-pub returns-else-triple_at-triple : goal.returns-else-triple_at-triple
-returns-else-triple_at-triple c = ended _ _ _ _ c.requires.0 _ _ _ c.loop-p.invariant (omega arith) (λ _ e. c.if-triple_at-triple.false (c.triple_at.ensures.triple ∙ e))
-
-pub returns-else-count-gt65535 : goal.returns-else-count-gt65535
-returns-else-count-gt65535 c = ended _ _ _ _ c.requires.0 _ _ _ c.loop-p.invariant (omega arith) (λ h _. omega (arith, c.if-count-gt65535.false))
+pub returns : goal.returns
+returns c =
+    ended _ _ _ _ c.requires.0 _ _ _ c.loop-p.invariant (omega arith)
+    (elim c.else-count-gt65535.branch [
+      | else-count-gt65535-via-then-count-gt65535+else-triple_at-triple w ↦ λ _ e. w.if-triple_at-triple.false (w.triple_at.ensures.triple ∙ e)
+      | else-count-gt65535-via-else-count-gt65535 w ↦ λ h _. omega (arith, w.if-count-gt65535.false)
+    ])

@@ -9,7 +9,7 @@ pub returns-then-s-lt1 : goal.returns-then-s-lt1
 returns-then-s-lt1 c = sym (half_low _ _ c.if-s-lt1.true)
 
 pub overflow_cast-result-2 : goal.overflow_cast-result-2
-overflow_cast-result-2 c = omega (arith, c.shared_slice_known-1.given (c.args.s / 2))
+overflow_cast-result-2 c = omega (arith, c.type_inv.table (c.args.s / 2))
 
 pub returns : goal.returns
 returns c = sym (half_high _ _ c.if-s-lt1.false)

@@ -18,5 +18,5 @@ unfolding triple_at
 returns-then-table-at-lt2 c =
     let a = c.args in record {
       triple = rw (get_or-eq_default a.table.now 0 {n = a.at + 1} (omega arith)) (omega arith);
-      bound = omega (arith, c.shared_slice_known-then-table-at-lt2-1.given a.at);
+      bound = omega (arith, c.type_inv.table a.at);
     }

@@ -11,7 +11,7 @@ put_tree_points-requires c = let root = c.u64_le.ensures ∙ ap (λ (l : List �
 
 pub returns : goal.returns
 returns c =
-    let root = c.u64_le.ensures ∙ ap (λ (l : List ℕ). le_at 8 l 0x120) c.requires.0.header_is in let back = back_is c.args.system.now c.args.graphics.now c.requires.0.cell_is in record {
+    let root = c.u64_le.ensures ∙ ap (λ (l : List ℕ). le_at 8 l 0x120) c.requires.0.header_is in let back = back_is c.args.reader.system.now c.args.reader.graphics.now c.requires.0.cell_is in record {
       next = c.put_tree_points.ensures.next ∙ rw root;
       content = c.put_tree_points.ensures.content ∙ rw (root, back);
     }

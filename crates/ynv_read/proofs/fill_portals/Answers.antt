@@ -16,7 +16,7 @@ put_portals-requires c = let n = c.portal_count-n.ensures.count ∙ ap (λ (l : 
 pub returns : goal.returns
 unfolding portals_words
 returns c =
-    let n = c.portal_count-n.ensures.count ∙ ap (λ (l : List ℕ). le_at 4 l 0x14C) c.requires.0.header_is in let back = back_is c.args.system.now c.args.graphics.now c.requires.0.cell_is in record {
+    let n = c.portal_count-n.ensures.count ∙ ap (λ (l : List ℕ). le_at 4 l 0x14C) c.requires.0.header_is in let back = back_is c.args.reader.system.now c.args.reader.graphics.now c.requires.0.cell_is in record {
       next = rw n;
       content = c.put_portals.ensures ∙ rw (n, c.portals_of.ensures, back);
     }

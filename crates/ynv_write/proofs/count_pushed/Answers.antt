@@ -26,5 +26,5 @@ returns c =
     let size : d.cell.bb_size ≡ floats (head_at s 0).bb_size = ap (λ (r : CellRecord). r.bb_size) c.requires.2 in
     let whole = pushed_cell d.cell.bb_min d.cell.bb_size s d.counts c.args.points low size in
     let polygons = rw (← low, ← size) at c.requires.3 in
-    let behind = rw c.first_portal-first.ensures at c.pushed_behind.ensures.count in
+    let behind = rw (c.first_portal-first.ensures, c.frame.ensures) at c.pushed_behind.ensures.count in
     omega (arith, whole, polygons, behind)

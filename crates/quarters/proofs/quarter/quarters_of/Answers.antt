@@ -3,7 +3,7 @@ use Rattle.std.proofs.Common.{◌≡◌, ℕ, ◌^◌, Bool, true, false, T, pos
 use lib.Ieee.{Float, binary64, lt, mul, of_int, in_float, of_bits, to_unsigned}
 use Rattle.quarters.proofs.Quarters.{Made, made, times_4}
 use Rattle.quarters.proofs.quarter.quarters_of.Goals as goal
-use Rattle.quarters.proofs.quarter.quarters_of.Goals.{After-saturating_f64_to_u64-n}
+use Rattle.quarters.proofs.quarter.quarters_of.Goals.{After-saturating_f64_to_u64-n, else-ceil-via-then-ceil+else-n-y, else-ceil-via-else-ceil}
 
 -- what y is, and what is known of its whole part
 fourfold : (x y : Float) → y ≡ x → mul binary64 y (of_bits binary64 0x4010_0000_0000_0000) ≡ times_4 x
@@ -29,8 +29,10 @@ tested x y n b e h = rw (fourfold x y e) at h
 pub returns-then-n-y : goal.returns-then-n-y
 returns-then-n-y c = (known (goal.at.returns-then-n-y c).After-saturating_f64_to_u64-n).more c.if-n-ge32768.false c.if-ceil.true (tested c.args.x _ _ true c.f32_to_f64_with_nan-y.ensures c.if-n-y.true)
 
-pub returns-then-ceil : goal.returns-then-ceil
-returns-then-ceil c = (known (goal.at.returns-then-ceil c).After-saturating_f64_to_u64-n).same c.if-n-ge32768.false c.if-ceil.true (tested c.args.x _ _ false c.f32_to_f64_with_nan-y.ensures c.if-n-y.false)
-
-pub returns : goal.returns
-returns c = (known (goal.at.returns c).After-saturating_f64_to_u64-n).down c.if-n-ge32768.false c.if-ceil.false
+pub returns-else-ceil : goal.returns-else-ceil
+returns-else-ceil c =
+    let k = known (goal.at.returns-else-ceil c).After-saturating_f64_to_u64-n in
+    elim c.else-ceil.branch [
+      | else-ceil-via-then-ceil+else-n-y w ↦ k.same c.if-n-ge32768.false w.if-ceil.true (tested c.args.x _ _ false c.f32_to_f64_with_nan-y.ensures w.if-n-y.false)
+      | else-ceil-via-else-ceil w ↦ k.down c.if-n-ge32768.false w.if-ceil.false
+    ]

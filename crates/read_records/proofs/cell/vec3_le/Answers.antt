@@ -4,4 +4,4 @@ use Rattle.read_records.proofs.cell.vec3_le.Goals as goal
 
 pub returns : goal.returns
 unfolding vec_of
-returns c = rw (c.float_of_bits.ensures, c.float_of_bits-2.ensures, c.float_of_bits-3.ensures, c.u32_le.ensures, c.u32_le-2.ensures, c.u32_le-3.ensures)
+returns c = rw (c.float_of_bits.ensures, c.float_of_bits-2.ensures, c.float_of_bits-3.ensures, c.u32_le.ensures, c.u32_le-2.ensures, c.u32_le-3.ensures, c.from-at.ensures)

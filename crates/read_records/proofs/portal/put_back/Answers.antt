@@ -7,4 +7,4 @@ use Rattle.read_records.proofs.portal.put_back.Goals as goal
 
 pub returns : goal.returns
 unfolding back_words
-returns c = c.put3.ensures ∙ rw (area_from c.u32_le-areas.result, area_to c.u32_le-areas.result, area_unk c.u32_le-areas.result (search rules), c.u16_le-poly_from.ensures, c.u16_le-poly_to.ensures, c.u32_le-areas.ensures)
+returns c = c.put_words.ensures ∙ rw (area_from c.u32_le-areas.result, area_to c.u32_le-areas.result, area_unk c.u32_le-areas.result (search rules), c.from-poly_from.ensures, c.from-poly_to.ensures, c.u16_le.ensures, c.u16_le-2.ensures, c.u32_le-areas.ensures)

@@ -7,4 +7,6 @@ use Rattle.read_records.proofs.portal.put_front.Goals as goal
 
 pub returns : goal.returns
 unfolding front_words
-returns c = c.put2.ensures ∙ rw (portal_first c.u8_le-kind.result c.u8_le-angle.result (search rules) (search rules), c.u8_le-kind.ensures, c.u8_le-angle.ensures, c.u16_le-flags_unk.ensures)
+returns c =
+    c.put_words.ensures
+    ∙ rw (portal_first c.from-kind.result c.from-angle.result (search rules) (search rules), c.from-kind.ensures, c.from-angle.ensures, c.from-flags_unk.ensures, c.u8_le.ensures, c.u8_le-2.ensures, c.u16_le.ensures)

@@ -7,4 +7,4 @@ use Rattle.read_records.proofs.portal.put_portal.Goals as goal
 
 pub returns : goal.returns
 unfolding portal_of
-returns c = c.put_back.ensures ∙ rw (c.put_position-2.ensures, c.put_position.ensures, c.shorts_at-from.ensures, c.shorts_at-to.ensures, c.put_front.ensures) (portal_stored (back_by c.args.bb_min c.args.bb_size) c.args.b.now c.args.at _ _ c.args.strip.now refl refl)
+returns c = c.put_back.ensures ∙ rw (c.put_position-2.ensures, c.put_position.ensures, c.shorts_at-from.ensures, c.shorts_at-to.ensures, c.put_front.ensures) (portal_stored (back_by c.args.frame.bb_min c.args.frame.bb_size) c.args.b.now c.args.at _ _ c.args.strip.now refl refl)

@@ -1,8 +1,8 @@
 -- `put_portals` meets its contract. Invariant: what is left of the portals, stored from here on, gives what is promised.
 use mathlib.Core.Path.{◌≡◌}
 use mathlib.Core.List.{map}
-use Prim.Native.Nat.{◌+◌, ◌-◌, ◌*◌, ◌≤◌}
-use lib.ListN.{length, drop}
+use Prim.Native.Nat.{◌+◌, ◌-◌, ◌*◌}
+use lib.ListN.{drop}
 use Rattle.fields.specs.Bytes.{cut}
 use Rattle.fields.specs.Put.{put}
 use Rattle.strip.specs.Cell.{each, portal_words}
@@ -12,10 +12,5 @@ use Rattle.read_records.proofs.portal.put_portals.Given as goal
 
 abbrev pub invariant-loop-i : goal.invariant-loop-i
 invariant-loop-i l =
-    (l.i ≤ l.n)
-    × (length l.strip ≡ length l.initial.strip)
-    × (put (l.at + 11 * l.i) (each portal_words (map (portal_of (back_by l.bb_min l.bb_size)) (cut 28 (l.n - l.i) (drop (28 * l.i) l.portals)))) l.strip
-    ≡ put l.at (each portal_words (map (portal_of (back_by l.bb_min l.bb_size)) (cut 28 l.n l.portals))) l.initial.strip)
-
-abbrev pub decreases-loop-i : goal.decreases-loop-i
-decreases-loop-i l = l.n - l.i
+    put (l.at + 11 * l.i) (each portal_words (map (portal_of (back_by l.frame.bb_min l.frame.bb_size)) (cut 28 (l.n - l.i) (drop (28 * l.i) l.portals)))) l.strip
+    ≡ put l.at (each portal_words (map (portal_of (back_by l.frame.bb_min l.frame.bb_size)) (cut 28 l.n l.portals))) l.initial.strip

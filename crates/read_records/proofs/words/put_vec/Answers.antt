@@ -5,4 +5,4 @@ use Rattle.read_records.proofs.words.put_vec.Goals as goal
 
 pub returns : goal.returns
 unfolding vec_words
-returns c = c.put3.ensures ∙ rw (c.bits_of_float-x.ensures, c.bits_of_float-y.ensures, c.bits_of_float-z.ensures)
+returns c = c.put_words.ensures ∙ rw (c.bits_of_float-x.ensures, c.bits_of_float-y.ensures, c.bits_of_float-z.ensures)

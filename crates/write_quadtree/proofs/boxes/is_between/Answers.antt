@@ -6,6 +6,6 @@ pub returns-then-lo-x : goal.returns-then-lo-x
 unfolding between
 returns-then-lo-x c = rw c.if-lo-x.true
 
-pub returns : goal.returns
+pub returns-else-lo-x : goal.returns-else-lo-x
 unfolding between
-returns c = rw c.if-lo-x.false
+returns-else-lo-x c = rw c.if-lo-x.false

@@ -7,6 +7,6 @@ pub returns-then-is_between : goal.returns-then-is_between
 unfolding inside
 returns-then-is_between c = rw (sym c.is_between.ensures ∙ c.if-is_between.true) c.is_between-then-is_between.ensures
 
-pub returns : goal.returns
+pub returns-else-is_between : goal.returns-else-is_between
 unfolding inside
-returns c = rw (sym c.is_between.ensures ∙ c.if-is_between.false)
+returns-else-is_between c = rw (sym c.is_between.ensures ∙ c.if-is_between.false) c.if-is_between.false

@@ -3,13 +3,10 @@ use mathlib.Core.Path.{sym, ◌∙◌}
 use Rattle.write_pages.specs.Sectors.{leaves, leaf_of}
 use Rattle.write_quadtree.proofs.boxes.leaf_alone.Goals as goal
 
-pub is_inside-requires : goal.is_inside-requires
-is_inside-requires c = tt
-
 pub returns-then-is_inside : goal.returns-then-is_inside
 unfolding leaves leaf_of
 returns-then-is_inside c = rw (sym c.is_inside.ensures ∙ c.if-is_inside.true)
 
-pub returns : goal.returns
+pub returns-else-is_inside : goal.returns-else-is_inside
 unfolding leaves leaf_of
-returns c = rw (sym c.is_inside.ensures ∙ c.if-is_inside.false)
+returns-else-is_inside c = rw (sym c.is_inside.ensures ∙ c.if-is_inside.false)

@@ -4,14 +4,8 @@ use native.Mathlib.Omega.{arith}
 use Rattle.write_quadtree.proofs.Placing.{first_within, first_past}
 use Rattle.write_quadtree.proofs.boxes.leaf_in.Goals as goal
 
-pub sub_of-s0-requires : goal.sub_of-s0-requires
-sub_of-s0-requires c = tt
-
 pub returns-then-s0-lt4 : goal.returns-then-s0-lt4
 returns-then-s0-lt4 c = first_within _ _ c.sub_of-s0.ensures.sub c.if-s0-lt4.true
-
-pub sub_of-s1-requires : goal.sub_of-s1-requires
-sub_of-s1-requires c = tt
 
 pub returns-then-s1-lt4 : goal.returns-then-s1-lt4
 returns-then-s1-lt4 c =
@@ -19,17 +13,11 @@ returns-then-s1-lt4 c =
     (first_within _ _ c.sub_of-s1.ensures.sub c.if-s1-lt4.true)
     (omega arith)
 
-pub sub_of-s2-requires : goal.sub_of-s2-requires
-sub_of-s2-requires c = tt
-
 pub returns-then-s2-lt4 : goal.returns-then-s2-lt4
 returns-then-s2-lt4 c =
     first_past _ _ c.sub_of-s0.ensures.sub c.if-s0-lt4.false
     (first_past _ _ c.sub_of-s1.ensures.sub c.if-s1-lt4.false (first_within _ _ c.sub_of-s2.ensures.sub c.if-s2-lt4.true) refl)
     (omega arith)
-
-pub sub_of-requires : goal.sub_of-requires
-sub_of-requires c = tt
 
 pub overflow_add-result-2 : goal.overflow_add-result-2
 overflow_add-result-2 c = omega (arith, c.sub_of.ensures.bound)

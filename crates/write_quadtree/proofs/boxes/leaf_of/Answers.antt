@@ -6,22 +6,10 @@ use Rattle.write_pages.specs.Sectors.{leaves, leaf_of}
 use Rattle.write_quadtree.proofs.Placing.{leaf_crossed}
 use Rattle.write_quadtree.proofs.boxes.leaf_of.Goals as goal
 
-pub leaf_alone-requires : goal.leaf_alone-requires
-leaf_alone-requires c = tt
-
 pub returns-then-depth-eq0 : goal.returns-then-depth-eq0
 returns-then-depth-eq0 c =
     let a = c.args in
     c.leaf_alone.ensures ∙ ap (λ (d : ℕ). leaf_of (leaves d a.b) a.p) (sym c.if-depth-eq0.true)
-
-pub ranges_of-requires : goal.ranges_of-requires
-ranges_of-requires c = tt
-
-pub ranges_of-requires-2 : goal.ranges_of-requires-2
-ranges_of-requires-2 c = tt
-
-pub leaf_in-requires : goal.leaf_in-requires
-leaf_in-requires c = tt
 
 pub returns : goal.returns
 returns c =

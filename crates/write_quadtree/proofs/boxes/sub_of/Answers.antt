@@ -20,9 +20,3 @@ returns c =
       sub = first_past _ _ c.side_of-s.ensures.side c.if-s-lt2.false c.side_of.ensures.side refl;
       bound = omega (arith, c.side_of.ensures.bound);
     }
-
-pub side_of-s-requires : goal.side_of-s-requires
-side_of-s-requires c = tt
-
-pub side_of-requires : goal.side_of-requires
-side_of-requires c = tt

@@ -10,17 +10,14 @@ use Rattle.write_quadtree.specs.declared.subtrees.Subtrees.{Subtrees}
 use Rattle.write_quadtree.proofs.Dividing.{four}
 use Rattle.write_quadtree.proofs.subtrees.divide.Goals as goal
 
-pub overflow_add-leaf1 : goal.overflow_add-leaf1
-overflow_add-leaf1 c = omega (arith, c.leaf_count-width.ensures.count, four c.args.t.depth c.requires.0)
+pub overflow_add-result : goal.overflow_add-result
+overflow_add-result c = omega (arith, c.leaf_count-width.ensures.count, four c.args.t.depth c.requires.0)
 
-pub overflow_add-leaf2 : goal.overflow_add-leaf2
-overflow_add-leaf2 c = omega (arith, c.leaf_count-width.ensures.count, four c.args.t.depth c.requires.0)
+pub overflow_add-result-2 : goal.overflow_add-result-2
+overflow_add-result-2 c = omega (arith, c.leaf_count-width.ensures.count, four c.args.t.depth c.requires.0)
 
-pub overflow_add-leaf3 : goal.overflow_add-leaf3
-overflow_add-leaf3 c = omega (arith, c.leaf_count-width.ensures.count, four c.args.t.depth c.requires.0)
-
-pub split-subs-requires : goal.split-subs-requires
-split-subs-requires c = tt
+pub overflow_add-result-3 : goal.overflow_add-result-3
+overflow_add-result-3 c = omega (arith, c.leaf_count-width.ensures.count, four c.args.t.depth c.requires.0)
 
 -- the four subs are those of the definition where their boxes and numbers are
 same : (t : Subtree) {b0 b1 b2 b3 : Aabb} {k1 k2 k3 : ℕ} → b0 ≡ sub0 t.b → b1 ≡ sub1 t.b → b2 ≡ sub2 t.b → b3 ≡ sub3 t.b
