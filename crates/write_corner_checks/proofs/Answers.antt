@@ -3,7 +3,7 @@ use Prim.Native.Nat.{ℕ, ◌+◌, ◌*◌, ◌≤◌, ◌<◌}
 use native.Mathlib.Omega.{arith}
 use native.Mathlib.Numerals.{add-one}
 use mathlib.Core.Path.{◌≡◌, refl, ap, sym, subst, ◌∙◌}
-use mathlib.Core.Bool.{true}
+use mathlib.Core.Bool.{true, false≢true}
 use mathlib.Core.List.{List}
 use lib.ListN.{length, take, drop, set, length-set, length-drop}
 use lib.Seq.{drop-set-add, drop-set-lt, take-suc-set}
@@ -90,12 +90,10 @@ module _ (w w' ids : List ℕ) (b m : ℕ) (t : Tables) (item x y z : ℕ) (read
   behind_same = drop_more (b + 2 * count_after r t.vertices) (b + 2 * m) (omega (arith, ready.few, few_after)) w' w looked.rest
 
   -- 14
-  pub corner_no_vertex : r ≡ None → CornerDone w w' ids ids b m t item x y z (Err ManyVertices)
+  pub corner_no_vertex : r ≡ None → CornerDone w w' ids ids b m t t item x y z (Err ManyVertices)
   unfolding first_fault
   corner_no_vertex er = record {
-    fault = refuses {A = Tables} _ _ ManyVertices refl (rw (lt-ltb 65536 (length (with_new (met w b t.vertices) x)) (leb-false (length (with_new (met w b t.vertices) x)) 65536 (full_in (leb (length (with_new (met w b t.vertices) x)) 65536) _ _ er (looked.answer 0))))) (λ z. omega arith);
-    vertices = t.vertices;
-    counted = λ t' q. not_ok refl q;
+    fault = refuses {A = Unit {0}} _ _ ManyVertices refl (rw (lt-ltb 65536 (length (with_new (met w b t.vertices) x)) (leb-false (length (with_new (met w b t.vertices) x)) 65536 (full_in (leb (length (with_new (met w b t.vertices) x)) 65536) _ _ er (looked.answer 0))))) (λ z. omega arith);
     ready = record {
       table = subst (λ (q : Option Numbered). Table w' b (count_after q t.vertices)) er looked.table;
       few = omega (arith, ready.few);
@@ -105,9 +103,9 @@ module _ (w w' ids : List ℕ) (b m : ℕ) (t : Tables) (item x y z : ℕ) (read
     };
     long = looked.long;
     back = ap (drop (item + 1)) behind_same;
-    now_met = λ t' q. not_ok refl q;
-    now_ids = λ t' q. not_ok refl q;
-    index = λ t' q. not_ok refl q;
+    now_met = λ ok. absurd (false≢true ok);
+    now_ids = λ ok. absurd (false≢true ok);
+    index = λ ok. absurd (false≢true ok);
   }
 
   module _ (v : Numbered) (er : r ≡ Some v) where
@@ -129,31 +127,26 @@ module _ (w w' ids : List ℕ) (b m : ℕ) (t : Tables) (item x y z : ℕ) (read
 
     module _ (ids' : List ℕ) (a : Result ℕ Reason) (has : EdgeHas ids ids' t.areas y z a) where
       -- 15
-      pub corner_no_area : (e : Reason) → a ≡ Err e → CornerDone w w' ids ids' b m t item x y z (Err e)
+      pub corner_no_area : (e : Reason) → a ≡ Err e → CornerDone w w' ids ids' b m t (record { areas = t.areas; vertices = v.count }) item x y z (Err e)
       unfolding first_fault
       corner_no_area e ea = record {
         fault = rw (le-ltb 65536 (length (with_new (met w b t.vertices) x)) few_vertices) (rw ea at has.fault);
-        vertices = v.count;
-        counted = λ t' q. not_ok refl q;
         ready = record { table = table_more; few = few_more; room = omega (arith, ready.room, looked.long); trees = ready.trees; areas = has.long };
         long = looked.long;
         back = ap (drop (item + 1)) behind_same;
-        now_met = λ t' q. not_ok refl q;
-        now_ids = λ t' q. not_ok refl q;
-        index = λ t' q. not_ok refl q;
+        now_met = λ ok. absurd (false≢true ok);
+        now_ids = λ ok. absurd (false≢true ok);
+        index = λ ok. absurd (false≢true ok);
       }
 
-      pub corner_fine : (n : ℕ) → a ≡ Ok n → CornerDone w (set w' (b + 2 * m + item) v.number) ids ids' b m t item x y z (Ok (record { areas = n; vertices = v.count }))
+      pub corner_fine : (n : ℕ) → a ≡ Ok n → CornerDone w (set w' (b + 2 * m + item) v.number) ids ids' b m t (record { areas = n; vertices = v.count }) item x y z (Ok tt)
       unfolding first_fault
       corner_fine n ea =
           let k = v.number in
           let stored : behind_table (set w' (b + 2 * m + item) k) b m ≡ set (behind_table w b m) item k = drop-set-add (b + 2 * m) w' item k ∙ ap (λ (l : List ℕ). set l item k) behind_same in
           let long : item < length (behind_table w b m) = omega (arith, ready.room, length-drop (b + 2 * m) w) in
-          let areas_of : (t' : Tables) → ◌≡◌ {A = Result Tables Reason} (Ok (record { areas = n; vertices = v.count })) (Ok t') → record { areas = n; vertices = v.count } ≡ t' = λ t' q. cc in
           record {
             fault = λ place rest. rw (le-ltb 65536 (length (with_new (met w b t.vertices) x)) few_vertices) (rw ea at (has.fault place rest));
-            vertices = v.count;
-            counted = λ t' q. ap (λ (u : Tables). u.vertices) (areas_of t' q);
             ready = record {
               table = table_set w' b v.count (b + 2 * m + item) k table_more (omega (arith, few_more));
               few = few_more;
@@ -163,8 +156,8 @@ module _ (w w' ids : List ℕ) (b m : ℕ) (t : Tables) (item x y z : ℕ) (read
             };
             long = length-set w' (b + 2 * m + item) k ∙ looked.long;
             back = ap (drop (item + 1)) stored ∙ drop-set-lt (item + 1) (behind_table w b m) item k (omega arith);
-            now_met = λ t' q. rw (← areas_of t' q) (met_set w' b v.count (b + 2 * m + item) k table_more (omega (arith, few_more))
-                ∙ ap (λ (s : Option Numbered). met w' b (count_after s t.vertices)) (sym er) ∙ looked.now_met ∙ rw is_in.0);
-            now_ids = λ t' q. rw (← areas_of t' q) (has.now_ids n ea);
-            index = λ t' q. ap (take (item + 1)) stored ∙ rw (add-one item, take-suc-set (behind_table w b m) item k long, is_in.1);
+            now_met = λ ok. met_set w' b v.count (b + 2 * m + item) k table_more (omega (arith, few_more))
+                ∙ ap (λ (s : Option Numbered). met w' b (count_after s t.vertices)) (sym er) ∙ looked.now_met ∙ rw is_in.0;
+            now_ids = λ ok. has.now_ids n ea;
+            index = λ ok. ap (take (item + 1)) stored ∙ rw (add-one item, take-suc-set (behind_table w b m) item k long, is_in.1);
           }

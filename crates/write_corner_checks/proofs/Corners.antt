@@ -4,12 +4,12 @@ use native.Mathlib.Omega.{arith}
 use native.Mathlib.Decide.{dec_lt}
 use native.Mathlib.Nat.{add-zero, sub-zero}
 use mathlib.Core.Path.{◌≡◌, refl, ap, sym, ◌∙◌}
-use mathlib.Core.Bool.{Bool, true, false, cond}
+use mathlib.Core.Bool.{Bool, true, false, cond, false≢true}
 use mathlib.Core.List.{List, [], ◌∷◌, append_assoc, append-nil}
 use lib.ListN.{length}
 use lib.Dec.{ltb}
 use borrow.Author.Tests.{lt-ltb, le-ltb}
-use Rattle.std.specs.Prelude.{Result, Ok, Err}
+use Rattle.std.specs.Prelude.{Result, Ok, Err, IsOk}
 use Rattle.strip.specs.declared.Reason.{Reason}
 use Rattle.math.specs.declared.vec3.Vec3.{Vec3 as Floats}
 use Rattle.strip.specs.Cell.{Vec3, NavEdge}
@@ -23,9 +23,8 @@ use Rattle.write_pages.specs.Items.{Corner, no_edge, triple_in, corners_of, name
 use Rattle.write_pages.specs.Checks.{at, corner_fault, corners_fault}
 use Rattle.write_pages.proofs.Firsts.{first_none, first_some, first_last}
 use Rattle.write_corner_checks.specs.Steps.{area_or, TablesReady, Added, CornerDone, CornersDone, behind_table}
-use Rattle.write_corner_checks.proofs.Faults.{not_ok, passes, passed_none, refused_some}
+use Rattle.write_corner_checks.proofs.Faults.{passes, passed_none, refused_some}
 use Rattle.write_corner_checks.specs.declared.Tables.{Tables}
-use Rattle.write_corner_checks.specs.declared.CornersAfter.{CornersAfter}
 
 pub later : (w ids : List ℕ) (b m n i j : ℕ) → i ≤ j → TablesReady w ids b m n i → TablesReady w ids b m n j
 later w ids b m n i j h r = record { table = r.table; few = omega (arith, r.few); room = r.room; trees = r.trees; areas = r.areas }
@@ -35,51 +34,44 @@ module _ (w ids : List ℕ) (b m : ℕ) (t : Tables) (item : ℕ) where
   unfolding named distinct_from numbers_from
   nothing_added = record { now_met = refl; now_ids = refl; indices = rw (add-zero item, append-nil) }
 
-  none_left : (u : ℕ) → TablesReady w ids b m t.vertices item → CornersDone w w ids ids b m t item [] (Ok (record { tables = t; pushed = u }))
+  none_left : (u : ℕ) → TablesReady w ids b m t.vertices item → CornersDone w w ids ids b m t t item [] (Ok u)
   unfolding corners_fault
-  none_left u r =
-      let same : (after : CornersAfter) → ◌≡◌ {A = Result CornersAfter Reason} (Ok (record { tables = t; pushed = u })) (Ok after) → record { tables = t; pushed = u } ≡ after = λ after q. cc in
-      record {
-        fault = passes {A = CornersAfter} _ _ (record { tables = t; pushed = u }) refl refl;
-        vertices = t.vertices;
-        counted = λ after q. ap (λ (a : CornersAfter). a.tables.vertices) (same after q);
-        ready = later w ids b m t.vertices item (item + 0) (omega arith) r;
-        long = refl;
-        back = refl;
-        added = λ after q. rw (← same after q) nothing_added;
-      }
+  none_left u r = record {
+    fault = passes {A = ℕ} _ _ u refl refl;
+    ready = later w ids b m t.vertices item (item + 0) (omega arith) r;
+    long = refl;
+    back = refl;
+    added = λ ok. nothing_added;
+  }
 
-  module _ (w' ids' : List ℕ) (k : Corner) (ks : List Corner) (r : Result Tables Reason) (d : CornerDone w w' ids ids' b m t item k.vertex k.edge.a.area k.edge.b.area r) where
-    stopped : (e : Reason) → r ≡ Err e → CornersDone w w' ids ids' b m t item (k ∷ ks) (Err e)
+  module _ (w' ids' : List ℕ) (t' : Tables) (k : Corner) (ks : List Corner) (r : Result (Unit {0}) Reason) (d : CornerDone w w' ids ids' b m t t' item k.vertex k.edge.a.area k.edge.b.area r) where
+    stopped : (e : Reason) → r ≡ Err e → CornersDone w w' ids ids' b m t t' item (k ∷ ks) (Err e)
     unfolding corners_fault corner_fault
     stopped e er = record {
       fault = λ place rest. (rw er at (d.fault place rest)) ∙ ap (λ (f : ℕ). at place f rest) (sym (first_some _ _ (refused_some _ _ d.fault e er).1));
-      vertices = d.vertices;
-      counted = λ after q. not_ok refl q;
-      ready = later w' ids' b m d.vertices (item + 1) (item + suc (length ks)) (omega arith) d.ready;
+      ready = later w' ids' b m t'.vertices (item + 1) (item + suc (length ks)) (omega arith) d.ready;
       long = d.long;
       back = drop_more (item + 1) (item + suc (length ks)) (omega arith) (behind_table w' b m) (behind_table w b m) d.back;
-      added = λ after q. not_ok refl q;
+      added = λ ok. absurd (false≢true ok);
     }
 
-    went_on : (t' : Tables) → r ≡ Ok t' → (w'' ids'' : List ℕ) (s : Result CornersAfter Reason) → CornersDone w' w'' ids' ids'' b m t' (item + 1) ks s → CornersDone w w'' ids ids'' b m t item (k ∷ ks) s
+    went_on : (u : Unit {0}) → r ≡ Ok u → (w'' ids'' : List ℕ) (t'' : Tables) (s : Result ℕ Reason) → CornersDone w' w'' ids' ids'' b m t' t'' (item + 1) ks s → CornersDone w w'' ids ids'' b m t t'' item (k ∷ ks) s
     unfolding corners_fault corner_fault named distinct_from numbers_from
-    went_on t' none w'' ids'' s g =
+    went_on u none w'' ids'' t'' s g =
+        let ok : IsOk r = rw none refl in
         let sum : item + 1 + length ks ≡ item + suc (length ks) = omega arith in
         record {
-          fault = λ place rest. g.fault place rest ∙ (rw (d.now_met t' none, d.now_ids t' none))
-              ∙ ap (λ (f : ℕ). at place f rest) (sym (first_none _ _ (passed_none _ _ d.fault t' none) ∙ first_last _));
-          vertices = g.vertices;
-          counted = g.counted;
+          fault = λ place rest. g.fault place rest ∙ (rw (d.now_met ok, d.now_ids ok))
+              ∙ ap (λ (f : ℕ). at place f rest) (sym (first_none _ _ (passed_none _ _ d.fault u none) ∙ first_last _));
           ready = rw sum at g.ready;
           long = g.long ∙ d.long;
           back = (rw sum at g.back) ∙ drop_more (item + 1) (item + suc (length ks)) (omega arith) (behind_table w' b m) (behind_table w b m) d.back;
-          added = λ after q.
-              let a = g.added after q in
+          added = λ done.
+              let a = g.added done in
               record {
-                now_met = a.now_met ∙ (rw (d.now_met t' none));
-                now_ids = a.now_ids ∙ (rw (d.now_ids t' none));
-                indices = (rw sum at a.indices) ∙ rw (d.index t' none, d.now_met t' none, append_assoc);
+                now_met = a.now_met ∙ (rw (d.now_met ok));
+                now_ids = a.now_ids ∙ (rw (d.now_ids ok));
+                indices = (rw sum at a.indices) ∙ rw (d.index ok, d.now_met ok, append_assoc);
               };
         }
 
@@ -130,9 +122,9 @@ pub record Going (s : List ℕ) (bb-min bb-size : Floats) (n k v₀ e₀ b m sta
   pub within : i ≤ n
   pub ready : TablesReady w ids b m t.vertices (start + i)
   pub long : length w ≡ length w₀
-  pub rest : (w' ids' : List ℕ) (r : Result CornersAfter Reason)
-      → CornersDone w w' ids ids' b m t (start + i) (corners_of bb-min bb-size (vecs_at s (v₀ + 3 * i) (n - i)) (edges_at s (e₀ + 6 * i) (k - i))) r
-      → CornersDone w₀ w' ids₀ ids' b m t₀ start (corners_of bb-min bb-size (vecs_at s v₀ n) (edges_at s e₀ k)) r
+  pub rest : (w' ids' : List ℕ) (t' : Tables) (r : Result ℕ Reason)
+      → CornersDone w w' ids ids' b m t t' (start + i) (corners_of bb-min bb-size (vecs_at s (v₀ + 3 * i) (n - i)) (edges_at s (e₀ + 6 * i) (k - i))) r
+      → CornersDone w₀ w' ids₀ ids' b m t₀ t' start (corners_of bb-min bb-size (vecs_at s v₀ n) (edges_at s e₀ k)) r
 
 module _ (s : List ℕ) (bb-min bb-size : Floats) (n k v₀ e₀ b m start : ℕ) (t₀ : Tables) (w₀ ids₀ : List ℕ) where
   pub begin : TablesReady w₀ ids₀ b m t₀.vertices start → Going s bb-min bb-size n k v₀ e₀ b m start t₀ w₀ ids₀ w₀ ids₀ t₀ 0
@@ -140,12 +132,12 @@ module _ (s : List ℕ) (bb-min bb-size : Floats) (n k v₀ e₀ b m start : ℕ
     within = omega arith;
     ready = rw (add-zero start) r;
     long = refl;
-    rest = λ w' ids' q d. rw (add-zero start, add-zero v₀, add-zero e₀, sub-zero n, sub-zero k) at d;
+    rest = λ w' ids' t' q d. rw (add-zero start, add-zero v₀, add-zero e₀, sub-zero n, sub-zero k) at d;
   }
 
-  module _ (w w' ids ids' : List ℕ) (t : Tables) (i x y z : ℕ) (g : Going s bb-min bb-size n k v₀ e₀ b m start t₀ w₀ ids₀ w ids t i) (h : i < n)
+  module _ (w w' ids ids' : List ℕ) (t t' : Tables) (i x y z : ℕ) (g : Going s bb-min bb-size n k v₀ e₀ b m start t₀ w₀ ids₀ w ids t i) (h : i < n)
       (ex : x ≡ triple_in bb-min bb-size (vec_at s (v₀ + 3 * i))) (ey : y ≡ area_or s (e₀ + 6 * i) i k) (ez : z ≡ area_or s (e₀ + 6 * i + 3) i k)
-      (r : Result Tables Reason) (d : CornerDone w w' ids ids' b m t (start + i) x y z r) where
+      (r : Result (Unit {0}) Reason) (d : CornerDone w w' ids ids' b m t t' (start + i) x y z r) where
     abbrev v : ℕ
     v = v₀ + 3 * i
 
@@ -158,7 +150,7 @@ module _ (s : List ℕ) (bb-min bb-size : Floats) (n k v₀ e₀ b m start : ℕ
     after : List Corner
     after = corners_of bb-min bb-size (vecs_at s (v + 3) (n - (i + 1))) (edges_at s (e + 6) (k - (i + 1)))
 
-    done_here : CornerDone w w' ids ids' b m t (start + i) here.vertex here.edge.a.area here.edge.b.area r
+    done_here : CornerDone w w' ids ids' b m t t' (start + i) here.vertex here.edge.a.area here.edge.b.area r
     unfolding here
     done_here = rw (← ex, area_a s bb-min bb-size v e i n k h, area_b s bb-min bb-size v e i n k h, ← ey, ← ez) d
 
@@ -166,23 +158,23 @@ module _ (s : List ℕ) (bb-min bb-size : Floats) (n k v₀ e₀ b m start : ℕ
     unfolding here after
     turn = corners_turn s bb-min bb-size v e i n k h
 
-    pub stop : (q : Reason) → r ≡ Err q → CornersDone w₀ w' ids₀ ids' b m t₀ start (corners_of bb-min bb-size (vecs_at s v₀ n) (edges_at s e₀ k)) (Err q)
-    stop q er = g.rest w' ids' (Err q) (rw turn (stopped w ids b m t (start + i) w' ids' here after r done_here q er))
+    pub stop : (q : Reason) → r ≡ Err q → CornersDone w₀ w' ids₀ ids' b m t₀ t' start (corners_of bb-min bb-size (vecs_at s v₀ n) (edges_at s e₀ k)) (Err q)
+    stop q er = g.rest w' ids' t' (Err q) (rw turn (stopped w ids b m t (start + i) w' ids' t' here after r done_here q er))
 
-    pub again : (t' : Tables) → r ≡ Ok t' → Going s bb-min bb-size n k v₀ e₀ b m start t₀ w₀ ids₀ w' ids' t' (i + 1)
+    pub again : (u : Unit {0}) → r ≡ Ok u → Going s bb-min bb-size n k v₀ e₀ b m start t₀ w₀ ids₀ w' ids' t' (i + 1)
     unfolding after
-    again t' none =
+    again u none =
         let sum : start + i + 1 ≡ start + (i + 1) = omega arith in
         let three : v + 3 ≡ v₀ + 3 * (i + 1) = omega arith in
         let six : e + 6 ≡ e₀ + 6 * (i + 1) = omega arith in
         record {
           within = omega arith;
-          ready = rw (sum, d.counted t' none) at d.ready;
+          ready = rw sum at d.ready;
           long = d.long ∙ g.long;
-          rest = λ w'' ids'' q j. g.rest w'' ids'' q (rw turn (went_on w ids b m t (start + i) w' ids' here after r done_here t' none w'' ids'' q (rw (← sum, ← three, ← six) at j)));
+          rest = λ w'' ids'' t'' q j. g.rest w'' ids'' t'' q (rw turn (went_on w ids b m t (start + i) w' ids' t' here after r done_here u none w'' ids'' t'' q (rw (← sum, ← three, ← six) at j)));
         }
 
   pub done : (u : ℕ) (w ids : List ℕ) (t : Tables) (i : ℕ) → Going s bb-min bb-size n k v₀ e₀ b m start t₀ w₀ ids₀ w ids t i → n ≤ i
-      → CornersDone w₀ w ids₀ ids b m t₀ start (corners_of bb-min bb-size (vecs_at s v₀ n) (edges_at s e₀ k)) (Ok (record { tables = t; pushed = u }))
+      → CornersDone w₀ w ids₀ ids b m t₀ t start (corners_of bb-min bb-size (vecs_at s v₀ n) (edges_at s e₀ k)) (Ok u)
   unfolding corners_of
-  done u w ids t i g h = g.rest w ids (Ok (record { tables = t; pushed = u })) (rw (items_done (vec_at s) (λ x. x + 3) (v₀ + 3 * i) i n h) (none_left w ids b m t (start + i) u g.ready))
+  done u w ids t i g h = g.rest w ids t (Ok u) (rw (items_done (vec_at s) (λ x. x + 3) (v₀ + 3 * i) i n h) (none_left w ids b m t (start + i) u g.ready))

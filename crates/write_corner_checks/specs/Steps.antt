@@ -1,6 +1,6 @@
 -- What each step over the corners leaves in lent memory: work holds the vertex table (b roots of trees, then two words to each of m vertices) and
 -- behind it the corners' numbers; ids holds the areas. Definitions only.
-use Rattle.std.specs.Prelude.{ℕ, ◌+◌, ◌*◌, ◌≤◌, min, ◌≡◌, cond, List, [], ◌∷◌, ◌++◌, length, take, drop, ltb, Result, Ok, Err}
+use Rattle.std.specs.Prelude.{ℕ, ◌+◌, ◌*◌, ◌≤◌, min, ◌≡◌, cond, List, [], ◌∷◌, ◌++◌, length, take, drop, ltb, Result, Ok, Err, IsOk}
 use Rattle.strip.specs.Reading.{word}
 use Rattle.areas.specs.EdgeHalf.{adjacent_none}
 use Rattle.distinct.specs.Distinct.{with_new, index_of, distinct_from}
@@ -11,7 +11,6 @@ use Rattle.write_pages.specs.Checks.{Verdict, refused, fault_if, first_fault, at
 use Rattle.strip.specs.Reasons.{reason_number}
 use Rattle.strip.specs.declared.Reason.{Reason}
 use Rattle.write_corner_checks.specs.declared.Tables.{Tables}
-use Rattle.write_corner_checks.specs.declared.CornersAfter.{CornersAfter}
 
 -- the area that stands at a place for a half of edge i, and that of no neighbour where there are only so many edges
 unfoldable pub area_or : (strip : List ℕ) → (place i edges : ℕ) → ℕ
@@ -76,24 +75,20 @@ pub record Added (w w' ids ids' : List ℕ) (b m : ℕ) (t t' : Tables) (item : 
   pub now_ids : take t'.areas ids' ≡ distinct_from (take t.areas ids) (named ks)
   pub indices : take (item + length ks) (behind_table w' b m) ≡ take item (behind_table w b m) ++ numbers_from (met w b t.vertices) (triples ks)
 
--- after the corner number `item`, with the triple x and the areas y and z. After a refusal too work holds a table, of `vertices` vertices
-pub record CornerDone (w w' ids ids' : List ℕ) (b m : ℕ) (t : Tables) (item x y z : ℕ) (r : Result Tables Reason) : Type 0 where
+-- after the corner number `item`, with the triple x and the areas y and z: from the tables t to the tables t', after a refusal too
+pub record CornerDone (w w' ids ids' : List ℕ) (b m : ℕ) (t t' : Tables) (item x y z : ℕ) (r : Result (Unit {0}) Reason) : Type 0 where
   pub fault : HasFault r (first_fault (corner_faults (met w b t.vertices) (take t.areas ids) x y z))
-  pub vertices : ℕ
-  pub counted : (t' : Tables) → r ≡ Ok t' → vertices ≡ t'.vertices
-  pub ready : TablesReady w' ids' b m vertices (item + 1)
+  pub ready : TablesReady w' ids' b m t'.vertices (item + 1)
   pub long : length w' ≡ length w
   pub back : drop (item + 1) (behind_table w' b m) ≡ drop (item + 1) (behind_table w b m)
-  pub now_met : (t' : Tables) → r ≡ Ok t' → met w' b t'.vertices ≡ with_new (met w b t.vertices) x
-  pub now_ids : (t' : Tables) → r ≡ Ok t' → take t'.areas ids' ≡ with_new (with_new (take t.areas ids) y) z
-  pub index : (t' : Tables) → r ≡ Ok t' → take (item + 1) (behind_table w' b m) ≡ take item (behind_table w b m) ++ (index_of (met w b t.vertices) x ∷ [])
+  pub now_met : IsOk r → met w' b t'.vertices ≡ with_new (met w b t.vertices) x
+  pub now_ids : IsOk r → take t'.areas ids' ≡ with_new (with_new (take t.areas ids) y) z
+  pub index : IsOk r → take (item + 1) (behind_table w' b m) ≡ take item (behind_table w b m) ++ (index_of (met w b t.vertices) x ∷ [])
 
--- after the corners ks, the first of them number `item`
-pub record CornersDone (w w' ids ids' : List ℕ) (b m : ℕ) (t : Tables) (item : ℕ) (ks : List Corner) (r : Result CornersAfter Reason) : Type 0 where
+-- after the corners ks, the first of them number `item`: from the tables t to the tables t', after a refusal too
+pub record CornersDone (w w' ids ids' : List ℕ) (b m : ℕ) (t t' : Tables) (item : ℕ) (ks : List Corner) (r : Result ℕ Reason) : Type 0 where
   pub fault : HasFault r (corners_fault (met w b t.vertices) (take t.areas ids) ks)
-  pub vertices : ℕ
-  pub counted : (after : CornersAfter) → r ≡ Ok after → vertices ≡ after.tables.vertices
-  pub ready : TablesReady w' ids' b m vertices (item + length ks)
+  pub ready : TablesReady w' ids' b m t'.vertices (item + length ks)
   pub long : length w' ≡ length w
   pub back : drop (item + length ks) (behind_table w' b m) ≡ drop (item + length ks) (behind_table w b m)
-  pub added : (after : CornersAfter) → r ≡ Ok after → Added w w' ids ids' b m t after.tables item ks
+  pub added : IsOk r → Added w w' ids ids' b m t t' item ks

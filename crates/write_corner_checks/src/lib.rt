@@ -21,13 +21,6 @@ pub struct Tables {
     pub vertices: usize,
 }
 
-// The tables after some corners, and how many coordinates of their vertices are outside.
-#[derive(Clone, Copy)]
-pub struct CornersAfter {
-    pub tables: Tables,
-    pub pushed: usize,
-}
-
 // A vertex as the writer numbers it, and how many of its coordinates are outside.
 #[derive(Clone, Copy)]
 pub struct Vertex {
@@ -84,33 +77,34 @@ fn area_at(strip: &[u32], at: usize, i: usize, edges: usize) -> u32
     areas::ADJACENT_NONE
 }
 
-// A corner: its triple is numbered (14), the areas of its edge are ensured (15), and its number is stored as index `item`.
+// A corner: its triple is numbered (14), the areas of its edge are ensured (15), and its number is stored as index `item`. The vertices are counted
+// before the areas, since a new one is in the table after a 15 too.
 fn decide_corner(
     work: &mut [u32],
     ids: &mut [u32; 32],
     buckets: usize,
     room: usize,
     item: usize,
-    old: Tables,
+    tables: &mut Tables,
     triple: u64,
     a: u32,
     b: u32,
-) -> Result<Tables, Reason>
-    requires { TablesReady work.old ids.old buckets room old.vertices item × (item < room) × (triple < 2 ^ 48) }
-    ensures { CornerDone work.old work.new ids.old ids.new buckets room old item triple a b result }
+) -> Result<(), Reason>
+    requires { TablesReady work.old ids.old buckets room tables.old.vertices item × (item < room) × (triple < 2 ^ 48) }
+    ensures { CornerDone work.old work.new ids.old ids.new buckets room tables.old tables.new item triple a b result }
 {
-    let Some(known) = write_vertex_index::vertex_index(work, buckets, old.vertices, triple) else {
+    let Some(known) = write_vertex_index::vertex_index(work, buckets, tables.vertices, triple)
+    else {
         return Err(Reason::ManyVertices);
     };
-    let areas = ensure_edge(ids, old.areas, a, b)?;
+    tables.vertices = known.count;
+    tables.areas = ensure_edge(ids, tables.areas, a, b)?;
     work[buckets + 2 * room + item] = known.number as u32;
-    Ok(Tables {
-        areas,
-        vertices: known.count,
-    })
+    Ok(())
 }
 
-// The corners of a polygon, the first of them number `start`.
+// The corners of a polygon, the first of them number `start`. It answers how many coordinates of their vertices are outside; the tables are those so
+// far, after a refusal too.
 pub fn decide_vertices(
     strip: &[u32],
     p: Poly,
@@ -120,15 +114,14 @@ pub fn decide_vertices(
     buckets: usize,
     room: usize,
     start: usize,
-    old: Tables,
-) -> Result<CornersAfter, Reason>
+    tables: &mut Tables,
+) -> Result<usize, Reason>
     requires { (p.vertex_at + 3 * p.vertices ≤ length strip.now) × (p.edge_at + 6 * p.edges ≤ length strip.now)
-        × (start + p.vertices ≤ room) × TablesReady work.old ids.old buckets room old.vertices start }
-    ensures corners { CornersDone work.old work.new ids.old ids.new buckets room old start
+        × (start + p.vertices ≤ room) × TablesReady work.old ids.old buckets room tables.old.vertices start }
+    ensures corners { CornersDone work.old work.new ids.old ids.new buckets room tables.old tables.new start
         (corners_in frame.bb_min frame.bb_size (polygon_of strip.now p)) result }
-    ensures pushed { IfOk result (λ after. after.pushed ≡ pushed_in frame.bb_min frame.bb_size (polygon_of strip.now p).vertices) }
+    ensures pushed { IfOk result (λ pushed. pushed ≡ pushed_in frame.bb_min frame.bb_size (polygon_of strip.now p).vertices) }
 {
-    let mut tables = old;
     let mut pushed = 0;
     for i in 0..p.vertices {
         let vertex = vertex_at(strip, p.vertex_at + 3 * i, frame);
@@ -136,8 +129,8 @@ pub fn decide_vertices(
         let e = p.edge_at + 6 * i;
         let a = area_at(strip, e, i, p.edges);
         let b = area_at(strip, e + 3, i, p.edges);
-        tables = decide_corner(work, ids, buckets, room, start + i, tables, triple, a, b)?;
+        decide_corner(work, ids, buckets, room, start + i, tables, triple, a, b)?;
         pushed += vertex.outside;
     }
-    Ok(CornersAfter { tables, pushed })
+    Ok(pushed)
 }

@@ -2,14 +2,14 @@
 use Prim.Native.Nat.{ℕ, ◌+◌, ◌*◌, ◌-◌, ◌≤◌, ◌<◌}
 use native.Mathlib.Omega.{arith}
 use native.Mathlib.Nat.{add-zero, sub-zero}
-use mathlib.Core.Bool.{◌||◌}
+use mathlib.Core.Bool.{◌||◌, false≢true}
 use mathlib.Core.Path.{◌≡◌, refl, ap, sym, ◌∙◌}
 use mathlib.Core.List.{List, [], ◌∷◌, ◌++◌, append_assoc}
 use lib.ListN.{length, take, drop, length-append}
 use lib.Dec.{ltb}
 use borrow.Author.Tests.{lt-ltb, le-ltb, ltb-false}
 use Rattle.math.specs.declared.vec3.Vec3.{Vec3 as Floats}
-use Rattle.std.specs.Prelude.{Result, Ok, Err}
+use Rattle.std.specs.Prelude.{Result, Ok, Err, IsOk}
 use Rattle.strip.specs.declared.Reason.{Reason}
 use Rattle.strip.specs.declared.Reason.TheVariants.{ManyLinksOfPolygon}
 use Rattle.strip.specs.declared.Refusal.{Refusal}
@@ -32,10 +32,9 @@ use Rattle.write_pages.proofs.Firsts.{passed, first_none, first_some, first_last
 use Rattle.write_corner_checks.specs.Steps.{HasFault, TablesReady, Added, CornersDone, behind_table}
 use Rattle.write_polygon_checks.specs.Steps.{run_fault, PolygonDone, PolygonsDone}
 use Rattle.write_corner_checks.specs.declared.Tables.{Tables}
-use Rattle.write_corner_checks.specs.declared.CornersAfter.{CornersAfter}
 use Rattle.write_polygon_checks.specs.declared.Decided.{Decided}
 use Rattle.write_corner_checks.proofs.Faults.{not_ok, passes, passed_none, refuses, refused_some}
-use Rattle.write_corner_checks.proofs.Corners.{nothing_added}
+use Rattle.write_corner_checks.proofs.Corners.{nothing_added, later}
 
 -- ---- lists in a row
 
@@ -60,17 +59,17 @@ module _ (bb-min bb-size : Floats) (w ids : List ℕ) (b m : ℕ) (t : Tables) (
 
   module _ {A : Type 0} (f : Result A Reason) (ef : HasFault f (run_fault (length q.vertices) start)) where
     -- nothing was touched
-    pub bad_run : (e : Reason) → f ≡ Err e → PolygonDone bb-min bb-size w w ids ids b m t start q (Err e)
-    bad_run e er = record {
+    pub bad_run : TablesReady w ids b m t.vertices start → (e : Reason) → f ≡ Err e → PolygonDone bb-min bb-size w w ids ids b m t t start q (Err e)
+    bad_run as_before e er = record {
       fault = λ place rest. (rw er at (ef place rest)) ∙ ap (λ (k : ℕ). at place k rest) (sym (in_order ∙ first_some _ _ (refused_some f _ ef e er).1));
       long = refl;
       back = refl;
-      ready = λ d z. not_ok refl z;
-      least = λ d z. not_ok refl z;
-      added = λ d z. not_ok refl z;
+      ready = later w ids b m t.vertices start (start + length q.vertices) (omega arith) as_before;
+      least = λ ok. absurd (false≢true ok);
+      added = λ ok. absurd (false≢true ok);
     }
 
-    module _ (a : A) (good : f ≡ Ok a) (room : start + length q.vertices ≤ m) (w' ids' : List ℕ) (r : Result CornersAfter Reason) (d : CornersDone w w' ids ids' b m t start (corners_in bb-min bb-size q) r) where
+    module _ (a : A) (good : f ≡ Ok a) (room : start + length q.vertices ≤ m) (w' ids' : List ℕ) (t' : Tables) (r : Result ℕ Reason) (d : CornersDone w w' ids ids' b m t t' start (corners_in bb-min bb-size q) r) where
       from_corners : polygon_fault bb-min bb-size (met w b t.vertices) (take t.areas ids) start q
           ≡ first_fault (corners_fault (met w b t.vertices) (take t.areas ids) (corners_in bb-min bb-size q) ∷ fault_if (ltb 7 (length q.links)) 16 ∷ [])
       from_corners = in_order ∙ first_none _ _ (passed_none f _ ef a good)
@@ -81,39 +80,42 @@ module _ (bb-min bb-size : Floats) (w ids : List ℕ) (b m : ℕ) (t : Tables) (
       rest_same : drop m (behind_table w' b m) ≡ drop m (behind_table w b m)
       rest_same = drop_more (start + length (corners_in bb-min bb-size q)) m (omega (arith, long_enough)) (behind_table w' b m) (behind_table w b m) d.back
 
-      pub bad_corner : (e : Reason) → r ≡ Err e → PolygonDone bb-min bb-size w w' ids ids' b m t start q (Err e)
+      ready_after : TablesReady w' ids' b m t'.vertices (start + length q.vertices)
+      ready_after = rw long_enough at d.ready
+
+      pub bad_corner : (e : Reason) → r ≡ Err e → PolygonDone bb-min bb-size w w' ids ids' b m t t' start q (Err e)
       bad_corner e er = record {
         fault = λ place rest. (rw er at (d.fault place rest)) ∙ ap (λ (k : ℕ). at place k rest) (sym (from_corners ∙ first_some _ _ (refused_some _ _ d.fault e er).1));
         long = d.long;
         back = rest_same;
-        ready = λ d' z. not_ok refl z;
-        least = λ d' z. not_ok refl z;
-        added = λ d' z. not_ok refl z;
+        ready = ready_after;
+        least = λ ok. absurd (false≢true ok);
+        added = λ ok. absurd (false≢true ok);
       }
 
-      module _ (after : CornersAfter) (none : r ≡ Ok after) where
+      module _ (u : ℕ) (none : r ≡ Ok u) where
         -- only 16 is left
         only_links : polygon_fault bb-min bb-size (met w b t.vertices) (take t.areas ids) start q ≡ fault_if (ltb 7 (length q.links)) 16
-        only_links = from_corners ∙ first_none _ _ (passed_none _ _ d.fault after none) ∙ first_last _
+        only_links = from_corners ∙ first_none _ _ (passed_none _ _ d.fault u none) ∙ first_last _
 
-        pub many_links : 7 < length q.links → PolygonDone bb-min bb-size w w' ids ids' b m t start q (Err ManyLinksOfPolygon)
+        pub many_links : 7 < length q.links → PolygonDone bb-min bb-size w w' ids ids' b m t t' start q (Err ManyLinksOfPolygon)
         many_links h = record {
-          fault = refuses {A = CornersAfter} _ _ ManyLinksOfPolygon refl (only_links ∙ rw (lt-ltb 7 (length q.links) h)) (λ z. omega arith);
+          fault = refuses {A = ℕ} _ _ ManyLinksOfPolygon refl (only_links ∙ rw (lt-ltb 7 (length q.links) h)) (λ z. omega arith);
           long = d.long;
           back = rest_same;
-          ready = λ d' z. not_ok refl z;
-          least = λ d' z. not_ok refl z;
-          added = λ d' z. not_ok refl z;
+          ready = ready_after;
+          least = λ ok. absurd (false≢true ok);
+          added = λ ok. absurd (false≢true ok);
         }
 
-        pub polygon_fine : length q.links ≤ 7 → PolygonDone bb-min bb-size w w' ids ids' b m t start q (Ok after)
+        pub polygon_fine : length q.links ≤ 7 → PolygonDone bb-min bb-size w w' ids ids' b m t t' start q (Ok u)
         polygon_fine h = record {
-          fault = passes _ _ after refl (only_links ∙ rw (le-ltb 7 (length q.links) h));
+          fault = passes _ _ u refl (only_links ∙ rw (le-ltb 7 (length q.links) h));
           long = d.long;
           back = rest_same;
-          ready = λ d' z. rw (long_enough, d.counted d' (none ∙ z)) at d.ready;
-          least = λ d' z. ltb-false (length q.vertices) 3 (or_false _ _ (passed (ltb (length q.vertices) 3 || ltb 2047 (length q.vertices)) 11 _ (passed_none f _ ef a good))).0;
-          added = λ d' z. d.added d' (none ∙ z);
+          ready = ready_after;
+          least = λ ok. ltb-false (length q.vertices) 3 (or_false _ _ (passed (ltb (length q.vertices) 3 || ltb 2047 (length q.vertices)) 11 _ (passed_none f _ ef a good))).0;
+          added = λ ok. d.added (rw none refl);
         }
 
 -- ---- all polygons
@@ -137,7 +139,7 @@ module _ (bb-min bb-size : Floats) (w ids : List ℕ) (b m : ℕ) (t : Tables) (
         added = λ d z. rw (← same d z) (nothing_added w ids b m t start);
       }
 
-  module _ (w' ids' : List ℕ) (p : NavPoly) (ps : List NavPoly) (r : Result CornersAfter Reason) (d : PolygonDone bb-min bb-size w w' ids ids' b m t start p r) where
+  module _ (w' ids' : List ℕ) (t' : Tables) (p : NavPoly) (ps : List NavPoly) (r : Result ℕ Reason) (d : PolygonDone bb-min bb-size w w' ids ids' b m t t' start p r) where
     stopped : (e : Reason) → r ≡ Err e → PolygonsDone bb-min bb-size w w' ids ids' b m t start k l (p ∷ ps) (Err (record { reason = e; place = k }))
     unfolding polygons_verdict
     stopped e er = record {
@@ -152,24 +154,25 @@ module _ (bb-min bb-size : Floats) (w ids : List ℕ) (b m : ℕ) (t : Tables) (
       added = λ q z. not_ok refl z;
     }
 
-    went_on : (after : CornersAfter) → r ≡ Ok after → (w'' ids'' : List ℕ) (q : Result Decided Refusal)
-        → PolygonsDone bb-min bb-size w' w'' ids' ids'' b m after.tables (start + length p.vertices) (k + 1) (l + length p.links) ps q
+    went_on : (u : ℕ) → r ≡ Ok u → (w'' ids'' : List ℕ) (q : Result Decided Refusal)
+        → PolygonsDone bb-min bb-size w' w'' ids' ids'' b m t' (start + length p.vertices) (k + 1) (l + length p.links) ps q
         → PolygonsDone bb-min bb-size w w'' ids ids'' b m t start k l (p ∷ ps) q
     unfolding polygons_verdict gather
-    went_on after none w'' ids'' q g =
-        let h = d.added after none in
+    went_on u none w'' ids'' q g =
+        let ok : IsOk r = rw none refl in
+        let h = d.added ok in
         let count : start + length (corners_in bb-min bb-size p) ≡ start + length p.vertices = omega (arith, length_corners bb-min bb-size p.vertices p.edges) in
         record {
-          verdict = λ rest. g.verdict rest ∙ (rw (h.now_met, h.now_ids)) ∙ sym (at_none k _ _ (passed_none _ _ d.fault after none));
+          verdict = λ rest. g.verdict rest ∙ (rw (h.now_met, h.now_ids)) ∙ sym (at_none k _ _ (passed_none _ _ d.fault u none));
           long = g.long ∙ d.long;
           back = g.back ∙ d.back;
           ready = g.ready;
           few = g.few;
-          many = λ e z. omega (arith, g.many e z, d.least after none);
+          many = λ e z. omega (arith, g.many e z, d.least ok);
           corner_count = λ e z. omega (arith, g.corner_count e z, count, length-append (corners_in bb-min bb-size p) (corners bb-min bb-size ps));
           link_count = λ e z. omega (arith, g.link_count e z, length-append p.links (links_of ps));
           added = λ e z.
-              added_append w w' w'' ids ids' ids'' b m t after.tables e.tables start (corners_in bb-min bb-size p) (corners bb-min bb-size ps) h (rw (← count) at (g.added e z));
+              added_append w w' w'' ids ids' ids'' b m t t' e.tables start (corners_in bb-min bb-size p) (corners bb-min bb-size ps) h (rw (← count) at (g.added e z));
         }
 
 -- before polygon i, at `at`: what is done with the polygons that are left is done with all
@@ -199,25 +202,25 @@ module _ (s : List ℕ) (bb-min bb-size : Floats) (n b m : ℕ) (t₀ : Tables) 
     pub next_in : p.next ≤ length s
     next_in = next_inside s at i n (length s) h g.inside p e
 
-    module _ (w' ids' : List ℕ) (r : Result CornersAfter Reason) (d : PolygonDone bb-min bb-size w w' ids ids' b m t start (polygon_of s p) r) where
+    module _ (w' ids' : List ℕ) (t' : Tables) (r : Result ℕ Reason) (d : PolygonDone bb-min bb-size w w' ids ids' b m t t' start (polygon_of s p) r) where
       pub stop : (q : Reason) → r ≡ Err q
           → PolygonsDone bb-min bb-size w₀ w' ids₀ ids' b m t₀ 0 0 0 (polygons_at s 14 n) (Err (record { reason = q; place = i }))
-      stop q er = g.rest w' ids' _ (rw (polygons_turn s at i n h p e) (stopped bb-min bb-size w ids b m t start i l w' ids' (polygon_of s p) _ r d q er))
+      stop q er = g.rest w' ids' _ (rw (polygons_turn s at i n h p e) (stopped bb-min bb-size w ids b m t start i l w' ids' t' (polygon_of s p) _ r d q er))
 
-      pub again : (after : CornersAfter) → r ≡ Ok after → Onward s bb-min bb-size n b m t₀ w₀ ids₀ w' ids' after.tables p.next (start + p.vertices) (l + p.links) (i + 1)
+      pub again : (u : ℕ) → r ≡ Ok u → Onward s bb-min bb-size n b m t₀ w₀ ids₀ w' ids' t' p.next (start + p.vertices) (l + p.links) (i + 1)
       unfolding polygon_of
-      again after none =
+      again u none =
           let q = parts s at p e in
           record {
             within = omega arith;
             inside = omega (arith, after_polygon s at i n h p e, g.inside);
             ahead = omega (arith, g.ahead, q);
             links = omega (arith, g.links, q);
-            ready = rw (vertex_count_lem s p) at (d.ready after none);
+            ready = rw (vertex_count_lem s p) at d.ready;
             long = d.long ∙ g.long;
             rest = λ w'' ids'' o k.
                 g.rest w'' ids'' o
-                (rw (polygons_turn s at i n h p e) (went_on bb-min bb-size w ids b m t start i l w' ids' (polygon_of s p) _ r d after none w'' ids'' o (rw (← vertex_count_lem s p, ← link_count s p) at k)));
+                (rw (polygons_turn s at i n h p e) (went_on bb-min bb-size w ids b m t start i l w' ids' t' (polygon_of s p) _ r d u none w'' ids'' o (rw (← vertex_count_lem s p, ← link_count s p) at k)));
           }
 
   pub done : (w ids : List ℕ) (t : Tables) (at start l u i : ℕ) → Onward s bb-min bb-size n b m t₀ w₀ ids₀ w ids t at start l i → n ≤ i → length s ≤ 3 * m + 2

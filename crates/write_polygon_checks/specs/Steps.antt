@@ -1,6 +1,6 @@
 -- What each step over the polygons leaves in lent memory, and what its verdict says. Work w, areas ids and their counts are those of the corners' steps.
 -- Definitions only.
-use Rattle.std.specs.Prelude.{ℕ, ◌+◌, ◌*◌, ◌≤◌, ◌≡◌, ◌||◌, List, [], ◌∷◌, length, take, drop, ltb, Result, Ok, Err}
+use Rattle.std.specs.Prelude.{ℕ, ◌+◌, ◌*◌, ◌≤◌, ◌≡◌, ◌||◌, List, [], ◌∷◌, length, take, drop, ltb, Result, Ok, Err, IsOk}
 use Rattle.math.specs.declared.vec3.Vec3.{Vec3 as Floats}
 use Rattle.strip.specs.Cell.{NavPoly}
 use Rattle.write_vertices.specs.Table.{met}
@@ -9,7 +9,6 @@ use Rattle.write_pages.specs.Checks.{Verdict, refused, fault_if, first_fault, at
 use Rattle.strip.specs.Reasons.{reason_number}
 use Rattle.strip.specs.declared.Reason.{Reason}
 use Rattle.strip.specs.declared.Refusal.{Refusal}
-use Rattle.write_corner_checks.specs.declared.CornersAfter.{CornersAfter}
 use Rattle.write_corner_checks.specs.declared.Tables.{Tables}
 use Rattle.write_corner_checks.specs.Steps.{HasFault, behind_table, TablesReady, Added}
 use Rattle.write_polygon_checks.specs.declared.Decided.{Decided}
@@ -20,14 +19,15 @@ run_fault vertices start = first_fault (fault_if (ltb vertices 3 || ltb 2047 ver
 
 -- ---- polygons
 
--- after the polygon p, whose first corner is number `start`. No word behind the m indices is changed
-pub record PolygonDone (bb-min bb-size : Floats) (w w' ids ids' : List ℕ) (b m : ℕ) (t : Tables) (start : ℕ) (p : NavPoly) (r : Result CornersAfter Reason) : Type 0 where
+-- after the polygon p, whose first corner is number `start`: from the tables t to the tables t', after a refusal too. No word behind the m indices is
+-- changed
+pub record PolygonDone (bb-min bb-size : Floats) (w w' ids ids' : List ℕ) (b m : ℕ) (t t' : Tables) (start : ℕ) (p : NavPoly) (r : Result ℕ Reason) : Type 0 where
   pub fault : HasFault r (polygon_fault bb-min bb-size (met w b t.vertices) (take t.areas ids) start p)
   pub long : length w' ≡ length w
   pub back : drop m (behind_table w' b m) ≡ drop m (behind_table w b m)
-  pub ready : (after : CornersAfter) → r ≡ Ok after → TablesReady w' ids' b m after.tables.vertices (start + length p.vertices)
-  pub least : (after : CornersAfter) → r ≡ Ok after → 3 ≤ length p.vertices
-  pub added : (after : CornersAfter) → r ≡ Ok after → Added w w' ids ids' b m t after.tables start (corners_in bb-min bb-size p)
+  pub ready : TablesReady w' ids' b m t'.vertices (start + length p.vertices)
+  pub least : IsOk r → 3 ≤ length p.vertices
+  pub added : IsOk r → Added w w' ids ids' b m t t' start (corners_in bb-min bb-size p)
 
 -- what an answer says, and then the rest
 abbrev pub says : {A : Type 0} → Result A Refusal → Verdict → Verdict

@@ -10,7 +10,7 @@ ghost use Rattle.write_polygon_checks.specs.Steps.{run_fault, PolygonDone, Polyg
 
 use quantise::short::Frame;
 use strip::{Poly, Reason, Refusal};
-use write_corner_checks::{CornersAfter, Tables, decide_vertices};
+use write_corner_checks::{Tables, decide_vertices};
 
 // What the polygons come to: the tables, how many corners and links there are, and how many coordinates are pushed.
 #[derive(Clone, Copy)]
@@ -21,7 +21,7 @@ pub struct Decided {
     pub pushed: usize,
 }
 
-// A polygon, whose run of corners begins at `start`: 12, 13, its corners (14, 15), 16.
+// A polygon, whose run of corners begins at `start`: 12, 13, its corners (14, 15), 16. It answers how many coordinates of its vertices are outside.
 fn decide_polygon(
     strip: &[u32],
     p: Poly,
@@ -31,20 +31,20 @@ fn decide_polygon(
     buckets: usize,
     room: usize,
     start: usize,
-    old: Tables,
-) -> Result<CornersAfter, Reason>
+    tables: &mut Tables,
+) -> Result<usize, Reason>
     requires { (p.vertex_at + 3 * p.vertices ≤ length strip.now) × (p.edge_at + 6 * p.edges ≤ length strip.now)
-        × (start + p.vertices ≤ room) × TablesReady work.old ids.old buckets room old.vertices start }
-    ensures polygon { PolygonDone frame.bb_min frame.bb_size work.old work.new ids.old ids.new buckets room old start
+        × (start + p.vertices ≤ room) × TablesReady work.old ids.old buckets room tables.old.vertices start }
+    ensures polygon { PolygonDone frame.bb_min frame.bb_size work.old work.new ids.old ids.new buckets room tables.old tables.new start
         (polygon_of strip.now p) result }
-    ensures pushed { IfOk result (λ after. after.pushed ≡ pushed_in frame.bb_min frame.bb_size (polygon_of strip.now p).vertices) }
+    ensures pushed { IfOk result (λ pushed. pushed ≡ pushed_in frame.bb_min frame.bb_size (polygon_of strip.now p).vertices) }
 {
     check_run(p.vertices, start)?;
-    let done = decide_vertices(strip, p, frame, work, ids, buckets, room, start, old)?;
+    let pushed = decide_vertices(strip, p, frame, work, ids, buckets, room, start, tables)?;
     if 7 < p.links {
         return Err(Reason::ManyLinksOfPolygon);
     }
-    Ok(done)
+    Ok(pushed)
 }
 
 // 12, 13: of a polygon with so many vertices, whose run begins at `start`.
@@ -84,16 +84,25 @@ pub fn decide_polygons(
     let mut pushed = 0;
     for i in 0..n {
         let p = strip::poly_at(strip, at);
-        let run = decide_polygon(strip, p, frame, work, ids, buckets, room, start, tables);
+        let run = decide_polygon(
+            strip,
+            p,
+            frame,
+            work,
+            ids,
+            buckets,
+            room,
+            start,
+            &mut tables,
+        );
         // A match and no map_err: with a closure the loop's goals would speak of a counter that it borrows.
-        let done = match run {
-            Ok(done) => done,
+        let outside = match run {
+            Ok(outside) => outside,
             Err(reason) => return Err(Refusal { reason, place: i }),
         };
-        tables = done.tables;
         start += p.vertices;
         links += p.links;
-        pushed += done.pushed;
+        pushed += outside;
         at = p.next;
     }
     Ok(Decided {

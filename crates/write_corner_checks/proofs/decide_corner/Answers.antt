@@ -7,13 +7,13 @@ use Rattle.write_corner_checks.proofs.decide_corner.Goals as goal
 pub returns-in_default : goal.returns-in_default
 returns-in_default c = corner_no_vertex _ _ _ _ _ _ _ _ _ _ c.requires.0 c.requires.1 _ c.vertex_index.ensures c.in_default.is
 
-pub returns-in_err-areas : goal.returns-in_err-areas
-returns-in_err-areas c =
+pub returns-in_err-tables : goal.returns-in_err-tables
+returns-in_err-tables c =
     let p = err_from_is_err_and c.from_residual.result c.from_residual.ensures.1 in
-    rw (p.1, p.2) (corner_no_area _ _ _ _ _ _ _ _ _ _ c.requires.0 c.requires.1 _ c.vertex_index.ensures _ c.in-Some.is _ _ c.ensure_edge.ensures _ c.in_err-areas.was)
+    rw (p.1, p.2) (corner_no_area _ _ _ _ _ _ _ _ _ _ c.requires.0 c.requires.1 _ c.vertex_index.ensures _ c.in-Some.is _ _ c.ensure_edge.ensures _ c.in_err-tables.was)
 
 pub overflow_cast-work : goal.overflow_cast-work
-overflow_cast-work c = omega (arith, number_le _ _ _ _ _ c.args.old _ _ 0 0 c.requires.0 c.requires.1 _ c.vertex_index.ensures _ c.in-Some.is)
+overflow_cast-work c = omega (arith, number_le _ _ _ _ _ c.args.tables.now _ _ 0 0 c.requires.0 c.requires.1 _ c.vertex_index.ensures _ c.in-Some.is)
 
 pub returns : goal.returns
-returns c = corner_fine _ _ _ _ _ _ _ _ _ _ c.requires.0 c.requires.1 _ c.vertex_index.ensures _ c.in-Some.is _ _ c.ensure_edge.ensures _ c.in_ok-areas.was
+returns c = corner_fine _ _ _ _ _ _ _ _ _ _ c.requires.0 c.requires.1 _ c.vertex_index.ensures _ c.in-Some.is _ _ c.ensure_edge.ensures _ c.in_ok-tables.was

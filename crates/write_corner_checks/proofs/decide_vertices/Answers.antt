@@ -24,13 +24,13 @@ area_at-b-requires c = λ h. omega (arith, c.requires.1)
 pub decide_corner-requires : goal.decide_corner-requires
 decide_corner-requires c = (c.loop-i.invariant.0.ready, omega (arith, c.loop-i-test.true, c.requires.2), c.vertex_at-vertex.ensures.below)
 
-pub returns-in_err-tables : goal.returns-in_err-tables
+pub returns-in_err-decide_corner : goal.returns-in_err-decide_corner
 unfolding polygon_of
-returns-in_err-tables c =
+returns-in_err-decide_corner c =
     let p = err_from_is_err_and c.from_residual.result c.from_residual.ensures.1 in
     rw (p.1, p.2)
     (record {
-      corners = stop _ _ _ _ _ _ _ _ _ _ _ _ _ _ _ _ _ _ _ _ _ _ c.loop-i.invariant.0 c.loop-i-test.true c.vertex_at-vertex.ensures.triple (area_of _ _ _ _ c.area_at-a.ensures (omega arith) (omega arith)) (area_of _ _ _ _ c.area_at-b.ensures (omega arith) (omega arith)) _ c.decide_corner.ensures _ c.in_err-tables.was;
+      corners = stop _ _ _ _ _ _ _ _ _ _ _ _ _ _ _ _ _ _ _ _ _ _ _ c.loop-i.invariant.0 c.loop-i-test.true c.vertex_at-vertex.ensures.triple (area_of _ _ _ _ c.area_at-a.ensures (omega arith) (omega arith)) (area_of _ _ _ _ c.area_at-b.ensures (omega arith) (omega arith)) _ c.decide_corner.ensures _ c.in_err-decide_corner.was;
       pushed = tt;
     })
 
@@ -42,7 +42,7 @@ loop-i-preserved c =
     let a = c.args in
     let v : a.p.vertex_at + 3 * c.loop-i.i + 3 ≡ a.p.vertex_at + 3 * (c.loop-i.i + 1) = omega arith in
     let turn = rw v at (vertices_turn a.frame.bb_min a.frame.bb_size a.strip.now (a.p.vertex_at + 3 * c.loop-i.i) a.p.vertices c.loop-i.i c.loop-i-test.true) in (
-      again _ _ _ _ _ _ _ _ _ _ _ _ _ _ _ _ _ _ _ _ _ _ c.loop-i.invariant.0 c.loop-i-test.true c.vertex_at-vertex.ensures.triple (area_of _ _ _ _ c.area_at-a.ensures (omega arith) (omega arith)) (area_of _ _ _ _ c.area_at-b.ensures (omega arith) (omega arith)) _ c.decide_corner.ensures _ c.in_ok-tables.was,
+      again _ _ _ _ _ _ _ _ _ _ _ _ _ _ _ _ _ _ _ _ _ _ _ c.loop-i.invariant.0 c.loop-i-test.true c.vertex_at-vertex.ensures.triple (area_of _ _ _ _ c.area_at-a.ensures (omega arith) (omega arith)) (area_of _ _ _ _ c.area_at-b.ensures (omega arith) (omega arith)) _ c.decide_corner.ensures _ c.in_ok-decide_corner.was,
       omega (arith, c.loop-i.invariant.1, c.vertex_at-vertex.ensures.bound),
       omega (arith, c.loop-i.invariant.2, turn, c.vertex_at-vertex.ensures.outside),
     )

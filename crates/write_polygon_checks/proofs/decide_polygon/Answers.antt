@@ -21,21 +21,21 @@ pub returns-in_err-check_run : goal.returns-in_err-check_run
 returns-in_err-check_run c =
     let q = polygon_of c.args.strip.now c.args.p in
     let p = err_from_is_err_and c.from_residual.result c.from_residual.ensures.1 in
-    rw (p.1, p.2) (record { polygon = bad_run _ _ _ _ _ _ _ _ q _ (run (goal.at.returns-in_err-check_run c).After-check_run) _ c.in_err-check_run.was; pushed = tt })
+    rw (p.1, p.2) (record { polygon = bad_run _ _ _ _ _ _ _ _ q _ (run (goal.at.returns-in_err-check_run c).After-check_run) c.requires.3 _ c.in_err-check_run.was; pushed = tt })
 
-pub returns-in_err-done : goal.returns-in_err-done
-returns-in_err-done c =
+pub returns-in_err-pushed : goal.returns-in_err-pushed
+returns-in_err-pushed c =
     let q = polygon_of c.args.strip.now c.args.p in
-    let p = err_from_is_err_and c.from_residual-in_err-done.result c.from_residual-in_err-done.ensures.1 in
-    let here = (goal.at.returns-in_err-done c).After-check_run in
-    rw (p.1, p.2) (record { polygon = bad_corner _ _ _ _ _ _ _ _ q _ (run here) _ c.in_ok-check_run.was (room here) _ _ _ c.decide_vertices.ensures.corners _ c.in_err-done.was; pushed = tt })
+    let p = err_from_is_err_and c.from_residual-in_err-pushed.result c.from_residual-in_err-pushed.ensures.1 in
+    let here = (goal.at.returns-in_err-pushed c).After-check_run in
+    rw (p.1, p.2) (record { polygon = bad_corner _ _ _ _ _ _ _ _ q _ (run here) _ c.in_ok-check_run.was (room here) _ _ _ _ c.decide_vertices.ensures.corners _ c.in_err-pushed.was; pushed = tt })
 
 pub returns-then-p-gt7 : goal.returns-then-p-gt7
 returns-then-p-gt7 c =
     let q = polygon_of c.args.strip.now c.args.p in
     let here = (goal.at.returns-then-p-gt7 c).After-check_run in
     record {
-      polygon = many_links _ _ _ _ _ _ _ _ q _ (run here) _ c.in_ok-check_run.was (room here) _ _ _ c.decide_vertices.ensures.corners _ c.in_ok-done.was (omega (arith, link_count c.args.strip.now c.args.p, c.if-p-gt7.true));
+      polygon = many_links _ _ _ _ _ _ _ _ q _ (run here) _ c.in_ok-check_run.was (room here) _ _ _ _ c.decide_vertices.ensures.corners _ c.in_ok-pushed.was (omega (arith, link_count c.args.strip.now c.args.p, c.if-p-gt7.true));
       pushed = tt;
     }
 
@@ -44,6 +44,6 @@ returns c =
     let q = polygon_of c.args.strip.now c.args.p in
     let here = (goal.at.returns c).After-check_run in
     record {
-      polygon = polygon_fine _ _ _ _ _ _ _ _ q _ (run here) _ c.in_ok-check_run.was (room here) _ _ _ c.decide_vertices.ensures.corners _ c.in_ok-done.was (omega (arith, link_count c.args.strip.now c.args.p, c.if-p-gt7.false));
-      pushed = c.in_ok-done.ensures.pushed;
+      polygon = polygon_fine _ _ _ _ _ _ _ _ q _ (run here) _ c.in_ok-check_run.was (room here) _ _ _ _ c.decide_vertices.ensures.corners _ c.in_ok-pushed.was (omega (arith, link_count c.args.strip.now c.args.p, c.if-p-gt7.false));
+      pushed = c.in_ok-pushed.ensures.pushed;
     }
