@@ -2,12 +2,9 @@
 // rest of `answer` as it was.
 #![tactic(auto)]
 
-ghost use Rattle.strip.specs.Reasons.{reason_number};
 ghost use Rattle.std.specs.Prelude.{◌≡◌, [], ◌∷◌, get_or};
 ghost use Rattle.fields.specs.Bytes.{over};
 ghost use Rattle.answers.specs.Words.{filled};
-
-use strip::Refusal;
 
 // Value k, and 0 behind the last.
 fn value_at(values: &[u64], k: usize) -> u64
@@ -33,10 +30,10 @@ pub fn accept(answer: &mut [u64; 8], values: &[u64]) -> u32
 }
 
 // Stores a refusal's place, and returns its number.
-pub fn refuse(answer: &mut [u64; 8], refusal: Refusal) -> u32
-    ensures number { result ≡ reason_number refusal.reason }
-    ensures words { answer.new ≡ over (refusal.place ∷ []) answer.old }
+pub fn refuse(answer: &mut [u64; 8], number: u32, place: usize) -> u32
+    ensures number { result ≡ number }
+    ensures words { answer.new ≡ over (place ∷ []) answer.old }
 {
-    answer[0] = refusal.place as u64;
-    u32::from(refusal.reason)
+    answer[0] = place as u64;
+    number
 }

@@ -107,6 +107,6 @@ pub fn bounds_entry(cx: u32, cy: u32, answer: &mut [u64; 8]) -> u32
                 math::num::bits_of_float(b.y1) as u64,
             ],
         ),
-        Err(r) => refuse(answer, r),
+        Err(r) => refuse(answer, u32::from(r.reason), r.place),
     }
 }

@@ -18,6 +18,6 @@ pub fn obj_entry(strip: &[u32], text: &mut [u8], answer: &mut [u64; 8]) -> u32
 {
     match obj::export_obj(strip, text) {
         Ok(n) => accept(answer, &[n as u64]),
-        Err(r) => refuse(answer, r),
+        Err(r) => refuse(answer, u32::from(r.reason), r.place),
     }
 }

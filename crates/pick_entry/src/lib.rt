@@ -18,7 +18,7 @@ pub fn pick_entry(strip: &[u32], x: u16, y: u16, answer: &mut [u64; 8]) -> u32
     match picking::pick_poly(strip, x, y) {
         Ok(Some(n)) => accept(answer, &[1, n as u64]),
         Ok(None) => accept(answer, &[0]),
-        Err(r) => refuse(answer, r),
+        Err(r) => refuse(answer, u32::from(r.reason), r.place),
     }
 }
 
@@ -29,6 +29,6 @@ pub fn spot_entry(strip: &[u32], x: f32, y: f32, answer: &mut [u64; 8]) -> u32
 {
     match picking::spot_for_position(strip, x, y) {
         Ok(s) => accept(answer, &[s.x as u64, s.y as u64]),
-        Err(r) => refuse(answer, r),
+        Err(r) => refuse(answer, u32::from(r.reason), r.place),
     }
 }

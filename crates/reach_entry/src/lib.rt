@@ -18,6 +18,6 @@ pub fn reach_entry(strip: &[u32], start: u64, marks: &mut [u8], answer: &mut [u6
 {
     match reach::reachable(strip, start as usize, marks) {
         Ok(n) => accept(answer, &[n as u64]),
-        Err(r) => refuse(answer, r),
+        Err(r) => refuse(answer, u32::from(r.reason), r.place),
     }
 }

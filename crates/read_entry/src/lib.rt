@@ -32,6 +32,6 @@ pub fn parse_entry<'a>(
                 p.sectors as u64,
             ],
         ),
-        Err(r) => refuse(answer, r),
+        Err(r) => refuse(answer, u32::from(r.reason), r.place),
     }
 }

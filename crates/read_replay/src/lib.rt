@@ -4,14 +4,13 @@
 // zeros; the two sections, each padded to whole words; and the words of an accepted cell. The first word that isn't 7 ends the list.
 #![tactic(auto)]
 
-ghost use Rattle.strip.specs.Outcome.{paper};
 ghost use Rattle.std.specs.Prelude.{◌≡◌, true, ℕ, ◌+◌, ◌*◌, ◌^◌, ◌≤◌, ◌<◌, length, get_or};
+ghost use Rattle.replay.specs.Told.{told_paper};
 ghost use Rattle.read_replay.specs.Agreement.{expected, expected_counts, told_word, told_words, record_of, ReadRecordInside};
 
 use fields::u32_le;
 use read_decide::Parsed;
-use replay::{end_of, padded, refusal_agrees};
-use strip::Refusal;
+use replay::{ToldRefusal, end_of, padded, refusal_agrees};
 
 // Where the sections of a record begin and end, its strip begins, and the next record.
 #[derive(Clone, Copy)]
@@ -72,9 +71,9 @@ fn counts_agree(bytes: &[u8], at: usize, p: Parsed) -> bool
 }
 
 // Whether an answer is what the record says.
-pub fn answer_agrees(bytes: &[u8], at: usize, a: Result<Parsed, Refusal>) -> bool
+pub fn answer_agrees(bytes: &[u8], at: usize, a: Result<Parsed, ToldRefusal>) -> bool
     requires { at + 40 ≤ length bytes.now }
-    ensures { result ≡ true → paper a ≡ expected bytes.now at }
+    ensures { result ≡ true → told_paper a ≡ expected bytes.now at }
 {
     match a {
         Ok(p) => u32_le(bytes, at + 16) == 0 && counts_agree(bytes, at, p),

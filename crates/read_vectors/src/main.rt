@@ -10,7 +10,7 @@ ghost use Rattle.read_replay.specs.Agreement.{untouched_words, outcome_of, strip
 use fields::u32_le;
 use read_decide::Parsed;
 use read_replay::{Record, answer_agrees, record_at, words_agree};
-use replay::{Tally, asked, print_first, print_number, print_tally, read_full, tallied};
+use replay::{Tally, as_told, asked, print_first, print_number, print_tally, read_full, tallied};
 use std::io;
 use strip::Refusal;
 
@@ -49,7 +49,7 @@ fn agrees(bytes: &[u8], at: usize, r: Record) -> bool
     let next = r.next;
     let mut strip = untouched();
     let a = read_record(bytes, at, r, &mut strip);
-    if answer_agrees(bytes, at, a) {
+    if answer_agrees(bytes, at, as_told(a)) {
         return words_agree(&bytes[words..next], &strip);
     }
     false

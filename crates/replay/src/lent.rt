@@ -12,7 +12,7 @@ pub fn untouched<const N: usize>() -> [u8; N]
     [0xD1; N]
 }
 
-// Whether a call gave the number and the first word told, and left the bytes told. A byte that no word tells is as it was.
+// Whether a call gave the number and the first word told, and left the bytes told, as far as whole words go. A byte there that no word tells is as it was.
 pub fn lent_agrees(output: &[u32], number: u32, first: u64, bytes: &[u8]) -> bool
     ensures number { result ≡ true → number ≡ get_or output.now 0 0 }
     ensures first { result ≡ true → first ≡ get_or output.now 1 0 }

@@ -1,9 +1,11 @@
 // What the programs that replay the oracle's lists share: where the parts of a record end, the tally of the records, how the list is read, and the lines that are printed.
 #![tactic(auto)]
 
+ghost use Rattle.strip.specs.Outcome.{paper};
 ghost use Rattle.strip.specs.Reasons.{reason_number};
 ghost use Rattle.std.specs.Prelude.{◌≡◌, true, false, ◌+◌, ◌≤◌, ◌<◌, length, get_or, IfOk};
 ghost use Rattle.replay.specs.Ends.{record_end, padded};
+ghost use Rattle.replay.specs.Told.{told_paper};
 ghost use Rattle.replay.specs.Tallies.{Tallied, Within, counting};
 
 pub mod lent;
@@ -69,11 +71,36 @@ pub fn asked(number: u32, low: u32, high: u32) -> bool
     (low..=high).contains(&number)
 }
 
-// Whether a refusal is the one that a record tells by its number and place. The number 0 tells none.
-pub fn refusal_agrees(r: Refusal, number: u32, place: u32) -> bool
-    ensures { result ≡ true → (number ≡ 0 → ⊥) × (reason_number r.reason ≡ number) × (r.place ≡ place) }
+// A refusal as a list tells it: by its number, whichever that is, and its place.
+#[derive(Clone, Copy, Debug, PartialEq, Eq)]
+pub struct ToldRefusal {
+    pub number: u32,
+    pub place: usize,
+}
+
+impl From<Refusal> for ToldRefusal {
+    ghost from_gives = { λ refusal r. r ≡ record { number = reason_number refusal.reason; place = refusal.place } };
+
+    fn from(refusal: Refusal) -> ToldRefusal {
+        ToldRefusal {
+            number: u32::from(refusal.reason),
+            place: refusal.place,
+        }
+    }
+}
+
+// What a call answers, as a list tells it.
+pub fn as_told<A>(answer: Result<A, Refusal>) -> Result<A, ToldRefusal>
+    ensures { told_paper result ≡ paper answer }
 {
-    number != 0 && u32::from(r.reason) == number && r.place == place as usize
+    answer.map_err(ToldRefusal::from)
+}
+
+// Whether a refusal is the one that a record tells by its number and place. The number 0 tells none.
+pub fn refusal_agrees(r: ToldRefusal, number: u32, place: u32) -> bool
+    ensures { result ≡ true → (number ≡ 0 → ⊥) × (r.number ≡ number) × (r.place ≡ place) }
+{
+    number != 0 && r.number == number && r.place == place as usize
 }
 
 // Reads until the buffer is full or the input ends, and answers how many bytes it put at the start of the buffer.

@@ -97,6 +97,6 @@ pub fn seams_entry(strip: &[u32], answer: &mut [u64; 8]) -> u32
 {
     match count_seams(strip) {
         Ok(n) => accept(answer, &[n]),
-        Err(r) => refuse(answer, r),
+        Err(r) => refuse(answer, u32::from(r.reason), r.place),
     }
 }

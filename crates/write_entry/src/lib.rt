@@ -33,6 +33,6 @@ pub fn serialize_entry(
                 w.pushed as u64,
             ],
         ),
-        Err(r) => refuse(answer, r),
+        Err(r) => refuse(answer, u32::from(r.reason), r.place),
     }
 }

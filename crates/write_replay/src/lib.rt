@@ -8,12 +8,12 @@
 
 ghost use Rattle.std.specs.Prelude.{◌≡◌, true, ◌+◌, ◌≤◌, eqb, length};
 ghost use Rattle.fields.specs.Bytes.{le_at};
-ghost use Rattle.strip.specs.Outcome.{values, paper};
+ghost use Rattle.strip.specs.Outcome.{values};
+ghost use Rattle.replay.specs.Told.{told_paper};
 ghost use Rattle.write_replay.specs.Agreement.{expected, expected_length, checksum, SameBytes, Untouched, PagesAgree, record_of, WriteRecordInside};
 
 use fields::u32_le;
-use replay::{end_of, padded, refusal_agrees};
-use strip::Refusal;
+use replay::{ToldRefusal, end_of, padded, refusal_agrees};
 use ynv_write::Written;
 
 // Where the runs of a record begin, the bytes expected begin and end, and the next record begins.
@@ -66,9 +66,9 @@ fn values_agree(list: &[u8], at: usize, w: Written) -> bool
 }
 
 // Whether an answer is what the record says.
-pub fn answer_agrees(list: &[u8], at: usize, a: Result<Written, Refusal>) -> bool
+pub fn answer_agrees(list: &[u8], at: usize, a: Result<Written, ToldRefusal>) -> bool
     requires { at + 60 ≤ length list.now }
-    ensures { result ≡ true → paper a ≡ expected list.now at }
+    ensures { result ≡ true → told_paper a ≡ expected list.now at }
 {
     match a {
         Ok(w) => values_agree(list, at, w),

@@ -8,7 +8,7 @@ ghost use Rattle.replay.specs.Tallies.{Tallied, Step};
 ghost use Rattle.write_replay.specs.Agreement.{untouched_bytes, outcome_of, pages_of, Agrees, Asked, TallyOf, WriteRecordInside};
 
 use fields::u32_le;
-use replay::{Tally, asked, print_first, print_number, print_tally, read_full, tallied};
+use replay::{Tally, as_told, asked, print_first, print_number, print_tally, read_full, tallied};
 use std::io;
 use strip::Refusal;
 use write_replay::{Record, answer_agrees, pages_agree, record_at};
@@ -59,7 +59,7 @@ fn agrees(list: &[u8], at: usize, r: Record) -> bool
     let words = make_strip(&list[runs..bytes], &mut strip);
     let mut pages = untouched();
     let a = write_record(list, at, &strip[..words], &mut pages);
-    if answer_agrees(list, at, a) {
+    if answer_agrees(list, at, as_told(a)) {
         return pages_agree(list, at, r, &pages);
     }
     false

@@ -3,9 +3,5 @@ use mathlib.Core.List.{[], ◌∷◌}
 use Rattle.answers.proofs.Stores.{stored_first}
 use Rattle.answers.proofs.refuse.Goals as goal
 
-pub returns : goal.returns
-returns c =
-    let a = c.args in record {
-      number = c.from.ensures;
-      words = stored_first (a.refusal.place ∷ []) a.answer.now;
-    }
+pub returns-clause-words : goal.returns-clause-words
+returns-clause-words c = stored_first (c.args.place ∷ []) c.args.answer.now

@@ -11,4 +11,4 @@ returns-in-Ok c =
     (rw (c.bits_of_float.ensures, c.bits_of_float-in-Ok.ensures, c.bits_of_float-in-Ok-2.ensures, c.bits_of_float-in-Ok-3.ensures) at c.accept.ensures.words) in record { number = w.0; words = w.1 }
 
 pub returns-in-Err : goal.returns-in-Err
-returns-in-Err c = let w = answers bounds_words (sym (ap paper c.in-Err.is) ∙ c.cell_bounds.ensures) c.args.answer.now c.refuse.ensures.number c.refuse.ensures.words in record { number = w.0; words = w.1 }
+returns-in-Err c = let w = answers bounds_words (sym (ap paper c.in-Err.is) ∙ c.cell_bounds.ensures) c.args.answer.now (c.refuse.ensures.number ∙ c.from.ensures) c.refuse.ensures.words in record { number = w.0; words = w.1 }

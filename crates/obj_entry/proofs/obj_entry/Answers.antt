@@ -18,7 +18,7 @@ returns-in-Ok c =
 pub returns-in-Err : goal.returns-in-Err
 returns-in-Err c =
     let said = sym (ap paper c.in-Err.is) ∙ c.export_obj.ensures.answer in
-    let a = answers obj_words said c.args.answer.now c.refuse.ensures.number c.refuse.ensures.words in
+    let a = answers obj_words said c.args.answer.now (c.refuse.ensures.number ∙ c.from.ensures) c.refuse.ensures.words in
     record {
       number = a.0;
       words = a.1;

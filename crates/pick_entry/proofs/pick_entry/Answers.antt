@@ -12,4 +12,4 @@ pub returns-in-Ok-None : goal.returns-in-Ok-None
 returns-in-Ok-None c = let w = answers found_words (rw c.in-Ok-None.field-0-is at c.in-Ok-None.ensures) c.args.answer.now c.accept-in-Ok-None.ensures.number c.accept-in-Ok-None.ensures.words in record { number = w.0; words = w.1 }
 
 pub returns-in-Err : goal.returns-in-Err
-returns-in-Err c = let w = answers found_words (sym (ap paper c.in-Err.is) ∙ c.pick_poly.ensures) c.args.answer.now c.refuse.ensures.number c.refuse.ensures.words in record { number = w.0; words = w.1 }
+returns-in-Err c = let w = answers found_words (sym (ap paper c.in-Err.is) ∙ c.pick_poly.ensures) c.args.answer.now (c.refuse.ensures.number ∙ c.from.ensures) c.refuse.ensures.words in record { number = w.0; words = w.1 }

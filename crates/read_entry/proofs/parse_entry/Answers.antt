@@ -20,7 +20,7 @@ pub returns-in-Err : goal.returns-in-Err
 returns-in-Err c =
     let call = c.parse_ynv in
     let told = sym (ap paper c.in-Err.is) ∙ call.ensures.answer in
-    let a = answers parsed_words told c.args.answer.now c.refuse.ensures.number c.refuse.ensures.words in
+    let a = answers parsed_words told c.args.answer.now (c.refuse.ensures.number ∙ c.from.ensures) c.refuse.ensures.words in
     record {
       number = a.0;
       words = a.1;
