@@ -9,6 +9,10 @@ use Rattle.strip.specs.Reading.{half_at, edges_at, items_at}
 use Rattle.strip.specs.Tests.{one_if}
 use Rattle.seams.specs.Seams.{edge_count}
 
+-- whether a half is counted depends on where it stands
+pub half_at_lem : (test : NavEdgeEnd → Bool) (s : List ℕ) (at : ℕ) {place r : ℕ} → r ≡ one_if (test (half_at s place)) → place ≡ at → r ≡ one_if (test (half_at s at))
+half_at_lem test s at e f = rw f at e
+
 module _ (test : NavEdgeEnd → Bool) (s : List ℕ) (at : ℕ) where
   -- the test of half number i, and how many of the n halves from there on pass it
   abbrev pub half_test : ℕ → ℕ

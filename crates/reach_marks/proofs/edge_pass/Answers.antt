@@ -15,7 +15,7 @@ loop-i-init c =
 pub loop-i-preserved : goal.loop-i-preserved
 loop-i-preserved c =
     let l = c.loop-i in
-    (search rules, edge_turn _ _ _ _ _ c.loop-i-test.true _ _ _ _ l.invariant.1 c.half_pass.ensures c.half_pass-in-loop-i.ensures)
+    (search rules, edge_turn c.args.strip.now _ c.args.at _ _ c.loop-i-test.true l.marks _ _ _ _ l.invariant.1 c.half_pass.ensures c.half_pass-in-loop-i.ensures (omega arith))
 
 pub returns : goal.returns
 returns c = sym (c.loop-i.invariant.1 ∙ edges_done _ _ _ _ _ c.loop-i-test.false _)

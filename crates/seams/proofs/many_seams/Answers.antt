@@ -6,6 +6,7 @@ use native.Mathlib.Omega.{arith}
 use Rattle.strip.specs.Reading.{nav_edge_at}
 use Rattle.strip.proofs.Steps.{items_turn, items_done}
 use Rattle.seams.specs.Seams.{counted, edge_count}
+use Rattle.seams.proofs.Row.{half_at_lem}
 use Rattle.seams.proofs.many_seams.Goals as goal
 
 pub loop-i-init : goal.loop-i-init
@@ -20,7 +21,9 @@ loop-i-preserved c =
     let l = c.loop-i in
     let t = ap (edge_count (counted a.own)) (items_turn (nav_edge_at a.strip.now) (λ x. x + 6) (a.at + 6 * l.i) l.i a.n c.loop-i-test.true) in
     let next : a.at + 6 * (l.i + 1) ≡ a.at + 6 * l.i + 6 = omega arith in
-    (rw next (omega (arith, t, c.half_seams-count.ensures.count, c.half_seams-count-in-loop-i.ensures.count)), omega arith)
+    let first = half_at_lem (counted a.own) a.strip.now (a.at + 6 * l.i) c.half_seams-count.ensures.count (omega arith) in
+    let second = half_at_lem (counted a.own) a.strip.now (a.at + 6 * l.i + 3) c.half_seams-count-in-loop-i.ensures.count (omega arith) in
+    (rw next (omega (arith, t, first, second)), omega arith)
 
 pub returns : goal.returns
 unfolding edge_count
