@@ -1,7 +1,7 @@
 // Whether a strip is well formed: record by record, in order, with the counts of what it holds or the place where it is bad.
 #![tactic(auto)]
 
-ghost use Rattle.std.specs.Prelude.{◌≡◌, ◌+◌, ◌*◌, ◌≤◌, ◌<◌, MatchResult, IsTrue, false, length};
+ghost use Rattle.std.specs.Prelude.{◌≡◌, ◌+◌, ◌*◌, ◌≤◌, ◌<◌, MatchResult, IsTrue, Err, false, length};
 ghost use Rattle.strip.specs.Scan.{first_good, all_below, edges_fit, poly_fits, cell_record, polygon_record, portal_record, point_record, end_record, record_at};
 ghost use Rattle.strip.specs.Outcome.{shown, paper};
 ghost use Rattle.strip.specs.Checked.{strip_outcome};
@@ -61,11 +61,20 @@ fn first_good(w: u32, rank: u32, low: u32, high: u32, limit: u32) -> bool
     low <= rank && rank <= high && w % 268435456 < limit
 }
 
+// The strip is bad at `place`. It is never put into its caller: as short as `Ok` is, the compiler would take the two for one value, and look a second time
+// at the kind of each record.
+#[inline(never)]
+fn bad(place: usize) -> Result<(), usize>
+    ensures { result ≡ Err place }
+{
+    Err(place)
+}
+
 // Where a test isn't passed the strip is bad at `place`.
 fn check(passed: bool, place: usize) -> Result<(), usize>
     ensures { MatchResult result (λ _. IsTrue passed) (λ p. (passed ≡ false) × (p ≡ place)) }
 {
-    if passed { Ok(()) } else { Err(place) }
+    if passed { Ok(()) } else { bad(place) }
 }
 
 // The record at `at`, for each kind, or the place where the strip is bad: its first word is judged, then whether all its words are there, then the rest.
