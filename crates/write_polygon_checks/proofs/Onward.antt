@@ -30,7 +30,7 @@ use Rattle.write_pages.proofs.Placed.{length_corners}
 use Rattle.write_pages.proofs.Accepted.{or_false, triples_append, named_append}
 use Rattle.write_pages.proofs.Firsts.{passed, first_none, first_some, first_last, first_two, at_none}
 use Rattle.write_corner_checks.specs.Steps.{HasFault, TablesReady, Added, CornersDone, behind_table}
-use Rattle.write_polygon_checks.specs.Steps.{run_fault, PolygonDone, PolygonsDone}
+use Rattle.write_polygon_checks.specs.Steps.{run_fault, PolygonDone, PolygonJudged, PolygonsDone}
 use Rattle.write_corner_checks.specs.declared.Tables.{Tables}
 use Rattle.write_polygon_checks.specs.declared.Decided.{Decided}
 use Rattle.write_corner_checks.proofs.Faults.{not_ok, passes, passed_none, refuses, refused_some}
@@ -58,16 +58,29 @@ module _ (bb-min bb-size : Floats) (w ids : List ℕ) (b m : ℕ) (t : Tables) (
   in_order = first_two _ _ _
 
   module _ {A : Type 0} (f : Result A Reason) (ef : HasFault f (run_fault (length q.vertices) start)) where
-    -- nothing was touched
-    pub bad_run : TablesReady w ids b m t.vertices start → (e : Reason) → f ≡ Err e → PolygonDone bb-min bb-size w w ids ids b m t t start q (Err e)
-    bad_run as_before e er = record {
+    -- nothing was touched, whatever the tables hold
+    pub bad_run : (e : Reason) → f ≡ Err e → PolygonJudged bb-min bb-size w w ids ids b m t t start q (Err e)
+    bad_run e er = record {
       fault = λ place rest. (rw er at (ef place rest)) ∙ ap (λ (k : ℕ). at place k rest) (sym (in_order ∙ first_some _ _ (refused_some f _ ef e er).1));
       long = refl;
       back = refl;
-      ready = later w ids b m t.vertices start (start + length q.vertices) (omega arith) as_before;
+      ready = λ ok. absurd (false≢true ok);
       least = λ ok. absurd (false≢true ok);
       added = λ ok. absurd (false≢true ok);
     }
+
+    -- and tables that were ready are
+    pub bad_run_ready : TablesReady w ids b m t.vertices start → (e : Reason) → f ≡ Err e → PolygonDone bb-min bb-size w w ids ids b m t t start q (Err e)
+    bad_run_ready as_before e er =
+        let said = bad_run e er in
+        record {
+          fault = said.fault;
+          long = said.long;
+          back = said.back;
+          ready = later w ids b m t.vertices start (start + length q.vertices) (omega arith) as_before;
+          least = said.least;
+          added = said.added;
+        }
 
     module _ (a : A) (good : f ≡ Ok a) (room : start + length q.vertices ≤ m) (w' ids' : List ℕ) (t' : Tables) (r : Result ℕ Reason) (d : CornersDone w w' ids ids' b m t t' start (corners_in bb-min bb-size q) r) where
       from_corners : polygon_fault bb-min bb-size (met w b t.vertices) (take t.areas ids) start q
@@ -118,6 +131,10 @@ module _ (bb-min bb-size : Floats) (w ids : List ℕ) (b m : ℕ) (t : Tables) (
           added = λ ok. d.added (rw none refl);
         }
 
+pub judged : {bb-min bb-size : Floats} {w w' ids ids' : List ℕ} {b m : ℕ} {t t' : Tables} {start : ℕ} {p : NavPoly} {r : Result ℕ Reason}
+    → PolygonDone bb-min bb-size w w' ids ids' b m t t' start p r → PolygonJudged bb-min bb-size w w' ids ids' b m t t' start p r
+judged d = record { fault = d.fault; long = d.long; back = d.back; ready = λ ok. d.ready; least = d.least; added = d.added }
+
 -- ---- all polygons
 
 module _ (bb-min bb-size : Floats) (w ids : List ℕ) (b m : ℕ) (t : Tables) (start k l : ℕ) where
@@ -139,7 +156,7 @@ module _ (bb-min bb-size : Floats) (w ids : List ℕ) (b m : ℕ) (t : Tables) (
         added = λ d z. rw (← same d z) (nothing_added w ids b m t start);
       }
 
-  module _ (w' ids' : List ℕ) (t' : Tables) (p : NavPoly) (ps : List NavPoly) (r : Result ℕ Reason) (d : PolygonDone bb-min bb-size w w' ids ids' b m t t' start p r) where
+  module _ (w' ids' : List ℕ) (t' : Tables) (p : NavPoly) (ps : List NavPoly) (r : Result ℕ Reason) (d : PolygonJudged bb-min bb-size w w' ids ids' b m t t' start p r) where
     stopped : (e : Reason) → r ≡ Err e → PolygonsDone bb-min bb-size w w' ids ids' b m t start k l (p ∷ ps) (Err (record { reason = e; place = k }))
     unfolding polygons_verdict
     stopped e er = record {
@@ -202,7 +219,7 @@ module _ (s : List ℕ) (bb-min bb-size : Floats) (n b m : ℕ) (t₀ : Tables) 
     pub next_in : p.next ≤ length s
     next_in = next_inside s at i n (length s) h g.inside p e
 
-    module _ (w' ids' : List ℕ) (t' : Tables) (r : Result ℕ Reason) (d : PolygonDone bb-min bb-size w w' ids ids' b m t t' start (polygon_of s p) r) where
+    module _ (w' ids' : List ℕ) (t' : Tables) (r : Result ℕ Reason) (d : PolygonJudged bb-min bb-size w w' ids ids' b m t t' start (polygon_of s p) r) where
       pub stop : (q : Reason) → r ≡ Err q
           → PolygonsDone bb-min bb-size w₀ w' ids₀ ids' b m t₀ 0 0 0 (polygons_at s 14 n) (Err (record { reason = q; place = i }))
       stop q er = g.rest w' ids' _ (rw (polygons_turn s at i n h p e) (stopped bb-min bb-size w ids b m t start i l w' ids' t' (polygon_of s p) _ r d q er))
@@ -216,7 +233,7 @@ module _ (s : List ℕ) (bb-min bb-size : Floats) (n b m : ℕ) (t₀ : Tables) 
             inside = omega (arith, after_polygon s at i n h p e, g.inside);
             ahead = omega (arith, g.ahead, q);
             links = omega (arith, g.links, q);
-            ready = rw (vertex_count_lem s p) at d.ready;
+            ready = rw (vertex_count_lem s p) at (d.ready (rw none refl));
             long = d.long ∙ g.long;
             rest = λ w'' ids'' o k.
                 g.rest w'' ids'' o

@@ -29,6 +29,15 @@ pub record PolygonDone (bb-min bb-size : Floats) (w w' ids ids' : List ℕ) (b m
   pub least : IsOk r → 3 ≤ length p.vertices
   pub added : IsOk r → Added w w' ids ids' b m t t' start (corners_in bb-min bb-size p)
 
+-- the same, but that nothing is said of the tables after a refusal
+pub record PolygonJudged (bb-min bb-size : Floats) (w w' ids ids' : List ℕ) (b m : ℕ) (t t' : Tables) (start : ℕ) (p : NavPoly) (r : Result ℕ Reason) : Type 0 where
+  pub fault : HasFault r (polygon_fault bb-min bb-size (met w b t.vertices) (take t.areas ids) start p)
+  pub long : length w' ≡ length w
+  pub back : drop m (behind_table w' b m) ≡ drop m (behind_table w b m)
+  pub ready : IsOk r → TablesReady w' ids' b m t'.vertices (start + length p.vertices)
+  pub least : IsOk r → 3 ≤ length p.vertices
+  pub added : IsOk r → Added w w' ids ids' b m t t' start (corners_in bb-min bb-size p)
+
 -- what an answer says, and then the rest
 abbrev pub says : {A : Type 0} → Result A Refusal → Verdict → Verdict
 says (Ok a) rest = rest

@@ -7,7 +7,7 @@ use Rattle.strip.specs.Reading.{polygon_of}
 use Rattle.write_corner_checks.specs.Steps.{HasFault}
 use Rattle.write_polygon_checks.specs.Steps.{run_fault}
 use Rattle.strip.proofs.Lengths.{vertex_count_lem, link_count}
-use Rattle.write_polygon_checks.proofs.Onward.{bad_run, bad_corner, many_links, polygon_fine}
+use Rattle.write_polygon_checks.proofs.Onward.{bad_run_ready, bad_corner, many_links, polygon_fine}
 use Rattle.write_polygon_checks.proofs.decide_polygon.Goals as goal
 use Rattle.write_polygon_checks.proofs.decide_polygon.Goals.{After-check_run}
 
@@ -21,7 +21,7 @@ pub returns-in_err-check_run : goal.returns-in_err-check_run
 returns-in_err-check_run c =
     let q = polygon_of c.args.strip.now c.args.p in
     let p = err_from_is_err_and c.from_residual.result c.from_residual.ensures.1 in
-    rw (p.1, p.2) (record { polygon = bad_run _ _ _ _ _ _ _ _ q _ (run (goal.at.returns-in_err-check_run c).After-check_run) c.requires.3 _ c.in_err-check_run.was; pushed = tt })
+    rw (p.1, p.2) (record { polygon = bad_run_ready _ _ _ _ _ _ _ _ q _ (run (goal.at.returns-in_err-check_run c).After-check_run) c.requires.3 _ c.in_err-check_run.was; pushed = tt })
 
 pub returns-in_err-pushed : goal.returns-in_err-pushed
 returns-in_err-pushed c =

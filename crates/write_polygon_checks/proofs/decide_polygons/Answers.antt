@@ -4,7 +4,7 @@ use native.Mathlib.Omega.{arith}
 use Rattle.strip.specs.Reading.{poly_at}
 use Rattle.strip.proofs.Steps.{parts}
 use Rattle.pushed.proofs.Sums.{from_none, polygons_turn, polygons_end, few_of_polygon}
-use Rattle.write_polygon_checks.proofs.Onward.{begin, next_in, stop, again, done}
+use Rattle.write_polygon_checks.proofs.Onward.{begin, next_in, judged, stop, again, done}
 use Rattle.write_polygon_checks.proofs.decide_polygons.Goals as goal
 
 pub loop-i-init : goal.loop-i-init
@@ -27,7 +27,7 @@ decide_polygon-run-requires c =
 pub returns-in-Err : goal.returns-in-Err
 returns-in-Err c =
     record {
-      polygons = stop _ _ _ _ _ _ _ _ _ _ _ _ _ _ _ _ c.loop-i.invariant.0 c.loop-i-test.true _ c.poly_at-p.ensures _ _ _ _ c.decide_polygon-run.ensures.polygon _ c.in-Err.is;
+      polygons = stop _ _ _ _ _ _ _ _ _ _ _ _ _ _ _ _ c.loop-i.invariant.0 c.loop-i-test.true _ c.poly_at-p.ensures _ _ _ _ (judged c.decide_polygon-run.ensures.polygon) _ c.in-Err.is;
       pushed = tt;
     }
 
@@ -61,7 +61,7 @@ loop-i-preserved c =
     let e = c.poly_at-p.ensures in
     let turn = polygons_turn a.frame.bb_min a.frame.bb_size a.strip.now c.loop-i.at a.n c.loop-i.i c.loop-i-test.true p e in
     let one = rw c.in-Ok.is at c.decide_polygon-run.ensures.pushed in (
-      again _ _ _ _ _ _ _ _ _ _ _ _ _ _ _ _ c.loop-i.invariant.0 c.loop-i-test.true _ c.poly_at-p.ensures _ _ _ _ c.decide_polygon-run.ensures.polygon _ c.in-Ok.is,
+      again _ _ _ _ _ _ _ _ _ _ _ _ _ _ _ _ c.loop-i.invariant.0 c.loop-i-test.true _ c.poly_at-p.ensures _ _ _ _ (judged c.decide_polygon-run.ensures.polygon) _ c.in-Ok.is,
       omega (arith, c.loop-i.invariant.1, one, few_of_polygon a.frame.bb_min a.frame.bb_size a.strip.now p),
       omega (arith, c.loop-i.invariant.2, turn, one),
     )
